@@ -1,0 +1,5 @@
+use Rattle.ion_model.specs.SameLaws.{same-is}
+use Rattle.ion_model.proofs.laws.level_by_level.Goals as goal
+
+pub returns : goal.returns
+returns c = same-is

@@ -1,0 +1,9 @@
+pub mod formers
+pub mod Ranges
+pub mod Reasons
+pub mod Measures
+pub mod Kinds
+pub mod Same
+pub mod MeasureLaws
+pub mod SameLaws
+pub mod EquivLaws

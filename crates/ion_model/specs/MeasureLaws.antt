@@ -1,0 +1,119 @@
+-- Depth and nodes by one level, and of a list that grows.
+use Rattle.std.proofs.Common.{sum, length, get_or, ◌≡◌, ℕ, ◌+◌, ◌≤◌, ◌<◌, zero, suc, max, map, List, [], ◌∷◌, ◌++◌, Bool, ℤ, refl, ap, ◌∙◌, arith}
+use Rattle.std.specs.List.{sum_by}
+use Rattle.std.proofs.lemmas.List.Sums.{sum-map, sum_by-append, sum_by-cons}
+use Rattle.ion_model.specs.Measures.{depth, depth_step, nodes, nodes_step, greatest, bare, Layer}
+use Rattle.ion_model.specs.declared.kind.Kind.{Kind}
+use Rattle.ion_model.specs.declared.value.Value.{Value}
+use Rattle.ion_model.specs.declared.value.Payload.{Payload}
+use Rattle.ion_model.specs.declared.value.Payload.TheViews as views
+use Rattle.ion_model.specs.declared.value.Payload.TheVariants as payloads
+use Rattle.ion_model.specs.declared.value.Payload.TheFolds.{fold_out-Payload, fold_out-Value, fold-Payload, map-Payload}
+use Rattle.ion_model.specs.declared.value.Payload.TheOpen.{Payload-F}
+
+abbrev payload_depth : Payload → ℕ
+payload_depth = fold-Payload ℕ ℕ depth_step (λ v. v.payload)
+
+-- the depth of one level
+abbrev pub layer_depth : Layer → ℕ
+layer_depth (Payload-F.Null k) = 0
+layer_depth (Payload-F.Truth b) = 0
+layer_depth (Payload-F.Int z) = 0
+layer_depth (Payload-F.List vs) = suc (greatest (map depth vs))
+
+depth_step-layer : (d : Layer) → depth_step (map-Payload Payload Value ℕ ℕ payload_depth depth d) ≡ layer_depth d
+depth_step-layer (Payload-F.Null k) = refl
+depth_step-layer (Payload-F.Truth b) = refl
+depth_step-layer (Payload-F.Int z) = refl
+depth_step-layer (Payload-F.List vs) = refl
+
+-- the depth by one level
+pub depth-out : (v : Value) → depth v ≡ layer_depth (views.out-Payload v.payload)
+unfolding depth
+depth-out v =
+    fold_out-Value ℕ ℕ depth_step (λ v. v.payload) v
+    ∙ fold_out-Payload ℕ ℕ depth_step (λ v. v.payload) v.payload
+    ∙ depth_step-layer (views.out-Payload v.payload)
+
+pub depth-Null : (k : Kind) → depth (bare (payloads.Null k)) ≡ 0
+depth-Null k = depth-out (bare (payloads.Null k)) ∙ ap layer_depth (views.outs-Null k)
+
+pub depth-Truth : (b : Bool) → depth (bare (payloads.Truth b)) ≡ 0
+depth-Truth b = depth-out (bare (payloads.Truth b)) ∙ ap layer_depth (views.outs-Truth b)
+
+pub depth-Int : (z : ℤ) → depth (bare (payloads.Int z)) ≡ 0
+depth-Int z = depth-out (bare (payloads.Int z)) ∙ ap layer_depth (views.outs-Int z)
+
+pub depth-List : (vs : List Value) → depth (bare (payloads.List vs)) ≡ suc (greatest (map depth vs))
+depth-List vs = depth-out (bare (payloads.List vs)) ∙ ap layer_depth (views.outs-List vs)
+
+-- the deepest of a list and one more
+pub deepest-more : (vs : List Value) (v : Value) → greatest (map depth (vs ++ v ∷ [])) ≡ max (greatest (map depth vs)) (depth v)
+deepest-more [] v = omega arith
+deepest-more (w ∷ vs) v = omega (arith, deepest-more vs v)
+
+-- the same of any value whose payload is known
+pub depth-at : (v : Value) (p : Payload) → v.payload ≡ p → depth v ≡ layer_depth (views.out-Payload p)
+depth-at v p e = depth-out v ∙ ap (λ p. layer_depth (views.out-Payload p)) e
+
+pub depth-at-List : (v : Value) (vs : List Value) → v.payload ≡ payloads.List vs → depth v ≡ suc (greatest (map depth vs))
+depth-at-List v vs e = depth-at v _ e ∙ ap layer_depth (views.outs-List vs)
+
+abbrev payload_nodes : Payload → ℕ
+payload_nodes = fold-Payload ℕ ℕ nodes_step (λ v. length v.annotations + v.payload)
+
+-- the nodes of one level
+abbrev pub layer_nodes : Layer → ℕ
+layer_nodes (Payload-F.Null k) = 1
+layer_nodes (Payload-F.Truth b) = 1
+layer_nodes (Payload-F.Int z) = 1
+layer_nodes (Payload-F.List vs) = suc (sum (map nodes vs))
+
+nodes_step-layer : (d : Layer) → nodes_step (map-Payload Payload Value ℕ ℕ payload_nodes nodes d) ≡ layer_nodes d
+nodes_step-layer (Payload-F.Null k) = refl
+nodes_step-layer (Payload-F.Truth b) = refl
+nodes_step-layer (Payload-F.Int z) = refl
+nodes_step-layer (Payload-F.List vs) = refl
+
+-- the nodes by one level
+pub nodes-out : (v : Value) → nodes v ≡ length v.annotations + layer_nodes (views.out-Payload v.payload)
+unfolding nodes
+nodes-out v =
+    fold_out-Value ℕ ℕ nodes_step (λ v. length v.annotations + v.payload) v
+    ∙ ap (λ n. length v.annotations + n) (fold_out-Payload ℕ ℕ nodes_step (λ v. length v.annotations + v.payload) v.payload ∙ nodes_step-layer (views.out-Payload v.payload))
+
+-- the nodes of a value without annotations
+nodes-bare : (p : Payload) (d : Layer) → views.out-Payload p ≡ d → nodes (bare p) ≡ layer_nodes d
+nodes-bare p d e = let n = nodes-out (bare p) in let k : layer_nodes (views.out-Payload p) ≡ layer_nodes d = ap layer_nodes e in omega arith
+
+pub nodes-Null : (k : Kind) → nodes (bare (payloads.Null k)) ≡ 1
+nodes-Null k = nodes-bare (payloads.Null k) _ (views.outs-Null k)
+
+pub nodes-Truth : (b : Bool) → nodes (bare (payloads.Truth b)) ≡ 1
+nodes-Truth b = nodes-bare (payloads.Truth b) _ (views.outs-Truth b)
+
+pub nodes-Int : (z : ℤ) → nodes (bare (payloads.Int z)) ≡ 1
+nodes-Int z = nodes-bare (payloads.Int z) _ (views.outs-Int z)
+
+pub nodes-List : (vs : List Value) → nodes (bare (payloads.List vs)) ≡ suc (sum (map nodes vs))
+nodes-List vs = nodes-bare (payloads.List vs) _ (views.outs-List vs)
+
+-- the nodes of a list and one more
+pub nodes-more : (vs : List Value) (v : Value) → sum (map nodes (vs ++ v ∷ [])) ≡ sum (map nodes vs) + nodes v
+nodes-more vs v =
+    let all = sum-map nodes (vs ++ v ∷ []) in
+    let front = sum-map nodes vs in
+    let cut = sum_by-append nodes vs (v ∷ []) in
+    let one = sum_by-cons nodes v [] in
+    let none : sum_by nodes [] ≡ 0 = refl in
+    omega arith
+
+-- the same of any value whose payload is known
+pub nodes-at-List : (v : Value) (vs : List Value) → v.payload ≡ payloads.List vs → nodes v ≡ length v.annotations + suc (sum (map nodes vs))
+nodes-at-List v vs e = nodes-out v ∙ ap (λ p. length v.annotations + layer_nodes (views.out-Payload p)) e ∙ ap (λ d. length v.annotations + layer_nodes d) (views.outs-List vs)
+
+-- an item is no greater than the greatest
+pub greatest-at : {A : Type 0} (f : A → ℕ) (xs : List A) (i : ℕ) (x : A) → i < length xs → x ≡ get_or xs i x → f x ≤ greatest (map f xs)
+greatest-at f [] i x h e = absurd (omega arith)
+greatest-at f (y ∷ ys) zero x h e = omega (arith, ap f e)
+greatest-at f (y ∷ ys) (suc i) x h e = omega (arith, greatest-at f ys i x (omega arith) e)

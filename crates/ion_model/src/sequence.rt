@@ -1,0 +1,74 @@
+//! The list type of recursive values.
+ghost use Rattle.std.specs.Prelude.{◌≡◌, [], ◌∷◌, ◌++◌, length, OnOk, OnErr};
+
+use std::alloc::{AllocError, Global};
+use std::marker::Model;
+
+/// A `Vec` that contracts see as the list of its items: two sequences of equal items are equal,
+/// whatever their capacities.
+#[derive(Debug, Drop)]
+pub struct Sequence<T> {
+    items: Vec<T>,
+}
+
+impl<T> Model for Sequence<T> {
+    ghost use Rattle.std.specs.Prelude.{List};
+    ghost use Rattle.std.specs.Coded.{coded_list};
+
+    ghost Value = { List T };
+
+    ghost coded = { coded_list T.code };
+
+    ghost view = { λ s. s.items.items };
+}
+
+impl<T> Sequence<T> {
+    /// No items; takes no memory.
+    pub fn new(alloc: Global) -> Sequence<T>
+        ensures { result ≡ [] }
+    {
+        Sequence {
+            items: Vec::new(alloc),
+        }
+    }
+
+    /// The items of a `Vec`, taken over without a copy.
+    pub fn from_vec(items: Vec<T>) -> Sequence<T>
+        ensures { result ≡ items.items }
+    {
+        Self { items }
+    }
+
+    /// Gives the `Vec` back.
+    pub fn into_vec(self) -> Vec<T>
+        ensures { result.items ≡ self }
+    {
+        let Sequence { items } = self;
+        items
+    }
+
+    /// The items.
+    pub fn as_slice(&self) -> &[T]
+        ensures { result.now ≡ self.now }
+    {
+        self.items.as_slice()
+    }
+
+    /// How many items there are.
+    pub fn len(&self) -> usize
+        ensures { result ≡ length self.now }
+    {
+        self.items.len()
+    }
+}
+
+impl<T: Drop> Sequence<T> {
+    /// Puts an item at the end; where memory was refused, the items are as they were.
+    pub fn push(&mut self, item: T) -> Result<(), AllocError>
+        ensures ok { OnOk result (self.new ≡ self.old ++ item ∷ []) }
+        ensures err { OnErr result (self.new ≡ self.old) }
+    {
+        self.items.push(item)?;
+        Ok(())
+    }
+}

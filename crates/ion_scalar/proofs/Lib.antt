@@ -1,0 +1,4 @@
+pub mod Runs
+pub mod OneRun
+pub mod Magnitudes
+pub mod Signs

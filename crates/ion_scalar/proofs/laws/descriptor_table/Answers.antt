@@ -1,0 +1,5 @@
+use Rattle.ion_scalar.specs.RowLaws.{table}
+use Rattle.ion_scalar.proofs.laws.descriptor_table.Goals as goal
+
+pub returns : goal.returns
+returns c = table

@@ -1,0 +1,5 @@
+use Rattle.ion_scalar.specs.VarUIntLaws.{var_uint_answers}
+use Rattle.ion_scalar.proofs.laws.var_uint_answers.Goals as goal
+
+pub returns : goal.returns
+returns c = var_uint_answers

@@ -1,0 +1,31 @@
+-- The table of descriptors (Ion 1.0, "Ion Binary Encoding", typed value formats): a row for each type code, by the length code.
+use Rattle.std.specs.Prelude.{◌/◌, ◌%◌, ℕ, [], ◌∷◌, ◌==◌, ◌||◌, if◌then◌else◌, slice_index_or, true, false, Result, Ok, Err}
+use Rattle.ion_model.specs.declared.refusal.Reason.{Reason}
+use Rattle.ion_model.specs.declared.refusal.Reason.TheVariants.{Malformed, Float}
+use Rattle.ion_model.specs.declared.kind.Kind.{Kind}
+use Rattle.ion_model.specs.declared.kind.Kind.TheVariants as kinds
+use Rattle.ion_scalar.specs.declared.descriptor.Size.{Size}
+use Rattle.ion_scalar.specs.declared.descriptor.Size.TheVariants.{Known, Follows}
+use Rattle.ion_scalar.specs.declared.descriptor.Descriptor.{Descriptor}
+use Rattle.ion_scalar.specs.declared.descriptor.Descriptor.TheVariants.{Marker, Null, Truth, Pad, Ordered, Body}
+
+abbrev pub kind : ℕ → Kind
+kind tag = slice_index_or (kinds.Null ∷ kinds.Bool ∷ kinds.Int ∷ kinds.Int ∷ kinds.Float ∷ kinds.Decimal ∷ kinds.Timestamp ∷ kinds.Symbol ∷ kinds.Str ∷ kinds.Clob ∷ kinds.Blob ∷ kinds.List ∷ kinds.Sexp ∷ kinds.Fields ∷ []) tag kinds.Fields
+
+abbrev pub size : ℕ → Size
+size length = if length == 14 then Follows else Known length
+
+abbrev pub typed : ℕ → ℕ → Result Descriptor Reason
+typed tag length =
+    if tag == 15 then Err Malformed
+    else if tag == 14 then (if length == 0 then Ok Marker else if (length == 1) || (length == 2) || (length == 15) then Err Malformed else Ok (Body tag (size length)))
+    else if length == 15 then Ok (Null (kind tag))
+    else if tag == 0 then Ok (Pad (size length))
+    else if tag == 1 then (if length == 0 then Ok (Truth false) else if length == 1 then Ok (Truth true) else Err Malformed)
+    else if tag == 4 then (if (length == 0) || (length == 4) || (length == 8) then Err Float else Err Malformed)
+    else if tag == 13 then (if length == 1 then Ok Ordered else Ok (Body tag (size length)))
+    else Ok (Body tag (size length))
+
+-- the type code in the high four bits, the length code in the low four
+unfoldable pub descriptor_of : ℕ → Result Descriptor Reason
+descriptor_of octet = typed (octet / 16) (octet % 16)

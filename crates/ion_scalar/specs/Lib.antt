@@ -1,0 +1,13 @@
+pub mod Fields
+pub mod Descriptor
+pub mod Spellings
+pub mod Reads
+pub mod Rows
+pub mod Tokens
+pub mod Positional
+pub mod Ends
+pub mod RestLaws
+pub mod VarUIntLaws
+pub mod VarIntLaws
+pub mod SpellingLaws
+pub mod RowLaws

@@ -1,0 +1,19 @@
+-- The parts of a device over a reader of std.
+use Rattle.std.specs.Prelude.{ℕ, Bool}
+use Rattle.ion_symtab.specs.declared.inlet.FromRead.{FromRead}
+
+-- the reader that it asks
+abbrev pub reader_of : {R : Type 0} → FromRead R → R
+reader_of device = device.inner
+
+-- how often it was asked
+abbrev pub calls_of : {R : Type 0} → FromRead R → ℕ
+calls_of device = device.calls
+
+-- whether a read has failed
+abbrev pub failed_of : {R : Type 0} → FromRead R → Bool
+failed_of device = device.failed
+
+-- whether a read has answered the end
+abbrev pub ended_of : {R : Type 0} → FromRead R → Bool
+ended_of device = device.ended

@@ -1,0 +1,11 @@
+pub mod Limits
+pub mod Told
+pub mod Took
+pub mod FromRead
+pub mod ToWrite
+pub mod Cause
+pub mod Trace
+pub mod Promises
+pub mod ToldLaws
+pub mod TookLaws
+pub mod CauseLaws

@@ -1,0 +1,49 @@
+-- What a reader's trace promises over the documents of its format.
+use Rattle.std.specs.Prelude.{◌≡◌, ◌≢◌, ◌+◌, ◌≤◌, ℕ, List, [], ◌∷◌, ◌++◌, length, take, Some, Ok, Err}
+use Rattle.ion_model.specs.declared.value.Value.{Value}
+use Rattle.ion_model.specs.Measures.{nodes}
+use Rattle.ion_model.specs.declared.refusal.Refusal.{Refusal}
+use Rattle.ion_model.specs.declared.refusal.Reason.TheVariants.{Memory, Incomplete}
+use Rattle.ion_symtab.specs.Trace.{Trace, plain}
+
+-- no document begins with these octets
+abbrev pub BeginsNone : (List ℕ → List Value → Type 0) → List ℕ → Type 0
+BeginsNone denotes u = (rest : List ℕ) (s : List Value) → denotes (u ++ rest) s → ⊥
+
+-- whole pieces of a document with these values, whatever octets follow them, where `open_rest` comes first
+abbrev pub ArePieces : (List ℕ → List ℕ → List Value → Type 0) → List ℕ → List ℕ → List Value → Type 0
+ArePieces pieces front open_rest s = (following : List ℕ) → pieces front (open_rest ++ following) s
+
+-- s are the values of the longest list of whole pieces at the front of u that remain pieces whatever octets follow u
+pub record Shown (pieces : List ℕ → List ℕ → List Value → Type 0) (u : List ℕ) (s : List Value) : Type 0 where
+  pub front : List ℕ
+  pub open_rest : List ℕ
+  pub parts : u ≡ front ++ open_rest
+  pub whole : ArePieces pieces front open_rest s
+  pub longest : (v rest : List ℕ) (t : List Value) → u ≡ v ++ rest → ArePieces pieces v rest t → length v ≤ length front
+
+-- s is shown, and what is left is no longer than an open rest may be
+pub record Shows (pieces : List ℕ → List ℕ → List Value → Type 0) (open_after : List ℕ → List ℕ → Type 0) (u : List ℕ) (s : List Value) : Type 0 where
+  pub shown : Shown pieces u s
+  pub rest : open_after shown.front shown.open_rest
+
+-- A step refused: its offset is among these octets.
+-- No document begins with the octets before the offset, what was given is what they show, and the end repeats the refusal.
+-- It is for the octets' sake, and not for want of memory or of more octets.
+pub record Refuses (denotes : List ℕ → List Value → Type 0) (pieces : List ℕ → List ℕ → List Value → Type 0) (u : List ℕ) (t : Trace) (r : Refusal) : Type 0 where
+  pub within : r.offset ≤ length u
+  pub none : BeginsNone denotes (take r.offset u)
+  pub shown : Shown pieces (take r.offset u) (plain t.given)
+  pub ends : t.ends ≡ Err r
+  pub whole_memory : r.reason ≢ Memory
+  pub before_end : r.reason ≢ Incomplete
+
+-- behind `from` octets, up to `to`, each value came after at least as many octets as it has nodes
+abbrev pub Spaced : ℕ → List (Value × ℕ) → ℕ → Type 0
+Spaced from [] to = from ≤ to
+Spaced from ((v, at) ∷ given) to = (from + nodes v ≤ at) × Spaced at given to
+
+-- a value has at most as many nodes as octets were used for it
+pub record IsSmall (u : List ℕ) (t : Trace) : Type 0 where
+  pub given : Spaced 0 t.given (length u)
+  pub last : (v : Value) → t.ends ≡ Ok (Some v) → Spaced 0 (t.given ++ (v, length u) ∷ []) (length u)

@@ -1,0 +1,121 @@
+//! Devices that octets come from.
+ghost use Rattle.std.specs.Prelude.{◌≡◌, ℕ, ◌+◌, ◌-◌, ◌^◌, ◌<◌, ◌≤◌, Bool, true, false, List, [], length, take, min, IfOk, OnErr, is_err, IsErr};
+ghost use Rattle.ion_symtab.specs.Told.{Told, MayTell, known_some};
+
+use std::io::Read;
+
+/// A read, a write or a flush of a device failed; why is not told.
+#[derive(Clone, Copy, Debug, PartialEq, Eq)]
+pub struct Failed;
+
+/// A device that tells octets up to an end.
+pub trait Inlet {
+    /// These may be the octets that are told from here to the end.
+    ghost tells: { Self → List ℕ → Type 0 };
+
+    /// How often `read` was called, up to 2^64-1.
+    ghost calls_made: { Self → ℕ };
+
+    /// Whether a read has failed.
+    ghost has_failed: { Self → Bool };
+
+    /// Whether a read has answered the end.
+    ghost has_ended: { Self → Bool };
+
+    /// Reads the next octets into the front of `piece`, and answers how many: at most its length,
+    /// and of a piece that isn't empty 0 exactly at the end.
+    ///
+    /// `Failed` where the device failed, an interrupted call included, and then in each later call.
+    /// No octet is lost by it.
+    fn read(&mut self, piece: &mut [u8]) -> Result<usize, Failed>
+        ensures within { IfOk result (λ n. n ≤ length piece.new) }
+        ensures told { IfOk result (λ n. Told tells self.old self.new (take n piece.new)) }
+        ensures kept { OnErr result (Told tells self.old self.new []) }
+        ensures end { IfOk result (λ n. n ≡ 0 → 0 < length piece.new → tells self.new []) }
+        ensures ended { IfOk result (λ n. n ≡ 0 → 0 < length piece.new → has_ended self.new ≡ true) }
+        ensures calls { calls_made self.new ≡ min (calls_made self.old + 1) (2 ^ 64 - 1) }
+        ensures failed { has_failed self.new ≡ is_err result }
+        ensures fails { has_failed self.old ≡ true → IsErr result }
+        ensures going { IfOk result (λ n. 0 < n → has_ended self.new ≡ has_ended self.old) }
+        ensures stays { OnErr result (has_ended self.new ≡ has_ended self.old) };
+
+    /// How often `read` was called, failed calls included; stops at 2^64-1.
+    fn calls(&self) -> u64
+        ensures { result ≡ calls_made self.now };
+
+    /// Whether a read has failed; each later one does then.
+    fn failed(&self) -> bool
+        ensures { result ≡ has_failed self.now };
+
+    /// There always are octets that may be told from here to the end.
+    ghost tells_some: { (r : Self) → (rest : List ℕ) × tells r rest };
+}
+
+/// A reader of std as a device: it tells the octets that the reader tells, and latches the first
+/// error, so that a reader that would go on behind it isn't asked again.
+#[derive(Drop)]
+pub struct FromRead<R> {
+    inner: R,
+    calls: u64,
+    failed: bool,
+    ended: bool,
+}
+
+impl<R: Read> FromRead<R> {
+    /// The device that tells what `inner` has left; no read is made yet.
+    pub fn new(inner: R) -> FromRead<R>
+        ensures tells { (octets : List ℕ) → ⟦<FromRead<R> as Inlet>⟧.tells result octets →
+            MayTell (R.remaining inner) octets }
+        ensures calls { ⟦<FromRead<R> as Inlet>⟧.calls_made result ≡ 0 }
+        ensures failed { ⟦<FromRead<R> as Inlet>⟧.has_failed result ≡ false }
+        ensures ended { ⟦<FromRead<R> as Inlet>⟧.has_ended result ≡ false }
+    {
+        FromRead {
+            inner,
+            calls: 0,
+            failed: false,
+            ended: false,
+        }
+    }
+}
+
+impl<R: Read> Inlet for FromRead<R> {
+    ghost use Rattle.ion_symtab.specs.FromRead.{reader_of, calls_of, failed_of, ended_of};
+
+    ghost tells = { λ device. MayTell (R.remaining (reader_of device)) };
+
+    ghost calls_made = { calls_of };
+
+    ghost has_failed = { failed_of };
+
+    ghost has_ended = { ended_of };
+
+    ghost tells_some = { λ device. known_some (R.remaining (reader_of device)) };
+
+    fn read(&mut self, piece: &mut [u8]) -> Result<usize, Failed> {
+        self.calls = self.calls.saturating_add(1);
+        if self.failed {
+            return Err(Failed);
+        }
+        match self.inner.read(piece) {
+            Ok(count) => {
+                if count == 0 && !piece.is_empty() {
+                    self.ended = true;
+                }
+                Ok(count)
+            }
+            Err(_) => {
+                self.failed = true;
+                Err(Failed)
+            }
+        }
+    }
+
+    fn calls(&self) -> u64 {
+        self.calls
+    }
+
+    fn failed(&self) -> bool {
+        self.failed
+    }
+}

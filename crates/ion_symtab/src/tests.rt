@@ -1,0 +1,200 @@
+//! Devices that fail once and then would go on, and the messages of faults.
+
+use crate::{
+    Catalog, Failed, Fault, FromRead, Inlet, Limits, Outlet, ToWrite, flushed, write_whole,
+};
+use std::io;
+use std::io::{Read, Write};
+use std::test::Fail;
+
+/// A reader that gives one octet a call, and fails at one call, once.
+#[derive(Drop)]
+struct Frail<'a> {
+    octets: &'a [u8],
+    calls: u64,
+    fails_at: u64,
+    kind: io::ErrorKind,
+}
+
+impl Read for Frail<'_> {
+    fn read(&mut self, buf: &mut [u8]) -> io::Result<usize> {
+        let now = self.calls;
+        self.calls = self.calls.saturating_add(1);
+        if now == self.fails_at {
+            return Err(io::Error::from(self.kind));
+        }
+        let count = buf.len().min(1);
+        self.octets.read(&mut buf[..count])
+    }
+}
+
+/// A writer that takes at most `takes` octets a call, and fails at one call, once.
+#[derive(Drop)]
+struct Slow<'v> {
+    taken: &'v mut Vec<u8>,
+    calls: u64,
+    fails_at: u64,
+    takes: usize,
+}
+
+impl Slow<'_> {
+    /// Counts a call, and fails where it is the one.
+    fn called(&mut self) -> io::Result<()> {
+        let now = self.calls;
+        self.calls = self.calls.saturating_add(1);
+        if now == self.fails_at {
+            return Err(io::Error::from(io::ErrorKind::Interrupted));
+        }
+        Ok(())
+    }
+}
+
+impl Write for Slow<'_> {
+    fn write(&mut self, buf: &[u8]) -> io::Result<usize> {
+        self.called()?;
+        let count = buf.len().min(self.takes);
+        self.taken.write(&buf[..count])
+    }
+
+    fn flush(&mut self) -> io::Result<()> {
+        self.called()
+    }
+}
+
+#[test]
+fn read_fails_once(rt: HostRuntime) {
+    for kind in [io::ErrorKind::Interrupted, io::ErrorKind::Other] {
+        let mut reader = FromRead::new(Frail {
+            octets: b"abc",
+            calls: 0,
+            fails_at: 2,
+            kind,
+        });
+        let mut piece = [0u8; 8];
+        assert_eq!(rt; reader.read(&mut piece), Ok(1));
+        assert_eq!(rt; reader.read(&mut piece), Ok(1));
+        assert_eq!(rt; piece[0], b'b');
+        assert!(rt; !reader.failed());
+        assert_eq!(rt; reader.read(&mut piece), Err(Failed));
+        assert_eq!(rt; reader.read(&mut piece), Err(Failed));
+        assert!(rt; reader.failed());
+        assert_eq!(rt; reader.calls(), 4);
+    }
+}
+
+#[test]
+fn read_to_the_end(rt: HostRuntime) {
+    let mut reader = FromRead::new(b"abcde".as_slice());
+    let mut piece = [0u8; 3];
+    assert_eq!(rt; reader.read(&mut piece), Ok(3));
+    assert_eq!(rt; piece.as_slice(), b"abc".as_slice());
+    assert_eq!(rt; reader.read(&mut piece), Ok(2));
+    assert_eq!(rt; piece[..2], b"de"[..]);
+    assert_eq!(rt; reader.read(&mut piece[..0]), Ok(0));
+    assert_eq!(rt; reader.read(&mut piece), Ok(0));
+    assert_eq!(rt; reader.calls(), 4);
+    assert!(rt; !reader.failed());
+}
+
+/// Each write of three, and then the flush, fails; what was taken before is a front of the text.
+#[test]
+fn write_fails_once(rt: HostRuntime) {
+    let alloc = rt.alloc();
+    for fails_at in 0..5 {
+        let mut taken = Vec::new(alloc);
+        let mut writer = ToWrite::new(Slow {
+            taken: &mut taken,
+            calls: 0,
+            fails_at,
+            takes: 2,
+        });
+        let written = write_whole(&mut writer, b"abcde");
+        let passed_on = flushed(&mut writer);
+        let failed = writer.failed();
+        drop(writer);
+        let front = if fails_at < 3 {
+            &b"abcde"[..2 * fails_at as usize]
+        } else {
+            b"abcde"
+        };
+        assert_eq!(rt; taken.as_slice(), front, "{fails_at}");
+        let fault = Err(Fault::Write);
+        assert_eq!(rt;
+            written,
+            if fails_at < 3 { fault } else { Ok(()) },
+            "{fails_at}"
+        );
+        assert_eq!(rt;
+            passed_on,
+            if fails_at < 4 { fault } else { Ok(()) },
+            "{fails_at}"
+        );
+        assert_eq!(rt; failed, fails_at < 4, "{fails_at}");
+    }
+}
+
+#[test]
+fn write_takes_nothing(rt: HostRuntime) {
+    let mut taken = Vec::new(rt.alloc());
+    let mut writer = ToWrite::new(Slow {
+        taken: &mut taken,
+        calls: 0,
+        fails_at: 99,
+        takes: 0,
+    });
+    assert_eq!(rt; writer.write(b""), Ok(0));
+    assert!(rt; !writer.failed());
+    assert_eq!(rt; writer.write(b"a"), Err(Failed));
+    assert_eq!(rt; writer.flush(), Err(Failed));
+    assert!(rt; writer.failed());
+}
+
+#[test]
+fn writer_comes_back(rt: HostRuntime) -> Result<(), Fail> {
+    let mut writer = ToWrite::new(Vec::new(rt.alloc()));
+    write_whole(&mut writer, b"abc")?;
+    assert_eq!(rt; writer.into_inner().as_slice(), b"abc".as_slice());
+    Ok(())
+}
+
+#[test]
+fn limits(rt: HostRuntime) {
+    let usual = Limits::usual();
+    assert_eq!(rt; Limits::new(64, 16777216, 4294967296), Some(usual));
+    assert_eq!(rt;
+        (usual.depth(), usual.item(), usual.reads()),
+        (64, 16777216, 4294967296)
+    );
+    assert!(rt; Limits::new(128, 1073741824, 1).is_some());
+    for (depth, item, reads) in [
+        (0, 1, 1),
+        (129, 1, 1),
+        (1, 0, 1),
+        (1, 1073741825, 1),
+        (1, 1, 0),
+        (1, 1, 4294967297),
+    ] {
+        assert_eq!(rt; Limits::new(depth, item, reads), None);
+    }
+}
+
+#[test]
+fn messages(rt: HostRuntime) -> Result<(), Fail> {
+    for (fault, word) in [
+        (Fault::Memory, "Memory"),
+        (Fault::Read, "Read"),
+        (Fault::Write, "Write"),
+        (Fault::TooManyReads, "TooManyReads"),
+        (Fault::TooLarge, "TooLarge"),
+        (Fault::Open, "Open"),
+    ] {
+        let message = format!(in rt.alloc(); "{fault}")?;
+        assert_eq!(rt; message.as_str(), word);
+    }
+    Ok(())
+}
+
+#[test]
+fn catalog(rt: HostRuntime) {
+    drop(Catalog::new(rt.alloc()));
+}

@@ -1,0 +1,37 @@
+//! Writing octets whole, however few a device takes at a time.
+ghost use Rattle.std.specs.Prelude.{◌≡◌, true, false, IfErr, OnOk, OnErr};
+ghost use Rattle.std.specs.Io.KnownBytes.{Appends, Keeps};
+ghost use Rattle.ion_symtab.specs.Took.{TookFront};
+
+use crate::fault::Fault;
+use crate::outlet::Outlet;
+
+/// Writes all of `octets`, in as many writes as the device wants; none where there are no octets.
+///
+/// `Write`, and no other fault, where a write failed. The device has then taken some first octets of
+/// them, and nothing else.
+pub fn write_whole<W: Outlet>(writer: &mut W, octets: &[u8]) -> Result<(), Fault>
+    ensures whole { OnOk result (Appends (W.took writer.old) (W.took writer.new) octets.now) }
+    ensures front { OnErr result (TookFront W.took writer.old writer.new octets.now) }
+    ensures cause { IfErr result (λ fault. (fault ≡ Fault.Write) × (W.has_failed writer.new ≡ true)) }
+{
+    let mut at = 0;
+    while at < octets.len() {
+        match writer.write(&octets[at..]) {
+            Err(_) => return Err(Fault::Write),
+            Ok(count) => at += count,
+        }
+    }
+    Ok(())
+}
+
+/// Makes the device pass on what it took.
+///
+/// `Write`, and no other fault, where the flush failed. On both answers what was taken stays.
+pub fn flushed<W: Outlet>(writer: &mut W) -> Result<(), Fault>
+    ensures done { OnOk result (W.has_failed writer.new ≡ false) }
+    ensures kept { Keeps (W.took writer.old) (W.took writer.new) }
+    ensures cause { IfErr result (λ fault. (fault ≡ Fault.Write) × (W.has_failed writer.new ≡ true)) }
+{
+    writer.flush().map_err(|_| Fault::Write)
+}
