@@ -1,18 +1,18 @@
 -- Which form the octets behind a sign have.
 use Rattle.std.proofs.Common.{◌≡◌, ◌≢◌, ℕ, ◌<◌, ◌⊎◌, inl, inr, List, [], ◌∷◌, length, get_or, drop, refl, sym, ap, subst, arith, Result, Ok, Err}
 use Rattle.std.proofs.lemmas.Bool.{cases_eq}
-use Rattle.ion_scalar.specs.Tokens.{IsDigits, number}
-use Rattle.ion_scalar.specs.Tokens.{IsRadix, IsMagnitude}
+use Rattle.ion_scalar.specs.Tokens.{IsDigits, number, IsRadix, IsMagnitude}
 use Rattle.ion_scalar.specs.Reads.{Reads}
 use Rattle.ion_model.specs.declared.refusal.Reason.{Reason}
-use Rattle.ion_model.specs.declared.refusal.Reason.TheVariants.{TooLarge, Malformed}
+use Rattle.ion_model.specs.declared.refusal.Reason.TheVariants.{TooLarge, Malformed, Float}
 
 -- two descriptions of the same values
-pub Reads-same : {X : Type 0} (Is Js Fits : X → Type 0) (r : Result X Reason) → ((x : X) → Is x → Js x) → ((x : X) → Js x → Is x) → Reads Is Fits r → Reads Js Fits r
-Reads-same Is Js Fits (Ok x) there back h = (there x h.0, h.1)
-Reads-same Is Js Fits (Err TooLarge) there back h = (h.0, there h.0 h.1, h.2)
-Reads-same Is Js Fits (Err Malformed) there back h = λ x j. h x (back x j)
-Reads-same Is Js Fits (Err _) there back h = absurd h
+pub Reads-same : {X : Type 0} (Is Js Fits : X → Type 0) (F : Type 0) (r : Result X Reason) → ((x : X) → Is x → Js x) → ((x : X) → Js x → Is x) → Reads Is Fits F r → Reads Js Fits F r
+Reads-same Is Js Fits F (Ok x) there back h = (there x h.0, h.1)
+Reads-same Is Js Fits F (Err TooLarge) there back h = (h.0, there h.0 h.1, h.2)
+Reads-same Is Js Fits F (Err Malformed) there back h = (λ x j. h.0 x (back x j), h.1)
+Reads-same Is Js Fits F (Err Float) there back h = h
+Reads-same Is Js Fits F (Err _) there back h = absurd h
 
 -- behind `0` and one more octet only a base can stand
 by_base : (x : ℕ) (ds : List ℕ) (n : ℕ) → IsMagnitude (48 ∷ x ∷ ds) n → IsRadix 16 120 88 (48 ∷ x ∷ ds) n ⊎ IsRadix 2 98 66 (48 ∷ x ∷ ds) n
@@ -58,19 +58,19 @@ plain_back (c ∷ d ∷ os) n h m = inl (inr (m.0, h (omega arith)), m.1)
 
 -- `0`, one octet and what a base has behind them
 pub hex_at : (os : List ℕ) (r : Result ℕ Reason) (Fits : ℕ → Type 0) → 1 < length os → get_or os 0 0 ≡ 48 → (get_or os 1 0 ≡ 88) ⊎ (get_or os 1 0 ≡ 120)
-    → Reads (λ n. IsDigits 16 (drop 2 os) × (n ≡ number 16 (drop 2 os))) Fits r → Reads (IsMagnitude os) Fits r
+    → Reads (λ n. IsDigits 16 (drop 2 os) × (n ≡ number 16 (drop 2 os))) Fits ⊥ r → Reads (IsMagnitude os) Fits ⊥ r
 hex_at os r Fits h a is reads =
     let e = two_more os _ h a refl in
-    Reads-same _ (IsMagnitude os) Fits r
+    Reads-same _ (IsMagnitude os) Fits ⊥ r
     (λ n d. let P : List ℕ → Type 0 = λ x. IsMagnitude x n in subst P (sym e) (inr (inl (refl, turned is, d.0, d.1))))
     (λ n m. let P : List ℕ → Type 0 = λ x. IsMagnitude x n in hex _ (drop 2 os) n is (subst P e m))
     reads
 
 pub binary_at : (os : List ℕ) (r : Result ℕ Reason) (Fits : ℕ → Type 0) → 1 < length os → get_or os 0 0 ≡ 48 → (get_or os 1 0 ≡ 66) ⊎ (get_or os 1 0 ≡ 98)
-    → Reads (λ n. IsDigits 2 (drop 2 os) × (n ≡ number 2 (drop 2 os))) Fits r → Reads (IsMagnitude os) Fits r
+    → Reads (λ n. IsDigits 2 (drop 2 os) × (n ≡ number 2 (drop 2 os))) Fits ⊥ r → Reads (IsMagnitude os) Fits ⊥ r
 binary_at os r Fits h a is reads =
     let e = two_more os _ h a refl in
-    Reads-same _ (IsMagnitude os) Fits r
+    Reads-same _ (IsMagnitude os) Fits ⊥ r
     (λ n d. let P : List ℕ → Type 0 = λ x. IsMagnitude x n in subst P (sym e) (inr (inr (refl, turned is, d.0, d.1))))
     (λ n m. let P : List ℕ → Type 0 = λ x. IsMagnitude x n in binary _ (drop 2 os) n is (subst P e m))
     reads

@@ -4,10 +4,12 @@ pub mod Spellings
 pub mod Reads
 pub mod Rows
 pub mod Tokens
+pub mod Shows
 pub mod Positional
 pub mod Ends
 pub mod RestLaws
 pub mod VarUIntLaws
 pub mod VarIntLaws
 pub mod SpellingLaws
+pub mod FewestLaws
 pub mod RowLaws

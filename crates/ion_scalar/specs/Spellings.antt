@@ -1,5 +1,5 @@
 -- How numbers are written as octets: always the fewest.
-use Rattle.std.specs.Prelude.{ℕ, ◌+◌, ◌/◌, ◌%◌, Bool, true, false, List, [], ◌∷◌, ◌++◌, nat_lt, if◌then◌else◌}
+use Rattle.std.specs.Prelude.{ℕ, ◌+◌, ◌/◌, ◌%◌, ◌<◌, Bool, true, false, List, [], ◌∷◌, ◌++◌, length, slice_index, nat_lt, if◌then◌else◌}
 use Rattle.std.specs.Int.Digits.{digits_of}
 
 -- the digits of base 128, one at least, 128 added to the last
@@ -32,3 +32,7 @@ int_octets negative n =
     if negative then signed_digits 128 negative (digits_of 256 n)
     else if nat_lt 0 n then signed_digits 128 negative (digits_of 256 n)
     else []
+
+-- each of a list is below that number, as each octet is below 256
+abbrev pub AreBelow : ℕ → List ℕ → Type 0
+AreBelow base ds = (k : ℕ) → k < length ds → slice_index ds k < base

@@ -1,6 +1,7 @@
 //! Numbers of Amazon Ion 1.0 as octets.
 #![tactic(auto)]
 
+mod decimals;
 mod descriptor;
 mod digits;
 mod fields;

@@ -1,6 +1,7 @@
 //! Numbers written as octets: always the fewest (Ion 1.0, "Ion Binary Encoding", basic field formats).
-ghost use Rattle.std.specs.Prelude.{◌≡◌, ℕ, ◌<◌, ◌≤◌, ◌+◌, ◌-◌, ◌*◌, ◌^◌, ◌/◌, ◌⊎◌, ◌++◌, List, OnOk, OnErr, Ok, drop, length, vec_len, vec_capacity};
+ghost use Rattle.std.specs.Prelude.{◌≡◌, ℕ, ◌<◌, ◌≤◌, ◌+◌, ◌-◌, ◌*◌, ◌^◌, ◌/◌, ◌⊎◌, ◌++◌, List, OnOk, OnErr, IsOkUnless, Ok, drop, length, vec_len, vec_capacity};
 ghost use Rattle.std.specs.Int.Digits.{digits_of};
+ghost use Rattle.ion_model.specs.declared.refusal.Reason.TheVariants.{Memory};
 ghost use Rattle.ion_scalar.specs.Fields.{var_uint, var_int, uint_field, int_field};
 ghost use Rattle.ion_scalar.specs.Spellings.{var_uint_octets, var_int_octets, uint_octets, int_octets, signed_digits};
 ghost use Rattle.ion_scalar.specs.Spellings.{sign_bit as spelled_sign};
@@ -14,6 +15,7 @@ pub fn put_var_uint(value: u64, out: &mut Vec<u8>) -> Result<(), Reason>
     requires { value < 2 ^ 63 }
     ensures ok { OnOk result (out.new.items ≡ out.old.items ++ var_uint_octets value) }
     ensures err { OnErr result (out.new.items ≡ out.old.items) }
+    ensures memory { IsOkUnless result Memory }
     ensures full { OnErr result (vec_capacity out.old < vec_len out.old + length (var_uint_octets value)) }
     ensures again { (rest : List ℕ) → var_uint (var_uint_octets value ++ rest) ≡ Ok (value, length (var_uint_octets value)) }
 {
@@ -29,6 +31,7 @@ pub fn put_uint(value: u128, out: &mut Vec<u8>) -> Result<(), Reason>
     requires { value < 2 ^ 127 }
     ensures ok { OnOk result (out.new.items ≡ out.old.items ++ uint_octets value) }
     ensures err { OnErr result (out.new.items ≡ out.old.items) }
+    ensures memory { IsOkUnless result Memory }
     ensures full { OnErr result (vec_capacity out.old < vec_len out.old + length (uint_octets value)) }
     ensures again { uint_field (uint_octets value) ≡ Ok value }
 {
@@ -43,6 +46,7 @@ pub fn put_var_int(signed: Signed, out: &mut Vec<u8>) -> Result<(), Reason>
     requires { signed.magnitude < 2 ^ 63 }
     ensures ok { OnOk result (out.new.items ≡ out.old.items ++ var_int_octets signed.negative signed.magnitude) }
     ensures err { OnErr result (out.new.items ≡ out.old.items) }
+    ensures memory { IsOkUnless result Memory }
     ensures full { OnErr result (vec_capacity out.old < vec_len out.old + length (var_int_octets signed.negative signed.magnitude)) }
     ensures again { (rest : List ℕ) → var_int (var_int_octets signed.negative signed.magnitude ++ rest) ≡ Ok (signed, length (var_int_octets signed.negative signed.magnitude)) }
 {
@@ -65,6 +69,7 @@ pub fn put_int(negative: bool, magnitude: u128, out: &mut Vec<u8>) -> Result<(),
     requires { magnitude < 2 ^ 127 }
     ensures ok { OnOk result (out.new.items ≡ out.old.items ++ int_octets negative magnitude) }
     ensures err { OnErr result (out.new.items ≡ out.old.items) }
+    ensures memory { IsOkUnless result Memory }
     ensures full { OnErr result (vec_capacity out.old < vec_len out.old + length (int_octets negative magnitude)) }
     ensures again { int_field (int_octets negative magnitude) ≡ Ok (negative, magnitude) }
 {
@@ -123,6 +128,7 @@ fn digits_before(octets: &mut [u8], end: usize, base: u128, value: u128) -> usiz
 fn append(octets: &[u8], out: &mut Vec<u8>) -> Result<(), Reason>
     ensures ok { OnOk result (out.new.items ≡ out.old.items ++ octets.now) }
     ensures err { OnErr result (out.new.items ≡ out.old.items) }
+    ensures memory { IsOkUnless result Memory }
     ensures full { OnErr result (vec_capacity out.old < vec_len out.old + length octets.now) }
 {
     match out.extend_from_slice(octets) {

@@ -1,3 +1,4 @@
+use crate::decimals::decimal_token;
 use crate::ints::int_token;
 use crate::{
     Descriptor, Signed, Size, int_of, put_int, put_uint, put_var_int, put_var_uint, read_var_int,
@@ -132,4 +133,24 @@ fn int_tokens(rt: HostRuntime) {
         int_token(b"170141183460469231731687303715884105728"),
         Err(Reason::TooLarge)
     );
+}
+
+#[test]
+fn decimal_tokens(rt: HostRuntime) {
+    assert_eq!(rt; decimal_token(b"1.2_5"), Ok((false, 125, -2)));
+    assert_eq!(rt; decimal_token(b"-0."), Ok((true, 0, 0)));
+    assert_eq!(rt; decimal_token(b"1d0"), Ok((false, 1, 0)));
+    assert_eq!(rt;
+        decimal_token(b"1d-2147483648"),
+        Ok((false, 1, -2147483648))
+    );
+    assert_eq!(rt; decimal_token(b"1.0d-2147483648"), Err(Reason::TooLarge));
+    assert_eq!(rt; decimal_token(b"1e0"), Err(Reason::Float));
+    for token in ["", "1", "1d1_0", "1d", "1.2.3", "1._5", "01.5"] {
+        assert_eq!(rt;
+            decimal_token(token.as_bytes()),
+            Err(Reason::Malformed),
+            "at {token}"
+        );
+    }
 }

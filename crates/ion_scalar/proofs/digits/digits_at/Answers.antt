@@ -13,13 +13,12 @@ loop-digit-preserved-then-octets-at-eq95 c =
     let l = c.loop-digit in
     let is = c.in-Some.ensures in
     let s = run_step c.args.base l.digits.used l.at c.args.octets.now c.requires.1 l.invariant.place l.invariant.digits is.0.0 is.0.1 in
-    let r = Run_more c.args.base c.args.before _ _ _ _ _ (omega arith) s.1 l.invariant.run in
     record {
       within = omega arith;
       few = omega arith;
       place = inr (refl, omega arith, omega arith, c.if-octets-at-eq95.true);
       digits = λ _. s.0;
-      run = rw (c.more.ensures, is.1) r;
+      run = rw (c.more.ensures, is.1) (Run_more c.args.base c.args.before _ _ _ _ _ (omega arith) s.1 l.invariant.run);
     }
 
 pub loop-digit-preserved : goal.loop-digit-preserved
@@ -27,7 +26,6 @@ loop-digit-preserved c =
     let l = c.loop-digit in
     let is = c.in-Some.ensures in
     let s = run_step c.args.base l.digits.used l.at c.args.octets.now c.requires.1 l.invariant.place l.invariant.digits is.0.0 is.0.1 in
-    let r = Run_more c.args.base c.args.before _ _ _ _ _ (omega arith) s.1 l.invariant.run in
     record {
       within = omega arith;
       few = omega arith;
@@ -36,7 +34,7 @@ loop-digit-preserved c =
         | else-at-octets-via-else-at-octets w ↦ inl (refl, λ _ lt. absurd (omega arith))
       ];
       digits = λ _. s.0;
-      run = rw (c.more.ensures, is.1) r;
+      run = rw (c.more.ensures, is.1) (Run_more c.args.base c.args.before _ _ _ _ _ (omega arith) s.1 l.invariant.run);
     }
 
 pub returns-clause-none : goal.returns-clause-none

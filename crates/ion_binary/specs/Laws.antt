@@ -1,0 +1,248 @@
+-- The promises of the reader, over the grammar.
+use Rattle.std.proofs.Common.{◌≡◌, ◌↔◌, ℕ, ◌+◌, ◌≤◌, ◌<◌, List, [], ◌∷◌, ◌++◌, length, take, Result, Ok, Err, Option, Some, None, refl, ap, sym, ◌∙◌, subst, arith, append_assoc, append-nil, length-append, Bool, cond, option_to_list, inl, inr}
+use Rattle.std.proofs.lemmas.Bool.{cases_lt}
+use Rattle.std.proofs.Math.Seq.{take-append-add}
+use Rattle.ion_model.specs.declared.value.Value.{Value}
+use Rattle.ion_model.specs.declared.refusal.Refusal.{Refusal}
+use Rattle.ion_symtab.specs.declared.limits.Limits.{Limits}
+use Rattle.ion_symtab.specs.declared.catalog.Catalog.{Catalog}
+use Rattle.ion_symtab.specs.Trace.{Streams, Grows, plain}
+use Rattle.ion_symtab.specs.Promises.{Refuses, BeginsNone, Shown, Shows, IsSmall, Spaced}
+use Rattle.ion_binary.specs.declared.reader.Frame.{Frame}
+use Rattle.ion_binary.specs.declared.reader.Phase.{Phase}
+use Rattle.ion_binary.specs.declared.reader.Phase.TheVariants.{InMarker, Ready, InLength, InBody, InPad}
+use Rattle.ion_binary.specs.Grammar.{Document, Whole, no_piece, document, OpenRest}
+use Rattle.ion_binary.specs.Machine.{Machine, at, initial}
+use Rattle.ion_binary.specs.Run.{Run, run, whole, ends_of, refused_of, trace_of, trace}
+use Rattle.ion_binary.specs.Runs.{run-append, then_run, on_now}
+use Rattle.ion_binary.specs.Stands.{Standing, Stands}
+use Rattle.ion_binary.specs.Sound.{run_stands, initial_stands, Ended}
+use Rattle.ion_binary.specs.Steady.{IsDecided, Steady, feed_steady}
+use Rattle.ion_binary.specs.Small.{spaced_on}
+use Rattle.ion_binary.specs.Documents.{document_run}
+use Rattle.ion_binary.specs.OpenRests.{OpenCut, standing_open, rest_long}
+use Rattle.ion_binary.specs.Stops.{Stop, stop_of, stopped, begins_none, whole_within}
+
+-- a document where the end is reached with no open piece
+finished : (l : Limits) (fs : List Frame) (phase : Phase) (start : ℕ) (s : List Value) (body u : List ℕ) (r : Refusal) (last : Option Value) → Standing l start s fs body phase u → cond (whole phase fs) (Ok None) (Err r) ≡ Ok last → (last ≡ None) × Document l u s
+finished l [] Ready start s body u r last o h = (cc, o.opened.0)
+finished l [] (InMarker m good) start s body u r last o h = absurd cc
+finished l [] (InLength f a) start s body u r last o h = absurd cc
+finished l [] (InBody b n) start s body u r last o h = absurd cc
+finished l [] (InPad n) start s body u r last o h = absurd cc
+finished l (f ∷ fs) Ready start s body u r last o h = absurd cc
+finished l (f ∷ fs) (InMarker m good) start s body u r last o h = absurd cc
+finished l (f ∷ fs) (InLength g a) start s body u r last o h = absurd cc
+finished l (f ∷ fs) (InBody b n) start s body u r last o h = absurd cc
+finished l (f ∷ fs) (InPad n) start s body u r last o h = absurd cc
+
+ended_well : (l : Limits) (u : List ℕ) (given : List (Value × ℕ)) (now : Result Machine Refusal) (last : Option Value) → Ended l u [] given now → ends_of now ≡ Ok last → (last ≡ None) × Document l u (plain given)
+ended_well l u given (Ok m) last o h = finished l m.frames m.phase m.start (plain given) m.body u _ last o.standing h
+ended_well l u given (Err e) last o h = absurd cc
+
+admits : (g : Catalog) (l : Limits) (u : List ℕ) (s : List Value) → Streams (trace g l u) s → Document l u s
+admits g l u s t =
+    let d = ended_well l u (run l 0 initial u).given (run l 0 initial u).now t.last (run_stands l 0 initial [] u [] (initial_stands l)) t.ends in
+    let e : plain (run l 0 initial u).given ++ option_to_list t.last ≡ plain (run l 0 initial u).given = ap (λ o. plain (run l 0 initial u).given ++ option_to_list o) d.0 ∙ append-nil _ in
+    subst (Document l u) (sym (t.values ∙ e)) d.1
+
+accepts : (g : Catalog) (l : Limits) (u : List ℕ) (s : List Value) → Document l u s → Streams (trace g l u) s
+accepts g l u s d =
+    let r = document_run l u s d in
+    record {
+      last = None;
+      ends = ap (λ x. (trace_of x).ends) r.ran;
+      values = sym (append-nil _ ∙ (ap (λ x. plain x.given) r.ran ∙ r.gave));
+    }
+
+-- octets denote a stream exactly where they end well
+pub exact : (g : Catalog) (l : Limits) (u : List ℕ) (s : List Value) → Streams (trace g l u) s ↔ Document l u s
+exact g l u s = (admits g l u s, accepts g l u s)
+
+pub one_stream : (l : Limits) (u : List ℕ) (s t : List Value) → Document l u s → Document l u t → s ≡ t
+one_stream l u s t a b =
+    let p = document_run l u s a in
+    let q = document_run l u t b in
+    sym p.gave ∙ (ap (λ x. plain x.given) (sym p.ran ∙ q.ran) ∙ q.gave)
+
+-- what the machine holds behind octets stands for them
+pub ran_stands : (l : Limits) (u : List ℕ) (given : List (Value × ℕ)) (m : Machine) → run l 0 initial u ≡ record { given = given; now = Ok m } → Stands l u (plain given) m
+ran_stands l u given m e = subst (λ (r : Run). Ended l u [] r.given r.now) e (run_stands l 0 initial [] u [] (initial_stands l))
+
+cut_of : (l : Limits) (u : List ℕ) (given : List (Value × ℕ)) (m : Machine) → run l 0 initial u ≡ record { given = given; now = Ok m } → OpenCut l m.start (plain given) u
+cut_of l u given m e = standing_open l m.start (plain given) m.frames m.body m.phase u (ran_stands l u given m e).standing
+
+-- two lists of octets begin alike
+front_of : (before w v rest : List ℕ) → before ++ w ≡ v ++ rest → length v ≤ length before → (r : List ℕ) × (before ≡ v ++ r)
+front_of before w [] rest e h = (before, refl)
+front_of [] w (x ∷ v) rest e h = absurd (omega arith)
+front_of (y ∷ before) w (x ∷ v) rest e h =
+    let head : y ≡ x = cc in
+    let tail : before ++ w ≡ v ++ rest = cc in
+    let p = front_of before w v rest tail (omega arith) in
+    (p.0, ap (λ z. z ∷ before) head ∙ ap (λ zs. x ∷ zs) p.1)
+
+shows_now : (l : Limits) (u : List ℕ) (given : List (Value × ℕ)) (now : Result Machine Refusal) → run l 0 initial u ≡ record { given = given; now = now } → refused_of now ≡ None → Shows (λ front following s. Whole l front s) (λ front rest. OpenRest l rest) u (plain given)
+shows_now l u given (Err e) ran h = absurd cc
+shows_now l u given (Ok m) ran h =
+    let c = cut_of l u given m ran in
+    let i = c.cut.at in
+    record {
+      shown = record {
+        front = c.cut.front;
+        open_rest = c.cut.rest;
+        parts = c.cut.parts;
+        whole = λ _. c.cut.whole;
+        longest = λ v rest t e w.
+            let now : (run l 0 initial (v ++ rest)).now ≡ Ok m = ap (λ x. (run l 0 initial x).now) (sym e) ∙ ap (λ (r : Run). r.now) ran in
+            let k = whole_within l v rest t m (w []) now in
+            omega arith;
+      };
+      rest = c.open_rest;
+    }
+
+-- where nothing was refused, the values given are those shown
+pub shown : (g : Catalog) (l : Limits) (u : List ℕ) → (trace g l u).refused ≡ None → Shows (λ front following s. Whole l front s) (λ front rest. OpenRest l rest) u (plain (trace g l u).given)
+shown g l u h = shows_now l u (run l 0 initial u).given (run l 0 initial u).now refl h
+
+refused_is : (now : Result Machine Refusal) (r : Refusal) → refused_of now ≡ Some r → now ≡ Err r
+refused_is (Ok m) r h = absurd cc
+refused_is (Err e) r h = cc
+
+-- the octets up to the refused one show what those before it show
+stop_shown : (l : Limits) (u : List ℕ) (r : Refusal) (p : Stop l 0 initial u r) → Shown (λ front following s. Whole l front s) (p.before ++ p.b ∷ []) (plain (run l 0 initial u).given)
+stop_shown l u r p =
+    let c = cut_of l p.before (run l 0 initial u).given p.n p.ran in
+    let i = c.cut.at in
+    record {
+      front = c.cut.front;
+      open_rest = c.cut.rest ++ p.b ∷ [];
+      parts = ap (λ x. x ++ p.b ∷ []) c.cut.parts ∙ append_assoc c.cut.front c.cut.rest (p.b ∷ []);
+      whole = λ _. c.cut.whole;
+      longest = λ v rest t e w. let k : length v ≤ p.n.start = longest v rest t e (w []) in omega arith;
+    }
+  where
+    inside : (v rest : List ℕ) (t : List Value) → p.before ++ p.b ∷ [] ≡ v ++ rest → length v ≤ length p.before → Whole l v t → length v ≤ p.n.start
+    inside v rest t e h w =
+        let q = front_of p.before (p.b ∷ []) v rest e h in
+        whole_within l v q.0 t p.n w (ap (λ x. (run l 0 initial x).now) (sym q.1) ∙ ap (λ (x : Run). x.now) p.ran)
+
+    all : (v : List ℕ) (t : List Value) → p.before ++ p.b ∷ [] ≡ v → length p.before < length v → Whole l v t → ⊥
+    all _ _ e h no_piece = absurd (omega arith)
+    all _ _ e h (document v t d) = begins_none l (p.before ++ p.b ∷ []) _ (stopped l u r p) [] t (subst (λ x. Document l x t) (sym (append-nil (p.before ++ p.b ∷ []) ∙ e)) d)
+
+    no_rest : (v rest : List ℕ) → p.before ++ p.b ∷ [] ≡ v ++ rest → length p.before < length v → rest ≡ []
+    no_rest v [] e h = refl
+    no_rest v (x ∷ xs) e h = let k : length (p.before ++ p.b ∷ []) ≡ length (v ++ x ∷ xs) = ap length e in let i = length-append p.before (p.b ∷ []) in let j = length-append v (x ∷ xs) in absurd (omega arith)
+
+    longest : (v rest : List ℕ) (t : List Value) → p.before ++ p.b ∷ [] ≡ v ++ rest → Whole l v t → length v ≤ p.n.start
+    longest v rest t e w =
+        elim (cases_lt (length p.before) (length v)) [
+          | inl lt ↦ absurd (all v t (e ∙ (ap (λ x. v ++ x) (no_rest v rest e lt) ∙ append-nil v)) lt w)
+          | inr le ↦ inside v rest t e le w
+        ]
+
+decided : (l : Limits) (u : List ℕ) (r : Refusal) (p : Stop l 0 initial u r) → IsDecided r.reason
+decided l u r p =
+    let s = ran_stands l p.before (run l 0 initial u).given p.n p.ran in
+    let c = cut_of l p.before (run l 0 initial u).given p.n p.ran in
+    let e = s.used in
+    let k = rest_long l p.n.start _ p.before c.cut in
+    subst (Steady p.n.start) p.refused (feed_steady l.depth l.item p.n p.b (omega arith))
+
+-- a refusal at n means that no document begins with the first n octets
+pub refused : (g : Catalog) (l : Limits) (u : List ℕ) (r : Refusal) → (trace g l u).refused ≡ Some r → Refuses (Document l) (λ front following s. Whole l front s) u (trace g l u) r
+refused g l u r h =
+    let e = refused_is (run l 0 initial u).now r h in
+    let p = stop_of l 0 initial u r e in
+    let o = p.offset in
+    let n : length u ≡ length (p.before ++ p.b ∷ p.rest) = ap length p.parts in
+    let k = length-append p.before (p.b ∷ p.rest) in
+    let taken : take r.offset u ≡ p.before ++ p.b ∷ [] = ap (λ (x : ℕ). take x u) (let i : r.offset ≡ length p.before + 1 = omega arith in i) ∙ (ap (take (length p.before + 1)) p.parts ∙ take-append-add p.before (p.b ∷ p.rest) 1) in
+    let d = decided l u r p in
+    record {
+      within = omega arith;
+      none = subst (BeginsNone (Document l)) (sym taken) (begins_none l (p.before ++ p.b ∷ []) _ (stopped l u r p));
+      shown = subst (λ w. Shown (λ front following s. Whole l front s) w (plain (run l 0 initial u).given)) (sym taken) (stop_shown l u r p);
+      ends = ap ends_of e;
+      whole_memory = λ i. subst IsDecided i d;
+      before_end = λ i. subst IsDecided i d;
+    }
+
+cond_offset : (b : Bool) (last : Option Value) (q r : Refusal) → cond b (Ok last) (Err q) ≡ Err r → q ≡ r
+cond_offset Bool.true last q r h = absurd cc
+cond_offset Bool.false last q r h = cc
+
+unfinished_now : (l : Limits) (u : List ℕ) (given : List (Value × ℕ)) (now : Result Machine Refusal) (r : Refusal) → run l 0 initial u ≡ record { given = given; now = now } → refused_of now ≡ None → ends_of now ≡ Err r → r.offset ≡ length u
+unfinished_now l u given (Err e) r ran h k = absurd cc
+unfinished_now l u given (Ok m) r ran h k =
+    let s = ran_stands l u given m ran in
+    let e = ap (λ (q : Refusal). q.offset) (cond_offset (whole m.phase m.frames) None _ r k) in
+    sym e ∙ s.used
+
+-- a refusal at the end counts all octets
+pub unfinished : (g : Catalog) (l : Limits) (u : List ℕ) (r : Refusal) → (trace g l u).refused ≡ None → (trace g l u).ends ≡ Err r → r.offset ≡ length u
+unfinished g l u r h k = unfinished_now l u (run l 0 initial u).given (run l 0 initial u).now r refl h k
+
+plain_long : (given : List (Value × ℕ)) → length (plain given) ≡ length given
+plain_long [] = refl
+plain_long (v ∷ given) = omega (arith, plain_long given)
+
+no_values : (given : List (Value × ℕ)) → length given ≡ 0 → given ≡ []
+no_values [] h = refl
+no_values (v ∷ given) h = absurd (omega arith)
+
+spaced_whole : (l : Limits) (front rest : List ℕ) (s : List Value) (given : List (Value × ℕ)) (m : Machine) → Whole l front s → run l 0 initial (front ++ rest) ≡ record { given = given; now = Ok m } → plain given ≡ s → Spaced 0 given (length (front ++ rest))
+spaced_whole l _ rest _ given m no_piece ran e =
+    let k = plain_long given in
+    let n : length (plain given) ≡ 0 = ap length e in
+    subst (λ (x : List (Value × ℕ)). Spaced 0 x (length rest)) (sym (no_values given (omega arith))) (omega arith)
+spaced_whole l _ rest _ given m (document front s d) ran e =
+    let r = document_run l front s d in
+    let later = (run l (length front) (at (length front) (length front) [] Ready) rest).given in
+    let whole_run = sym ran ∙ (run-append l 0 (length front) front rest (omega arith) initial ∙ ap (λ x. then_run x (λ n. run l (length front) n rest)) r.ran) in
+    let cut : given ≡ r.given ++ later = ap (λ (x : Run). x.given) whole_run in
+    let n : length given ≡ length r.given + length later = ap length cut ∙ length-append r.given later in
+    let p = plain_long given in
+    let q = plain_long r.given in
+    let same : length (plain given) ≡ length (plain r.given) = ap length (e ∙ sym r.gave) in
+    let alone : given ≡ r.given = cut ∙ (ap (λ x. r.given ++ x) (no_values later (omega arith)) ∙ append-nil r.given) in
+    let long = length-append front rest in
+    subst (λ (x : List (Value × ℕ)). Spaced 0 x (length (front ++ rest))) (sym alone) (spaced_on 0 r.given (length front) (length (front ++ rest)) r.spaced (omega arith))
+
+spaced_ok : (l : Limits) (u : List ℕ) (given : List (Value × ℕ)) (m : Machine) → run l 0 initial u ≡ record { given = given; now = Ok m } → Spaced 0 given (length u)
+spaced_ok l u given m ran =
+    let c = cut_of l u given m ran in
+    subst (λ x. Spaced 0 given (length x)) (sym c.cut.parts) (spaced_whole l c.cut.front c.cut.rest (plain given) given m c.cut.whole (ap (run l 0 initial) (sym c.cut.parts) ∙ ran) refl)
+
+spaced_now : (l : Limits) (u : List ℕ) (now : Result Machine Refusal) → (run l 0 initial u).now ≡ now → Spaced 0 (run l 0 initial u).given (length u)
+spaced_now l u (Ok m) e = spaced_ok l u (run l 0 initial u).given m (ap (λ x. record { given = (run l 0 initial u).given; now = x }) e)
+spaced_now l u (Err r) e =
+    let p = stop_of l 0 initial u r e in
+    let n : length u ≡ length (p.before ++ p.b ∷ p.rest) = ap length p.parts in
+    let k = length-append p.before (p.b ∷ p.rest) in
+    spaced_on 0 (run l 0 initial u).given (length p.before) (length u) (spaced_ok l p.before (run l 0 initial u).given p.n p.ran) (omega arith)
+
+cond_last : (b : Bool) (r : Refusal) (v : Value) → cond b (Ok None) (Err r) ≡ Ok (Some v) → ⊥
+cond_last Bool.true r v h = cc
+cond_last Bool.false r v h = cc
+
+no_last : (now : Result Machine Refusal) (v : Value) → ends_of now ≡ Ok (Some v) → ⊥
+no_last (Ok m) v h = cond_last (whole m.phase m.frames) _ v h
+no_last (Err e) v h = cc
+
+-- a value has at most as many nodes as octets were used for it
+pub small : (g : Catalog) (l : Limits) (u : List ℕ) → IsSmall u (trace g l u)
+small g l u = record { given = spaced_now l u (run l 0 initial u).now refl; last = λ v h. absurd (no_last (run l 0 initial u).now v h) }
+
+grows_on : (given : List (Value × ℕ)) (now : Result Machine Refusal) (rest : Machine → Run) →
+    Grows (trace_of (record { given = given; now = now })) (trace_of (on_now given now rest))
+grows_on given (Ok m) rest = record { given = ((rest m).given, refl); refused = λ never. cc }
+grows_on given (Err refusal) rest = record { given = ([], sym (append-nil given)); refused = λ _. refl }
+
+-- what was refused stays refused, and what was given stays given
+pub grows : (g : Catalog) (l : Limits) (u w : List ℕ) → Grows (trace g l u) (trace g l (u ++ w))
+grows g l u w =
+    let r = run l 0 initial u in
+    let P : Run → Type 0 = λ r. Grows (trace g l u) (trace_of r) in
+    subst P (sym (run-append l 0 (length u) u w (omega arith) initial)) (grows_on r.given r.now (λ n. run l (length u) n w))

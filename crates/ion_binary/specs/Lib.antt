@@ -1,0 +1,16 @@
+pub mod Opening
+pub mod Grammar
+pub mod Machine
+pub mod Run
+pub mod Views
+pub mod Stands
+pub mod Runs
+pub mod Complete
+pub mod Sound
+pub mod Steady
+pub mod OpenRests
+pub mod Small
+pub mod Documents
+pub mod Stops
+pub mod Laws
+pub mod StandsLaws

@@ -1,0 +1,174 @@
+//! The reader as `Items`: steps over pieces, and the end.
+ghost use Rattle.std.specs.Prelude.{◌≡◌, ◌+◌, ◌<◌, ◌^◌, [], length, IfOk, IfErr, None};
+ghost use Rattle.ion_model.specs.declared.refusal.Reason.TheVariants.{Memory};
+ghost use Rattle.ion_binary.specs.Run.{run, whole, Advances};
+ghost use Rattle.ion_binary.specs.Views.{machine_of, open_lists, SameSetting};
+
+use super::{BinaryReader, Mark, Phase};
+use ion_model::{Reason, Refusal, Value};
+use ion_symtab::{Catalog, Items, Limits, Step};
+use std::alloc::Global;
+
+impl<'a> BinaryReader<'a> {
+    /// A reader of no octets yet, for a document within these limits. The shared tables of `catalog`
+    /// aren't used yet. `Memory` where a growth was refused; a new reader needs none.
+    pub fn new(
+        alloc: Global,
+        catalog: &'a Catalog,
+        limits: Limits,
+    ) -> Result<BinaryReader<'a>, Reason>
+        ensures stands { IfOk result (λ r. ⟦<BinaryReader<'a> as Items>⟧.stands r [] []) }
+        ensures catalog { IfOk result (λ r. ⟦<BinaryReader<'a> as Items>⟧.catalog r ≡ catalog.now) }
+        ensures limits { IfOk result (λ r. ⟦<BinaryReader<'a> as Items>⟧.limits r ≡ limits) }
+        ensures taken { IfOk result (λ r. ⟦<BinaryReader<'a> as Items>⟧.taken r ≡ 0) }
+        ensures failed { IfOk result (λ r. ⟦<BinaryReader<'a> as Items>⟧.failed r ≡ None) }
+        ensures awaits { IfOk result (λ r. ⟦<BinaryReader<'a> as Items>⟧.awaits r ≡ None) }
+        ensures pending { IfOk result (λ r. ⟦<BinaryReader<'a> as Items>⟧.pending r ≡ 0) }
+        ensures memory { IfErr result (λ reason. reason ≡ Memory) }
+    {
+        Ok(BinaryReader {
+            alloc,
+            catalog,
+            limits,
+            used: 0,
+            start: 0,
+            phase: Phase::InMarker(Mark::First, true),
+            body: Vec::new(alloc),
+            frames: Vec::new(alloc),
+            failed: None,
+        })
+    }
+}
+
+impl BinaryReader<'_> {
+    /// Whether the octets so far are whole pieces.
+    fn is_whole(&self) -> bool
+        ensures { result ≡ whole self.now.phase (open_lists self.now) }
+    {
+        match self.phase {
+            Phase::Ready => self.frames.is_empty(),
+            _ => false,
+        }
+    }
+
+    /// Takes up the octets of a piece up to the next value. A refusal's offset counts the octet that
+    /// decided; `Memory` has the octets of earlier steps.
+    fn advance(&mut self, piece: &[u8]) -> Result<Step, Refusal>
+        requires room { self.old.used + length piece.now < 2 ^ 63 }
+        ensures does { Advances self.old.used (run self.old.limits self.old.used (machine_of self.old)) piece.now result (machine_of self.new) }
+        ensures used { IfOk result (λ step. self.new.used ≡ self.old.used + step.used) }
+        ensures memory { IfErr result (λ refusal. refusal.reason ≡ Memory → refusal.offset ≡ self.old.used) }
+        ensures setting { SameSetting self.old self.new }
+    {
+        let before = self.used;
+        for (i, octet) in piece.iter().enumerate() {
+            // read here, since nothing is known of the machine behind an `Err`
+            let offset = self.used + 1;
+            match self.feed(*octet) {
+                Ok(None) => {}
+                Ok(Some(value)) => {
+                    return Ok(Step {
+                        used: i + 1,
+                        value: Some(value),
+                    });
+                }
+                Err(Reason::Memory) => {
+                    return Err(Refusal {
+                        offset: before,
+                        reason: Reason::Memory,
+                    });
+                }
+                Err(reason) => return Err(Refusal { offset, reason }),
+            }
+        }
+        Ok(Step {
+            used: piece.len(),
+            value: None,
+        })
+    }
+}
+
+impl Items for BinaryReader<'_> {
+    ghost use Rattle.std.specs.Prelude.{List, ℕ, None, length};
+    ghost use Rattle.ion_symtab.specs.declared.limits.Limits.{Limits};
+    ghost use Rattle.ion_binary.specs.Grammar.{Document, Whole, OpenRest};
+    ghost use Rattle.ion_binary.specs.Run.{trace};
+    ghost use Rattle.ion_binary.specs.Views.{Stands, body_so_far};
+    ghost use Rattle.ion_binary.specs.Laws.{exact, one_stream, refused, shown, unfinished, small, grows};
+    ghost use Rattle.ion_binary.specs.StandsLaws.{given_of, bounded};
+
+    ghost catalog = { λ r. r.catalog.now };
+
+    ghost limits = { λ r. r.limits };
+
+    ghost denotes = { λ g l. Document l };
+
+    ghost pieces = { λ g l front following s. Whole l front s };
+
+    ghost open_after = { λ l front rest. OpenRest l rest };
+
+    ghost trace = { trace };
+
+    ghost stands = { Stands };
+
+    ghost taken = { λ r. r.used };
+
+    ghost failed = { λ r. r.failed };
+
+    ghost awaits = { λ _. None };
+
+    ghost pending = { λ _. 0 };
+
+    ghost kept = { λ r. length (body_so_far r.phase r.body.items) };
+
+    ghost counted = { λ r u s h. h.counted };
+
+    ghost given_so_far = { λ r u s h none. given_of r u s h };
+
+    ghost bounded = { bounded };
+
+    ghost settled = { grows };
+
+    ghost exact = { exact };
+
+    ghost one_stream = { λ g l u s t. one_stream l u s t };
+
+    ghost refused = { refused };
+
+    ghost shown = { shown };
+
+    ghost unfinished = { unfinished };
+
+    ghost small = { small };
+
+    fn step(&mut self, piece: &[u8]) -> Result<Step, Refusal> {
+        if let Some(refusal) = self.failed {
+            return Err(refusal);
+        }
+        let result = self.advance(piece);
+        if let Err(refusal) = &result {
+            self.failed = Some(*refusal);
+        }
+        result
+    }
+
+    fn finish(self) -> Result<Option<Value>, Refusal> {
+        if let Some(refusal) = self.failed {
+            return Err(refusal);
+        }
+        if self.is_whole() {
+            return Ok(None);
+        }
+        Err(Refusal {
+            offset: self.used,
+            reason: Reason::Incomplete,
+        })
+    }
+
+    fn held(&self) -> usize {
+        match self.phase {
+            Phase::InBody(_, _) => self.body.len(),
+            _ => 0,
+        }
+    }
+}

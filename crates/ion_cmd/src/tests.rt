@@ -1,0 +1,418 @@
+//! What the words mean, the lines and the statuses, over documents in memory.
+
+mod devices;
+
+use crate::run::run;
+use devices::{FrailShelf, Shelf, Slow};
+use ion_symtab::ToWrite;
+use std::alloc::{AllocError, Global};
+use std::io;
+use std::process::Abort;
+use std::test::Fail;
+
+/// The words, what goes to the output and to the errors, and the status.
+struct Row {
+    words: &'static [&'static str],
+    out: &'static str,
+    err: &'static str,
+    status: u8,
+}
+
+static FILES: [(&str, &[u8]); 9] = [
+    ("-", b""),
+    ("marker", b"\xE0\x01\x00\xEA"),
+    ("list", b"\xE0\x01\x00\xEA\xB3\x21\x05\x11"),
+    ("spelled", b"\xE0\x01\x00\xEA\xBE\x83\x21\x05\x11"),
+    ("zero", b"\xE0\x01\x00\xEA\x20"),
+    ("zeros", b"\xE0\x01\x00\xEA\x20\x20"),
+    ("null", b"\xE0\x01\x00\xEA\x21\x05\x4F"),
+    ("bad", b"\xE0\x01\x00\xEA\x13"),
+    ("nested", b"\xE0\x01\x00\xEA\xB3\xB2\xB1\x20"),
+];
+
+static ROWS: [Row; 20] = [
+    Row {
+        words: &[],
+        out: "accepted 0\n",
+        err: "",
+        status: 0,
+    },
+    Row {
+        words: &["check", "list"],
+        out: "accepted 1\n",
+        err: "",
+        status: 0,
+    },
+    Row {
+        words: &["check", "bad"],
+        out: "",
+        err: "refused 5 Malformed\n",
+        status: 2,
+    },
+    Row {
+        words: &["show", "list"],
+        out: "1 list depth 1 nodes 3\naccepted 1\n",
+        err: "",
+        status: 0,
+    },
+    Row {
+        words: &["show", "null"],
+        out: "1 int depth 0 nodes 1\n2 float depth 0 nodes 1\naccepted 2\n",
+        err: "",
+        status: 0,
+    },
+    Row {
+        words: &["compare", "list", "spelled"],
+        out: "equivalent 1\n",
+        err: "",
+        status: 0,
+    },
+    Row {
+        words: &["compare", "-", "marker"],
+        out: "equivalent 0\n",
+        err: "",
+        status: 0,
+    },
+    Row {
+        words: &["compare", "zeros", "zero"],
+        out: "different 2\n",
+        err: "",
+        status: 1,
+    },
+    Row {
+        words: &["compare", "zero", "list", "--depth", "1"],
+        out: "different 1\n",
+        err: "",
+        status: 1,
+    },
+    Row {
+        words: &["compare", "bad", "marker"],
+        out: "",
+        err: "refused left 5 Malformed\n",
+        status: 2,
+    },
+    Row {
+        words: &["compare", "marker", "bad"],
+        out: "",
+        err: "refused right 5 Malformed\n",
+        status: 2,
+    },
+    Row {
+        words: &["check", "--depth=2", "nested", "--item", "7"],
+        out: "",
+        err: "refused 7 Depth\n",
+        status: 2,
+    },
+    Row {
+        words: &["check", "nested", "--depth", "3"],
+        out: "accepted 1\n",
+        err: "",
+        status: 0,
+    },
+    Row {
+        words: &["check", "list", "--item", "3"],
+        out: "",
+        err: "refused 5 ItemTooLong\n",
+        status: 2,
+    },
+    Row {
+        words: &["check", "list", "--item=4"],
+        out: "accepted 1\n",
+        err: "",
+        status: 0,
+    },
+    Row {
+        words: &["show", "list", "--depth", "128", "--item", "1073741824"],
+        out: "1 list depth 1 nodes 3\naccepted 1\n",
+        err: "",
+        status: 0,
+    },
+    Row {
+        words: &["check", "absent"],
+        out: "",
+        err: "fault Open\n",
+        status: 4,
+    },
+    // both are opened before one is read
+    Row {
+        words: &["compare", "bad", "absent"],
+        out: "",
+        err: "fault Open\n",
+        status: 4,
+    },
+    Row {
+        words: &["frob"],
+        out: "",
+        err: USAGE,
+        status: 3,
+    },
+    Row {
+        words: &["compare", "-", "-"],
+        out: "",
+        err: USAGE,
+        status: 3,
+    },
+];
+
+const USAGE: &str =
+    "usage: ion_cmd check|show|convert|compare FILE.. [--to text|binary] [--catalog FILE] [--depth N] [--item N]\n";
+
+static WRONG_WORDS: [&[&str]; 22] = [
+    &[""],
+    &["--help"],
+    &["-h"],
+    &["help"],
+    &["help", "check"],
+    &["--version"],
+    &["check", "list", "--help"],
+    &["check"],
+    &["check", "list", "list"],
+    &["compare", "list"],
+    &["compare", "list", "list", "list"],
+    &["check", "list", "--frob"],
+    &["check", "list", "--depth"],
+    &["check", "list", "--depth", "0"],
+    &["check", "list", "--depth", "129"],
+    &["check", "list", "--depth", "4294967297"],
+    &["check", "list", "--depth", "x"],
+    &["check", "list", "--depth", "3", "--depth", "3"],
+    &["check", "list", "--item", "0"],
+    &["check", "list", "--item", "1073741825"],
+    &["check", "list", "--to", "text"],
+    &["list"],
+];
+
+#[test]
+fn rows(rt: HostRuntime) -> Result<(), Fail> {
+    let alloc = rt.alloc();
+    for row in &ROWS {
+        let mut shelf = Shelf {
+            files: FILES.as_slice(),
+        };
+        let mut out = Vec::new(alloc);
+        let mut err = Vec::new(alloc);
+        let status = run(
+            alloc,
+            row.words,
+            &mut shelf,
+            &mut ToWrite::new(&mut out),
+            &mut ToWrite::new(&mut err),
+        );
+        assert_eq!(rt; status, row.status, "{:?}", row.words);
+        assert_eq!(rt; out.as_slice(), row.out.as_bytes(), "{:?}", row.words);
+        assert_eq!(rt; err.as_slice(), row.err.as_bytes(), "{:?}", row.words);
+    }
+    Ok(())
+}
+
+#[test]
+fn wrong_words(rt: HostRuntime) -> Result<(), Fail> {
+    let alloc = rt.alloc();
+    for words in &WRONG_WORDS {
+        let mut shelf = Shelf {
+            files: FILES.as_slice(),
+        };
+        let mut out = Vec::new(alloc);
+        let mut err = Vec::new(alloc);
+        let status = run(
+            alloc,
+            words,
+            &mut shelf,
+            &mut ToWrite::new(&mut out),
+            &mut ToWrite::new(&mut err),
+        );
+        assert_eq!(rt; status, 3, "{:?}", words);
+        assert_eq!(rt; out.as_slice(), b"".as_slice(), "{:?}", words);
+        assert_eq!(rt; err.as_slice(), USAGE.as_bytes(), "{:?}", words);
+    }
+    Ok(())
+}
+
+/// Each read of either document fails once; there are nine, the last of which answers the end.
+#[test]
+fn each_read_fails(rt: HostRuntime) -> Result<(), Fail> {
+    let alloc = rt.alloc();
+    for fails in &["left", "right"] {
+        for fails_at in 0..10 {
+            let mut shelf = FrailShelf {
+                octets: FILES[2].1,
+                fails,
+                fails_at,
+            };
+            let mut out = Vec::new(alloc);
+            let mut err = Vec::new(alloc);
+            let words = ["compare", "left", "right"];
+            let status = run(
+                alloc,
+                words.as_slice(),
+                &mut shelf,
+                &mut ToWrite::new(&mut out),
+                &mut ToWrite::new(&mut err),
+            );
+            if fails_at < 9 {
+                assert_eq!(rt; status, 4);
+                assert_eq!(rt; out.as_slice(), b"".as_slice());
+                assert_eq!(rt; err.as_slice(), b"fault Read\n".as_slice());
+            } else {
+                assert_eq!(rt; status, 0);
+            }
+        }
+    }
+    Ok(())
+}
+
+/// Each write of an octet to the output fails once, and so does the flush behind the last.
+#[test]
+fn each_write_fails(rt: HostRuntime) -> Result<(), Fail> {
+    let alloc = rt.alloc();
+    for row in &ROWS[..8] {
+        let calls = if row.out.is_empty() {
+            0
+        } else {
+            row.out.len() as u64 + 1
+        };
+        for fails_at in 0..calls {
+            let mut shelf = Shelf {
+                files: FILES.as_slice(),
+            };
+            let mut out = Vec::new(alloc);
+            let mut err = Vec::new(alloc);
+            let status = run(
+                alloc,
+                row.words,
+                &mut shelf,
+                &mut ToWrite::new(Slow {
+                    taken: &mut out,
+                    takes: 1,
+                    calls: 0,
+                    fails_at,
+                }),
+                &mut ToWrite::new(&mut err),
+            );
+            assert_eq!(rt; status, 4, "{:?}", row.words);
+            assert_eq!(rt; out.len() as u64, fails_at, "{:?}", row.words);
+            assert!(rt;
+                row.out.as_bytes().starts_with(out.as_slice()),
+                "{:?}",
+                row.words
+            );
+            assert_eq!(rt;
+                err.as_slice(),
+                b"fault Write\n".as_slice(),
+                "{:?}",
+                row.words
+            );
+        }
+    }
+    Ok(())
+}
+
+/// A writer of the output that takes no octet is a fault; writers of the errors change no status.
+#[test]
+fn nothing_is_taken(rt: HostRuntime) -> Result<(), Fail> {
+    let alloc = rt.alloc();
+    for row in &ROWS {
+        let mut shelf = Shelf {
+            files: FILES.as_slice(),
+        };
+        let mut out = Vec::new(alloc);
+        let mut err = Vec::new(alloc);
+        let status = run(
+            alloc,
+            row.words,
+            &mut shelf,
+            &mut ToWrite::new(Slow {
+                taken: &mut out,
+                takes: 0,
+                calls: 0,
+                fails_at: u64::MAX,
+            }),
+            &mut ToWrite::new(Slow {
+                taken: &mut err,
+                takes: 1,
+                calls: 0,
+                fails_at: 3,
+            }),
+        );
+        let wanted = if row.out.is_empty() { row.status } else { 4 };
+        assert_eq!(rt; status, wanted, "{:?}", row.words);
+        assert!(rt; out.is_empty(), "{:?}", row.words);
+        assert_eq!(rt; err.len(), 3, "{:?}", row.words);
+    }
+    Ok(())
+}
+
+/// The status of a row, whose lines are as long as they should be where memory sufficed. Takes no
+/// memory of its own.
+fn status_of(rt: &impl Abort, alloc: Global, row: &Row) -> u8 {
+    let mut shelf = Shelf {
+        files: FILES.as_slice(),
+    };
+    let mut out_room = [0u8; 64];
+    let mut err_room = [0u8; 256];
+    let mut out = io::Cursor::new(out_room.as_mut_slice());
+    let mut err = io::Cursor::new(err_room.as_mut_slice());
+    let status = run(
+        alloc,
+        row.words,
+        &mut shelf,
+        &mut ToWrite::new(&mut out),
+        &mut ToWrite::new(&mut err),
+    );
+    let out_len = out.position();
+    let err_len = err.position();
+    if status == row.status {
+        assert_eq!(rt; out_len, row.out.len() as u64, "{:?}", row.words);
+        assert_eq!(rt; err_len, row.err.len() as u64, "{:?}", row.words);
+    } else {
+        assert_eq!(rt; status, 4, "{:?}", row.words);
+        assert!(rt; out_len <= row.out.len() as u64, "{:?}", row.words);
+        assert_eq!(rt; err_len, "fault Memory\n".len() as u64, "{:?}", row.words);
+    }
+    status
+}
+
+/// Where a growth is refused, each row gives its own answer, or want of memory. Here none is, but by
+/// `rt try --test --fail-alloc N`.
+#[test]
+fn growths(rt: HostRuntime) {
+    let alloc = rt.alloc();
+    for row in &ROWS {
+        status_of(&rt, alloc, row);
+    }
+}
+
+/// Takes all memory that the process can get, in blocks of falling size.
+fn all_memory(alloc: Global) -> Result<Vec<Vec<u8>>, AllocError> {
+    let mut blocks = Vec::with_capacity(alloc, 1 << 20)?;
+    let mut size: usize = 1 << 46;
+    for _ in 0..1000000u32 {
+        if size < 16 {
+            break;
+        }
+        match Vec::with_capacity(alloc, size) {
+            Ok(block) => blocks.push(block)?,
+            Err(_) => size /= 2,
+        }
+    }
+    Ok(blocks)
+}
+
+/// With all memory taken, and then one block more given back from one run to the next.
+#[test]
+fn starved(rt: HostRuntime) -> Result<(), Fail> {
+    let alloc = rt.alloc();
+    let row = &ROWS[5];
+    let mut blocks = all_memory(alloc)?;
+    let mut refused = 0u32;
+    for _ in 0..100000u32 {
+        if status_of(&rt, alloc, row) == row.status {
+            break;
+        }
+        refused = refused.saturating_add(1);
+        drop(blocks.pop());
+    }
+    drop(blocks);
+    assert!(rt; 0 < refused && refused < 100000);
+    Ok(())
+}

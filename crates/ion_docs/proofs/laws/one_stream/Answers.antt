@@ -1,0 +1,5 @@
+use Rattle.ion_docs.specs.DocLaws.{one_document}
+use Rattle.ion_docs.proofs.laws.one_stream.Goals as goal
+
+pub returns : goal.returns
+returns c = one_document

@@ -1,0 +1,226 @@
+-- The promises of a reader of either encoding, from those of the binary one.
+use Rattle.std.proofs.Common.{◌≡◌, ◌↔◌, ℕ, ◌≤◌, ◌<◌, List, [], ◌∷◌, ◌++◌, length, take, Err, Some, None, refl, ap, sym, ◌∙◌, subst, arith, Bool, true, false, cond, ◌==◌, length-append, option_to_list}
+use Rattle.std.proofs.lemmas.Bool.{cond_both}
+use Rattle.ion_model.specs.declared.value.Value.{Value}
+use Rattle.ion_model.specs.declared.refusal.Refusal.{Refusal}
+use Rattle.ion_symtab.specs.declared.catalog.Catalog.{Catalog}
+use Rattle.ion_symtab.specs.declared.limits.Limits.{Limits}
+use Rattle.ion_symtab.specs.Trace.{Trace, Streams, Grows, plain}
+use Rattle.ion_symtab.specs.Promises.{Refuses, BeginsNone, Shown, Shows, IsSmall}
+use Rattle.ion_binary.specs.Grammar.{Document, begins, marked, skips, holds, the_marker, Whole, no_piece, document, OpenRest, of_marker}
+use Rattle.ion_binary.specs.Run.{trace}
+use Rattle.ion_binary.specs.Laws as binary
+use Rattle.ion_binary.specs.StandsLaws.{given_of, bounded}
+use Rattle.ion_docs.specs.declared.doc_reader.Format.{Format}
+use Rattle.ion_docs.specs.declared.doc_reader.Format.TheVariants.{Unbegun, Refused, Binary}
+use Rattle.ion_docs.specs.declared.doc_reader.DocReader.{DocReader}
+use Rattle.ion_docs.specs.Documents.{is_binary, Denotes, is_empty, in_binary, Pieces, binary_pieces}
+use Rattle.ion_docs.specs.Chosen.{chosen, nothing_read, refused_at_first, at_first}
+use Rattle.ion_docs.specs.DocStands.{FormatStands, DocStands, taken_of, kept_of}
+
+pub binary-append : (u w : List ℕ) → is_binary u ≡ true → is_binary (u ++ w) ≡ true
+binary-append [] w h = absurd cc
+binary-append (first ∷ u) w h = h
+
+-- a binary document begins with E0
+document_binary : (l : Limits) (w : List ℕ) (s : List Value) → Document l w s → is_binary w ≡ true
+document_binary l _ _ begins = refl
+document_binary l _ _ (marked u s d) = binary-append u the_marker (document_binary l u s d)
+document_binary l _ _ (skips u w s d p) = binary-append u w (document_binary l u s d)
+document_binary l _ _ (holds u w s v d b p q) = binary-append u w (document_binary l u s d)
+
+pub chosen_binary : (g : Catalog) (l : Limits) (u : List ℕ) → is_binary u ≡ true → chosen g l u ≡ trace g l u
+chosen_binary g l [] h = absurd cc
+chosen_binary g l (first ∷ u) h = ap (λ b. cond b (trace g l (first ∷ u)) refused_at_first) h
+
+other_first : (l : Limits) (first : ℕ) (w : List ℕ) (s : List Value) → (first == 0xE0) ≡ false → Denotes l (first ∷ w) s → ⊥
+other_first l first w s h (in_binary _ _ e d) = cc
+
+-- octets denote a stream exactly where they end well
+nothing_admits : (l : Limits) (s : List Value) → Streams nothing_read s → Denotes l [] s
+nothing_admits l s t =
+    let last : t.last ≡ None = cc t.ends in
+    subst (Denotes l []) (sym (t.values ∙ ap option_to_list last)) is_empty
+
+nothing_accepts : (l : Limits) (w : List ℕ) (s : List Value) → w ≡ [] → Denotes l w s → Streams nothing_read s
+nothing_accepts l _ _ e is_empty = record { last = None; ends = refl; values = refl }
+nothing_accepts l _ _ e (in_binary w s h d) = let k : is_binary w ≡ false = ap is_binary e in absurd cc
+
+first_admits : (g : Catalog) (l : Limits) (first : ℕ) (w : List ℕ) (s : List Value) (t : Trace) → t ≡ chosen g l (first ∷ w) → Streams t s → Denotes l (first ∷ w) s
+first_admits g l first w s t e =
+    subst (λ (x : Trace). Streams x s → Denotes l (first ∷ w) s) (sym e)
+    (cond_both (first == 0xE0) (trace g l (first ∷ w)) refused_at_first (λ (x : Trace). Streams x s → Denotes l (first ∷ w) s)
+    (λ h r. in_binary (first ∷ w) s h ((binary.exact g l (first ∷ w) s).0 r))
+    (λ h r. let k = r.ends in absurd cc))
+
+first_accepts : (g : Catalog) (l : Limits) (u : List ℕ) (s : List Value) → Denotes l u s → 0 < length u → Streams (chosen g l u) s
+first_accepts g l _ _ is_empty h = absurd (omega arith)
+first_accepts g l _ _ (in_binary w s e d) h = subst (λ (x : Trace). Streams x s) (sym (chosen_binary g l w e)) ((binary.exact g l w s).1 d)
+
+pub chosen_exact : (g : Catalog) (l : Limits) (u : List ℕ) (s : List Value) → Streams (chosen g l u) s ↔ Denotes l u s
+chosen_exact g l [] s = (nothing_admits l s, nothing_accepts l [] s refl)
+chosen_exact g l (first ∷ w) s = (first_admits g l first w s (chosen g l (first ∷ w)) refl, λ d. first_accepts g l (first ∷ w) s d (omega arith))
+
+-- octets denote at most one stream
+same_stream : (l : Limits) (u w : List ℕ) (s t : List Value) → u ≡ w → Denotes l u s → Denotes l w t → s ≡ t
+same_stream l _ _ _ _ e is_empty is_empty = refl
+same_stream l _ _ _ _ e is_empty (in_binary w t h d) = let k : is_binary w ≡ false = ap is_binary (sym e) in absurd cc
+same_stream l _ _ _ _ e (in_binary u s h d) is_empty = let k : is_binary u ≡ false = ap is_binary e in absurd cc
+same_stream l _ _ _ _ e (in_binary u s h d) (in_binary w t i f) = binary.one_stream l w s t (subst (λ x. Document l x s) e d) f
+
+pub one_document : (l : Limits) (u : List ℕ) (s t : List Value) → Denotes l u s → Denotes l u t → s ≡ t
+one_document l u s t a b = same_stream l u u s t refl a b
+
+-- pieces are those of the binary format
+pieces_whole : (l : Limits) (w following : List ℕ) (s : List Value) → Pieces l w following s → Whole l w s
+pieces_whole l _ _ _ (binary_pieces w following s h) = h
+
+abbrev shown_by : (l : Limits) (u : List ℕ) (s : List Value) → Shown (λ front following t. Whole l front t) u s → Shown (Pieces l) u s
+shown_by l u s h = record {
+  front = h.front;
+  open_rest = h.open_rest;
+  parts = h.parts;
+  whole = λ following. binary_pieces h.front (h.open_rest ++ following) s (h.whole following);
+  longest = λ v rest t e w. h.longest v rest t e (λ following. pieces_whole l v (rest ++ following) t (w following));
+}
+
+-- where no binary document begins so, no document does
+none_document : (l : Limits) (u : List ℕ) → BeginsNone (Document l) u → BeginsNone (Denotes l) u
+none_document l u none rest s d = go (u ++ rest) s d refl
+  where
+    go : (w : List ℕ) (s : List Value) → Denotes l w s → w ≡ u ++ rest → ⊥
+    go _ _ is_empty e = empty u rest e none
+      where
+        empty : (u rest : List ℕ) → [] ≡ u ++ rest → BeginsNone (Document l) u → ⊥
+        empty [] rest e none = none the_marker [] begins
+        empty (x ∷ u) rest e none = cc
+    go _ _ (in_binary w s h d) e = none rest s (subst (λ x. Document l x s) e d)
+
+refuses_by : (l : Limits) (u : List ℕ) (t : Trace) (r : Refusal) → Refuses (Document l) (λ front following s. Whole l front s) u t r → Refuses (Denotes l) (Pieces l) u t r
+refuses_by l u t r h = record {
+  within = h.within;
+  none = none_document l (take r.offset u) h.none;
+  shown = shown_by l (take r.offset u) (plain t.given) h.shown;
+  ends = h.ends;
+  whole_memory = h.whole_memory;
+  before_end = h.before_end;
+}
+
+-- octets that don't begin with E0 show nothing
+nothing_shown : (l : Limits) (first : ℕ) (w : List ℕ) → (first == 0xE0) ≡ false → Shown (Pieces l) (first ∷ w) []
+nothing_shown l first w h = record {
+  front = [];
+  open_rest = first ∷ w;
+  parts = refl;
+  whole = λ following. binary_pieces [] ((first ∷ w) ++ following) [] no_piece;
+  longest = λ v rest t e p. none v rest t e (pieces_whole l v (rest ++ []) t (p []));
+}
+  where
+    none : (v rest : List ℕ) (t : List Value) → first ∷ w ≡ v ++ rest → Whole l v t → length v ≤ 0
+    none _ rest _ e no_piece = omega arith
+    none _ rest _ e (document v s d) =
+        let k = binary-append v rest (document_binary l v s d) in
+        let i : (first == 0xE0) ≡ true = ap is_binary e ∙ k in
+        absurd cc
+
+first_refuses : (l : Limits) (first : ℕ) (w : List ℕ) → (first == 0xE0) ≡ false → Refuses (Denotes l) (Pieces l) (first ∷ w) refused_at_first at_first
+first_refuses l first w h = record {
+  within = omega arith;
+  none = λ rest s d. other_first l first rest s h d;
+  shown = nothing_shown l first [] h;
+  ends = refl;
+  whole_memory = λ e. cc;
+  before_end = λ e. cc;
+}
+
+first_refused : (g : Catalog) (l : Limits) (first : ℕ) (w : List ℕ) (r : Refusal) → (chosen g l (first ∷ w)).refused ≡ Some r → Refuses (Denotes l) (Pieces l) (first ∷ w) (chosen g l (first ∷ w)) r
+first_refused g l first w r =
+    let P : Trace → Type 0 = λ t. t.refused ≡ Some r → Refuses (Denotes l) (Pieces l) (first ∷ w) t r in
+    cond_both (first == 0xE0) (trace g l (first ∷ w)) refused_at_first P
+    (λ e h. refuses_by l (first ∷ w) (trace g l (first ∷ w)) r (binary.refused g l (first ∷ w) r h))
+    (λ e h. let k : at_first ≡ r = cc h in subst (Refuses (Denotes l) (Pieces l) (first ∷ w) refused_at_first) k (first_refuses l first w e))
+
+-- a refusal at n means that no document begins with the first n octets
+pub chosen_refused : (g : Catalog) (l : Limits) (u : List ℕ) (r : Refusal) → (chosen g l u).refused ≡ Some r → Refuses (Denotes l) (Pieces l) u (chosen g l u) r
+chosen_refused g l [] r h = absurd cc
+chosen_refused g l (first ∷ w) r h = first_refused g l first w r h
+
+shows_nothing : (l : Limits) → Shows (Pieces l) (λ front rest. OpenRest l rest) [] []
+shows_nothing l = record {
+  shown = record {
+    front = [];
+    open_rest = [];
+    parts = refl;
+    whole = λ following. binary_pieces [] following [] no_piece;
+    longest = λ v rest t e p. let k : length {A = ℕ} [] ≡ length (v ++ rest) = ap length e in let i = length-append v rest in omega arith;
+  };
+  rest = of_marker [] (omega arith);
+}
+
+first_shown : (g : Catalog) (l : Limits) (first : ℕ) (w : List ℕ) → (chosen g l (first ∷ w)).refused ≡ None → Shows (Pieces l) (λ front rest. OpenRest l rest) (first ∷ w) (plain (chosen g l (first ∷ w)).given)
+first_shown g l first w =
+    let P : Trace → Type 0 = λ t. t.refused ≡ None → Shows (Pieces l) (λ front rest. OpenRest l rest) (first ∷ w) (plain t.given) in
+    cond_both (first == 0xE0) (trace g l (first ∷ w)) refused_at_first P
+    (λ e h. let s = binary.shown g l (first ∷ w) h in record { shown = shown_by l (first ∷ w) (plain (trace g l (first ∷ w)).given) s.shown; rest = s.rest })
+    (λ e h. absurd cc)
+
+-- where nothing was refused, the values given are those shown
+pub chosen_shown : (g : Catalog) (l : Limits) (u : List ℕ) → (chosen g l u).refused ≡ None → Shows (Pieces l) (λ front rest. OpenRest l rest) u (plain (chosen g l u).given)
+chosen_shown g l [] h = shows_nothing l
+chosen_shown g l (first ∷ w) h = first_shown g l first w h
+
+first_unfinished : (g : Catalog) (l : Limits) (first : ℕ) (w : List ℕ) (r : Refusal) → (chosen g l (first ∷ w)).refused ≡ None → (chosen g l (first ∷ w)).ends ≡ Err r → r.offset ≡ length (first ∷ w)
+first_unfinished g l first w r =
+    let P : Trace → Type 0 = λ t. t.refused ≡ None → t.ends ≡ Err r → r.offset ≡ length (first ∷ w) in
+    cond_both (first == 0xE0) (trace g l (first ∷ w)) refused_at_first P (λ e h k. binary.unfinished g l (first ∷ w) r h k) (λ e h k. absurd cc)
+
+-- a refusal at the end counts all octets
+pub chosen_unfinished : (g : Catalog) (l : Limits) (u : List ℕ) (r : Refusal) → (chosen g l u).refused ≡ None → (chosen g l u).ends ≡ Err r → r.offset ≡ length u
+chosen_unfinished g l [] r h k = absurd cc
+chosen_unfinished g l (first ∷ w) r h k = first_unfinished g l first w r h k
+
+-- a value has at most as many nodes as octets were used for it
+pub chosen_small : (g : Catalog) (l : Limits) (u : List ℕ) → IsSmall u (chosen g l u)
+chosen_small g l [] = record { given = omega arith; last = λ v h. absurd cc }
+chosen_small g l (first ∷ w) =
+    cond_both (first == 0xE0) (trace g l (first ∷ w)) refused_at_first (IsSmall (first ∷ w)) (λ e. binary.small g l (first ∷ w)) (λ e. record { given = omega arith; last = λ v h. absurd cc })
+
+-- what was refused stays refused, and what was given stays given
+grows_by : (b : Bool) (before after : Trace) → Grows before after → Grows (cond b before refused_at_first) (cond b after refused_at_first)
+grows_by true before after h = h
+grows_by false before after h = record { given = ([], refl); refused = λ _. refl }
+
+pub chosen_grows : (g : Catalog) (l : Limits) (u w : List ℕ) → Grows (chosen g l u) (chosen g l (u ++ w))
+chosen_grows g l [] w = record { given = ((chosen g l w).given, refl); refused = λ never. cc }
+chosen_grows g l (first ∷ u) w = grows_by (first == 0xE0) (trace g l (first ∷ u)) (trace g l ((first ∷ u) ++ w)) (binary.grows g l (first ∷ u) w)
+
+-- the octets used so far are counted
+format_counted : (d : DocReader) (f : Format) (u : List ℕ) (s : List (Value × ℕ)) → FormatStands d f u s → taken_of f ≡ length u
+format_counted d Unbegun u s h = sym (ap length h.0)
+format_counted d (Refused refusal) u s h = absurd h
+format_counted d (Binary r) u s h = h.0.counted
+
+pub doc_counted : (d : DocReader) (u : List ℕ) (s : List (Value × ℕ)) → DocStands d u s → taken_of d.format ≡ length u
+doc_counted d = format_counted d d.format
+
+-- the values given are those of the trace
+format_given : (d : DocReader) (f : Format) (u : List ℕ) (s : List (Value × ℕ)) → FormatStands d f u s → (chosen d.catalog.now d.limits u).given ≡ s
+format_given d Unbegun u s h = ap (λ u. (chosen d.catalog.now d.limits u).given) h.0 ∙ sym h.1
+format_given d (Refused refusal) u s h = absurd h
+format_given d (Binary r) u s h =
+    ap (λ (t : Trace). t.given) (chosen_binary d.catalog.now d.limits u h.1)
+    ∙ ap (λ l. (trace d.catalog.now l u).given) (sym h.2)
+    ∙ ap (λ g. (trace g r.limits u).given) (sym h.3)
+    ∙ given_of r u s h.0
+
+pub doc_given : (d : DocReader) (u : List ℕ) (s : List (Value × ℕ)) → DocStands d u s → (chosen d.catalog.now d.limits u).given ≡ s
+doc_given d = format_given d d.format
+
+-- octets that are kept are of one item
+format_bounded : (d : DocReader) (f : Format) (u : List ℕ) (s : List (Value × ℕ)) → FormatStands d f u s → kept_of f ≤ d.limits.item
+format_bounded d Unbegun u s h = omega arith
+format_bounded d (Refused refusal) u s h = absurd h
+format_bounded d (Binary r) u s h = subst (λ (l : Limits). kept_of (Binary r) ≤ l.item) h.2 (bounded r u s h.0)
+
+pub doc_bounded : (d : DocReader) (u : List ℕ) (s : List (Value × ℕ)) → DocStands d u s → kept_of d.format ≤ d.limits.item
+doc_bounded d = format_bounded d d.format

@@ -1,0 +1,11 @@
+pub mod Documents
+pub mod Outcomes
+pub mod Checked
+pub mod Compared
+pub mod Listing
+pub mod Reading
+pub mod Place
+pub mod Courses
+pub mod Chosen
+pub mod DocStands
+pub mod DocLaws

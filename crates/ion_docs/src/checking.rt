@@ -1,0 +1,51 @@
+//! How many values a document has.
+ghost use Rattle.std.specs.Prelude.{◌≡◌, ℕ, ◌+◌, ◌^◌, ◌<◌, ◌≤◌, length, IfOk, IfErr, Option, option_to_list};
+ghost use Rattle.ion_symtab.specs.Cause.{IsReadCause};
+ghost use Rattle.ion_docs.specs.Reading.{IsFresh};
+ghost use Rattle.ion_docs.specs.Checked.{IsChecked};
+
+use crate::source::{Place, Source, next_value};
+use ion_model::{Refusal, Value};
+use ion_symtab::{Fault, Inlet, Items};
+use std::alloc::Global;
+
+/// How many values a document has, whose octets `items` reads from `reader` in at most `reads` calls;
+/// or the refusal of octets that are no document.
+///
+/// Refusals are those of `items`, but never `Memory`. Faults are `Memory`, `Read` and `TooManyReads`.
+pub fn check_items<I: Items + Drop, R: Inlet>(
+    alloc: Global,
+    items: I,
+    reads: u64,
+    reader: &mut R,
+) -> Result<Result<u64, Refusal>, Fault>
+    requires fresh { IsFresh I.stands I.awaits I.pending items }
+    requires reads { reads ≤ 2 ^ 32 }
+    ensures verdict { IfOk result (IsChecked R.tells (I.denotes (I.catalog items) (I.limits items))
+        (I.pieces (I.catalog items) (I.limits items)) reader.old) }
+    ensures cause { IfErr result (IsReadCause R.calls_made R.has_failed R.has_ended reads
+        reader.old reader.new) }
+{
+    let mut source = Source::new(alloc, items, reads)?;
+    let mut values: u64 = 0;
+    loop {
+        let (place, value) = next_value(source, reader)?;
+        values = counted(values, value);
+        match place {
+            Place::Open(after) => source = after,
+            Place::Ended => return Ok(Ok(values)),
+            Place::Refused(refusal) => return Ok(Err(refusal)),
+        }
+    }
+}
+
+/// One more, if there is a value.
+fn counted(values: u64, value: Option<Value>) -> u64
+    requires { values + 1 < 2 ^ 64 }
+    ensures { result ≡ values + length (option_to_list value) }
+{
+    match value {
+        Some(_) => values + 1,
+        None => values,
+    }
+}

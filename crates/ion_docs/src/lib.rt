@@ -1,0 +1,19 @@
+//! Whole Ion documents on devices: how many values they have, a line for each value, and whether two
+//! have equivalent streams.
+#![tactic(auto)]
+
+mod checking;
+mod comparison;
+mod doc_reader;
+mod documents;
+pub mod laws;
+mod listing;
+mod source;
+#[cfg(test)]
+mod tests;
+
+pub use checking::check_items;
+pub use comparison::{Side, Verdict, compare_items};
+pub use doc_reader::DocReader;
+pub use documents::{check, compare, show};
+pub use listing::show_items;

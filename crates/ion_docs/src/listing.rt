@@ -1,0 +1,113 @@
+//! A line for each value of a document.
+ghost use Rattle.std.specs.Prelude.{◌≡◌, ℕ, ◌+◌, ◌^◌, ◌<◌, ◌≤◌, ◌⊎◌, List, length, true, false, IfOk, IfErr, OnOk, OnErr, Option, option_to_list, string_bytes};
+ghost use Rattle.std.specs.Io.KnownBytes.{Appends};
+ghost use Rattle.ion_model.specs.declared.value.Value.{Value};
+ghost use Rattle.ion_symtab.specs.Took.{TookFront};
+ghost use Rattle.ion_symtab.specs.Cause.{IsReadCause};
+ghost use Rattle.ion_docs.specs.Reading.{IsFresh};
+ghost use Rattle.ion_docs.specs.Listing.{line_of, lines_from, accepted_line, IsShown, IsWriteCause, ShowsSoFar};
+
+use crate::source::{Place, Source, next_value};
+use ion_model::{Refusal, Value};
+use ion_symtab::{Fault, Inlet, Items, Outlet, flushed, write_whole};
+use std::alloc::{AllocError, Global};
+
+/// The line of a value: its index, kind, depth and number of nodes.
+fn line(alloc: Global, index: u64, value: &Value) -> Result<String, AllocError>
+    ensures { IfOk result (λ text. string_bytes text ≡ line_of index value.now) }
+{
+    format!(in alloc;
+        "{index} {} depth {} nodes {}\n",
+        value.kind().name(),
+        value.depth(),
+        value.nodes()
+    )
+}
+
+/// The last line, behind those of the values.
+fn accepted(alloc: Global, values: u64) -> Result<String, AllocError>
+    ensures { IfOk result (λ text. string_bytes text ≡ accepted_line values) }
+{
+    format!(in alloc; "accepted {values}\n")
+}
+
+/// Writes the line of the next value, if there is one, and counts it.
+fn write_value<W: Outlet>(
+    alloc: Global,
+    writer: &mut W,
+    values: u64,
+    value: Option<Value>,
+) -> Result<u64, Fault>
+    requires { values + 1 < 2 ^ 64 }
+    ensures count { IfOk result (λ n. n ≡ values + length (option_to_list value)) }
+    ensures wrote { OnOk result (Appends (W.took writer.old) (W.took writer.new)
+        (lines_from (values + 1) (option_to_list value))) }
+    ensures front { OnErr result (TookFront W.took writer.old writer.new
+        (lines_from (values + 1) (option_to_list value))) }
+    ensures cause { IfErr result (IsWriteCause W.has_failed writer.new) }
+{
+    match value {
+        None => Ok(values),
+        Some(value) => {
+            let text = line(alloc, values + 1, &value)?;
+            write_whole(writer, text.as_bytes())?;
+            Ok(values + 1)
+        }
+    }
+}
+
+/// Writes the last line, and makes the device pass on all.
+fn write_accepted<W: Outlet>(alloc: Global, writer: &mut W, values: u64) -> Result<(), Fault>
+    ensures wrote { OnOk result (Appends (W.took writer.old) (W.took writer.new) (accepted_line values)) }
+    ensures done { OnOk result (W.has_failed writer.new ≡ false) }
+    ensures front { OnErr result (TookFront W.took writer.old writer.new (accepted_line values)) }
+    ensures cause { IfErr result (IsWriteCause W.has_failed writer.new) }
+{
+    let text = accepted(alloc, values)?;
+    write_whole(writer, text.as_bytes())?;
+    flushed(writer)
+}
+
+/// Writes a line for each value of a document, whose octets `items` reads from `reader` in at most
+/// `reads` calls, and behind them `accepted` with their number. The answer is that of `check_items`.
+///
+/// On a refusal the lines of the values before it are written, and no other line. The writer is
+/// flushed last, on a refusal too. At a fault some first octets of the lines of the values read so
+/// far were written. Faults are `Memory`, `Read`, `TooManyReads` and `Write`.
+pub fn show_items<I: Items + Drop, R: Inlet, W: Outlet>(
+    alloc: Global,
+    items: I,
+    reads: u64,
+    reader: &mut R,
+    writer: &mut W,
+) -> Result<Result<u64, Refusal>, Fault>
+    requires fresh { IsFresh I.stands I.awaits I.pending items }
+    requires reads { reads ≤ 2 ^ 32 }
+    ensures shown { IfOk result (IsShown R.tells (I.denotes (I.catalog items) (I.limits items))
+        (I.pieces (I.catalog items) (I.limits items)) reader.old (W.took writer.old) (W.took writer.new)) }
+    ensures done { OnOk result (W.has_failed writer.new ≡ false) }
+    ensures so_far { OnErr result (ShowsSoFar R.tells I.stands I.catalog I.limits
+        (I.denotes (I.catalog items) (I.limits items)) (I.pieces (I.catalog items) (I.limits items)) W.took
+        (I.catalog items) (I.limits items) reader.old reader.new writer.old writer.new) }
+    ensures cause { IfErr result (λ fault.
+        IsReadCause R.calls_made R.has_failed R.has_ended reads reader.old reader.new fault
+        ⊎ IsWriteCause W.has_failed writer.new fault) }
+{
+    let mut source = Source::new(alloc, items, reads)?;
+    let mut values: u64 = 0;
+    loop {
+        let (place, value) = next_value(source, reader)?;
+        values = write_value(alloc, writer, values, value)?;
+        match place {
+            Place::Open(after) => source = after,
+            Place::Ended => {
+                write_accepted(alloc, writer, values)?;
+                return Ok(Ok(values));
+            }
+            Place::Refused(refusal) => {
+                flushed(writer)?;
+                return Ok(Err(refusal));
+            }
+        }
+    }
+}

@@ -1,0 +1,239 @@
+//! A document on a device: its octets are read in pieces, and a reader takes them up.
+ghost use Rattle.std.specs.Prelude.{◌≡◌, ◌≢◌, ℕ, ◌+◌, ◌-◌, ◌*◌, ◌^◌, ◌<◌, ◌≤◌, true, false, List, [], ◌∷◌, ◌++◌, length, take, drop, IfOk, IfErr, OnErr, IfSome, MatchBool, Option, IsSome, IsNone, option_to_list};
+ghost use Rattle.ion_model.specs.declared.value.Value.{Value};
+ghost use Rattle.ion_model.specs.declared.refusal.Reason.TheVariants as reasons;
+ghost use Rattle.ion_symtab.specs.declared.catalog.Catalog.{Catalog};
+ghost use Rattle.ion_symtab.specs.declared.limits.Limits.{Limits};
+ghost use Rattle.ion_symtab.specs.Trace.{plain};
+ghost use Rattle.ion_symtab.specs.Told.{Told};
+ghost use Rattle.ion_symtab.specs.Cause.{WereMade, IsReadCause};
+ghost use Rattle.ion_docs.specs.Reading.{left_of, Begins, IsReady, IsWithin, work, Went, Reads, GaveSoFar};
+ghost use Rattle.ion_docs.specs.Outcomes.{IsRefused};
+ghost use Rattle.ion_docs.specs.Place.{IfOpen, IsOpen, IfClosed, MatchClosed, work_of, Stood};
+
+use ion_model::{Reason, Refusal, Value};
+use ion_symtab::{Fault, Inlet, Items, Step};
+use std::alloc::Global;
+
+/// At most so many octets are read from a device in one call.
+const PIECE: usize = 4096;
+
+/// A document that is being read.
+#[derive(Drop)]
+pub struct Source<I> {
+    items: I,
+    /// The octets last read from the device; those from `at` up to `end` are still to be used.
+    piece: Vec<u8>,
+    at: usize,
+    end: usize,
+    /// How often the device may still be asked.
+    reads: u64,
+}
+
+impl<I: Items + Drop> Source<I> {
+    /// A document of which nothing is read yet, whose device may be asked `reads` times. `Memory`, and
+    /// no other fault, where a growth was refused.
+    pub fn new(alloc: Global, items: I, reads: u64) -> Result<Source<I>, Fault>
+        ensures items { IfOk result (λ source. source.items ≡ items) }
+        ensures nothing { IfOk result (λ source. (source.at ≡ 0) × (source.end ≡ 0)) }
+        ensures piece { IfOk result (λ source. length source.piece.items ≡ 4096) }
+        ensures reads { IfOk result (λ source. source.reads ≡ reads) }
+        ensures cause { IfErr result (λ fault. fault ≡ Fault.Memory) }
+    {
+        let piece = vec![in alloc; 0; PIECE]?;
+        Ok(Source {
+            items,
+            piece,
+            at: 0,
+            end: 0,
+            reads,
+        })
+    }
+
+    /// Takes up octets of the piece, up to the next value or to the piece's end.
+    fn take(&mut self) -> Result<Option<Value>, Refusal>
+        requires { IsReady I.taken I.awaits self.old }
+        ensures gives { IfOk result (λ value. (u : List ℕ) (given : List (Value × ℕ)) →
+            I.stands self.old.items u given →
+            Went I.stands u given (left_of self.old) (left_of self.new) value self.new.items) }
+        ensures refuses { IfErr result (λ refusal. refusal.reason ≢ reasons.Memory →
+            (u : List ℕ) (given : List (Value × ℕ)) → I.stands self.old.items u given → (more : List ℕ) →
+            IsRefused (I.denotes (I.catalog self.old.items) (I.limits self.old.items))
+            (I.pieces (I.catalog self.old.items) (I.limits self.old.items))
+            ((u ++ left_of self.old) ++ more) (plain given) refusal) }
+        ensures within { IfOk result (λ value. (self.old.at ≤ self.new.at) × (self.new.at ≤ self.new.end)) }
+        ensures all { IfOk result (λ value. value ≡ Option.None → self.new.at ≡ self.new.end) }
+        ensures taken { IfOk result (λ value.
+            I.taken self.new.items + self.old.at ≡ I.taken self.old.items + self.new.at) }
+        ensures pending { IfOk result (λ value. work I.pending self.new ≤ work I.pending self.old) }
+        ensures less { IfOk result (λ value. IsSome value →
+            work I.pending self.new < work I.pending self.old) }
+        ensures begins { IfOk result (λ value. Begins (I.awaits self.new.items) (left_of self.new)) }
+        ensures catalog { I.catalog self.new.items ≡ I.catalog self.old.items }
+        ensures limits { I.limits self.new.items ≡ I.limits self.old.items }
+        ensures piece { self.new.piece.items ≡ self.old.piece.items }
+        ensures end { self.new.end ≡ self.old.end }
+        ensures reads { self.new.reads ≡ self.old.reads }
+    {
+        match self.items.step(&self.piece[self.at..self.end]) {
+            Err(refusal) => Err(refusal),
+            Ok(Step { used, value }) => {
+                self.at += used;
+                Ok(value)
+            }
+        }
+    }
+
+    /// Reads another piece; answers whether the device had more octets. `Read`, and no other fault,
+    /// where the device failed.
+    fn fill<R: Inlet>(&mut self, reader: &mut R) -> Result<bool, Fault>
+        requires reads { 0 < self.old.reads }
+        requires piece { length self.old.piece.items ≡ 4096 }
+        ensures piece { length self.new.piece.items ≡ 4096 }
+        ensures told { IfOk result (λ more. Told R.tells reader.old reader.new (left_of self.new)) }
+        ensures ends { IfOk result (λ more. more ≡ false →
+            (R.tells reader.new []) × (self.new.end ≡ 0)) }
+        ensures within { IfOk result (λ more. (self.new.at ≡ 0) × (self.new.end ≤ 4096)) }
+        ensures items { self.new.items ≡ self.old.items }
+        ensures reads { self.new.reads + 1 ≡ self.old.reads }
+        ensures asked { IfOk result (λ more. more ≡ true → (first : R) (made : ℕ) →
+            WereMade R.calls_made R.has_ended made first reader.old →
+            WereMade R.calls_made R.has_ended (made + 1) first reader.new) }
+        ensures kept { OnErr result (Told R.tells reader.old reader.new []) }
+        ensures cause { IfErr result (λ fault. (fault ≡ Fault.Read) × (R.has_failed reader.new ≡ true)) }
+    {
+        self.reads -= 1;
+        self.at = 0;
+        self.end = 0;
+        match reader.read(&mut self.piece) {
+            Err(_) => Err(Fault::Read),
+            Ok(0) => Ok(false),
+            Ok(count) => {
+                self.end = count;
+                Ok(true)
+            }
+        }
+    }
+}
+
+/// Where a document stands: it can be read on, it has ended, or it is no document.
+#[derive(Drop)]
+pub enum Place<I> {
+    Open(Source<I>),
+    Ended,
+    Refused(Refusal),
+}
+
+impl<I> Place<I> {
+    /// Whether the document can be read on.
+    pub fn is_open(&self) -> bool
+        ensures { MatchBool result (IsOpen self.now) (IfOpen self.now (λ source. ⊥)) }
+    {
+        match self {
+            Place::Open(_) => true,
+            Place::Ended => false,
+            Place::Refused(_) => false,
+        }
+    }
+}
+
+/// Reads on up to the next value, or to the end: where the document stands then, and the value, if
+/// there is one. Without a value the document isn't open any more.
+///
+/// Faults are `Memory`, `Read` and `TooManyReads`.
+pub fn next_value<I: Items + Drop, R: Inlet>(
+    mut source: Source<I>,
+    reader: &mut R,
+) -> Result<(Place<I>, Option<Value>), Fault>
+    requires { IsReady I.taken I.awaits source }
+    ensures gives { IfOk result (λ next. (g : Catalog) (l : Limits) (first : R) (s : List Value) →
+        Reads R.tells I.stands I.catalog I.limits g l first reader.old source s →
+        Stood R.tells I.stands I.catalog I.limits I.denotes I.pieces g l first reader.new next.0
+        (s ++ option_to_list next.1)) }
+    ensures ready { IfOk result (λ next. IfOpen next.0 (IsReady I.taken I.awaits)) }
+    ensures none { IfOk result (λ next. next.1 ≡ Option.None → IfOpen next.0 (λ after. ⊥)) }
+    ensures less { IfOk result (λ next. work_of I.pending next.0 < work I.pending source + 1) }
+    ensures within { IfOk result (λ next. (first : R) (reads : ℕ) →
+        IsWithin R.calls_made R.has_ended reads first reader.old source →
+        IfOpen next.0 (IsWithin R.calls_made R.has_ended reads first reader.new)) }
+    ensures cause { IfErr result (λ fault. (first : R) (reads : ℕ) →
+        IsWithin R.calls_made R.has_ended reads first reader.old source →
+        IsReadCause R.calls_made R.has_failed R.has_ended reads first reader.new fault) }
+    ensures kept { OnErr result ((g : Catalog) (l : Limits) (first : R) (s : List Value) →
+        Reads R.tells I.stands I.catalog I.limits g l first reader.old source s →
+        GaveSoFar R.tells I.stands I.catalog I.limits g l first reader.new s) }
+{
+    loop {
+        match source.take() {
+            Err(
+                Refusal {
+                    reason: Reason::Memory,
+                    ..
+                },
+            ) => return Err(Fault::Memory),
+            Err(refusal) => return Ok((Place::Refused(refusal), None)),
+            Ok(Some(value)) => return Ok((Place::Open(source), Some(value))),
+            Ok(None) => {}
+        }
+        if source.reads == 0 {
+            return Err(Fault::TooManyReads);
+        }
+        if !source.fill(reader)? {
+            return last(source);
+        }
+    }
+}
+
+/// What the end of a document gives.
+fn last<I: Items + Drop>(source: Source<I>) -> Result<(Place<I>, Option<Value>), Fault>
+    requires { IsNone (I.awaits source.items) }
+    ensures ends { IfOk result (λ next. (u : List ℕ) (given : List (Value × ℕ)) →
+        I.stands source.items u given → MatchClosed next.0
+        (I.denotes (I.catalog source.items) (I.limits source.items) u (plain given ++ option_to_list next.1))
+        (λ refusal. (next.1 ≡ Option.None) × IsRefused
+        (I.denotes (I.catalog source.items) (I.limits source.items))
+        (I.pieces (I.catalog source.items) (I.limits source.items)) u (plain given) refusal)) }
+    ensures closed { IfOk result (λ next. IfOpen next.0 (λ source. ⊥)) }
+    ensures cause { IfErr result (λ fault. fault ≡ Fault.Memory) }
+{
+    match source.items.finish() {
+        Ok(value) => Ok((Place::Ended, value)),
+        Err(
+            Refusal {
+                reason: Reason::Memory,
+                ..
+            },
+        ) => Err(Fault::Memory),
+        Err(refusal) => Ok((Place::Refused(refusal), None)),
+    }
+}
+
+/// Reads on as `next_value` does, where the document is open; else it stands where it stood.
+pub fn advance<I: Items + Drop, R: Inlet>(
+    place: Place<I>,
+    reader: &mut R,
+) -> Result<(Place<I>, Option<Value>), Fault>
+    requires { IfOpen place (IsReady I.taken I.awaits) }
+    ensures gives { IfOk result (λ next. (g : Catalog) (l : Limits) (first : R) (s : List Value) →
+        Stood R.tells I.stands I.catalog I.limits I.denotes I.pieces g l first reader.old place s →
+        Stood R.tells I.stands I.catalog I.limits I.denotes I.pieces g l first reader.new next.0
+        (s ++ option_to_list next.1)) }
+    ensures ready { IfOk result (λ next. IfOpen next.0 (IsReady I.taken I.awaits)) }
+    ensures none { IfOk result (λ next. next.1 ≡ Option.None → IfOpen next.0 (λ after. ⊥)) }
+    ensures less { IfOk result (λ next.
+        IfOpen place (λ source. work_of I.pending next.0 < work_of I.pending place)) }
+    ensures closed { IfOk result (λ next.
+        IfClosed place ((next.0 ≡ place) × (next.1 ≡ Option.None))) }
+    ensures within { IfOk result (λ next. (first : R) (reads : ℕ) →
+        IfOpen place (IsWithin R.calls_made R.has_ended reads first reader.old) →
+        IfOpen next.0 (IsWithin R.calls_made R.has_ended reads first reader.new)) }
+    ensures cause { IfErr result (λ fault. (first : R) (reads : ℕ) →
+        IfOpen place (IsWithin R.calls_made R.has_ended reads first reader.old) →
+        IsReadCause R.calls_made R.has_failed R.has_ended reads first reader.new fault) }
+{
+    match place {
+        Place::Open(source) => next_value(source, reader),
+        Place::Ended => Ok((Place::Ended, None)),
+        Place::Refused(refusal) => Ok((Place::Refused(refusal), None)),
+    }
+}
