@@ -127,7 +127,7 @@ fn answer<N: Sources, O: Outlet, E: Outlet>(
     ensures fault { result ≡ Status.Fault → ReportsFault E.took E.has_failed err.old err.new (O.has_failed out.new) }
     ensures quiet { result ≡ Status.Accepted ⊎ result ≡ Status.Different → Keeps (E.took err.old) (E.took err.new) }
 {
-    match ending_of(alloc, request, sources, out) {
+    match carry_out(alloc, request, sources, out) {
         Ok(Ending::Accepted) => Status::Accepted,
         Ok(Ending::Different) => Status::Different,
         Ok(Ending::Refused(whose, refusal)) => tell_refusal(alloc, whose, refusal, err),
@@ -135,8 +135,8 @@ fn answer<N: Sources, O: Outlet, E: Outlet>(
     }
 }
 
-/// Opens each document, left to right, before one is read, and then does what is asked for.
-fn ending_of<N: Sources, O: Outlet>(
+/// Does what is asked for under the catalog.
+fn carry_out<N: Sources, O: Outlet>(
     alloc: Global,
     request: &Request<'_>,
     sources: &mut N,
@@ -146,14 +146,28 @@ fn ending_of<N: Sources, O: Outlet>(
     ensures cause { IfErr result (IsCause (O.has_failed out.new)) }
 {
     let catalog = Catalog::new(alloc);
+    ending_of(alloc, request, sources, out, &catalog)
+}
+
+/// Opens each document, left to right, before one is read, and then does what is asked for.
+fn ending_of<N: Sources, O: Outlet>(
+    alloc: Global,
+    request: &Request<'_>,
+    sources: &mut N,
+    out: &mut O,
+    catalog: &Catalog,
+) -> Result<Ending, Fault>
+    ensures ending { IfOk result (TellsEnding (O.took out.old) (O.took out.new)) }
+    ensures cause { IfErr result (IsCause (O.has_failed out.new)) }
+{
     let limits = request.limits;
     match request.task {
-        Task::Check(name) => checked(alloc, &mut sources.source(name)?, out, &catalog, limits),
-        Task::Show(name) => shown(alloc, &mut sources.source(name)?, out, &catalog, limits),
+        Task::Check(name) => checked(alloc, &mut sources.source(name)?, out, catalog, limits),
+        Task::Show(name) => shown(alloc, &mut sources.source(name)?, out, catalog, limits),
         Task::Compare(left, right) => {
             let mut left = sources.source(left)?;
             let mut right = sources.source(right)?;
-            compared(alloc, &mut left, &mut right, out, &catalog, limits)
+            compared(alloc, &mut left, &mut right, out, catalog, limits)
         }
     }
 }

@@ -1,12 +1,12 @@
 //! Whether two documents have equivalent streams.
-ghost use Rattle.std.specs.Prelude.{◌≡◌, ℕ, ◌+◌, ◌^◌, ◌<◌, ◌≤◌, ◌⊎◌, IfOk, IfErr, IsErrOf};
+ghost use Rattle.std.specs.Prelude.{◌≡◌, ℕ, ◌+◌, ◌^◌, ◌<◌, ◌≤◌, ◌⊎◌, IfOk, IfErr, MatchResult};
 ghost use Rattle.ion_symtab.specs.Cause.{IsReadCause};
 ghost use Rattle.ion_docs.specs.Reading.{IsFresh};
 ghost use Rattle.ion_docs.specs.Compared.{IsCompared};
 ghost use Rattle.ion_docs.specs.Courses.{met, count_of, verdict_of};
 
 use crate::source::{Place, Source, advance};
-use ion_model::{Refusal, Value, same_slow};
+use ion_model::{Refusal, Value, equivalent};
 use ion_symtab::{Fault, Inlet, Items};
 use std::alloc::Global;
 
@@ -38,24 +38,35 @@ enum Course {
 }
 
 impl Course {
-    /// The course behind the next value of each, or the end of one.
-    fn meet(self, left: Option<Value>, right: Option<Value>) -> Course
+    /// The course behind the next value of each, or the end of one; `Memory` where a growth was refused.
+    fn meet(self, alloc: Global, left: Option<Value>, right: Option<Value>) -> Result<Course, Fault>
         requires { count_of self + 1 < 2 ^ 64 }
-        ensures { result ≡ met self left right }
+        ensures { MatchResult result (λ course. course ≡ met self left right) (λ fault. fault ≡ Fault.Memory) }
     {
-        match self {
-            Course::Parted { index } => Course::Parted { index },
-            Course::Alike { values } => match (left, right) {
-                (None, None) => Course::Alike { values },
-                (Some(left), Some(right)) => {
-                    if same_slow(&left, &right) {
-                        Course::Alike { values: values + 1 }
-                    } else {
-                        Course::Parted { index: values + 1 }
-                    }
-                }
-                _ => Course::Parted { index: values + 1 },
+        self.beside(alloc, &left, &right)
+    }
+
+    fn beside(
+        self,
+        alloc: Global,
+        left: &Option<Value>,
+        right: &Option<Value>,
+    ) -> Result<Course, Fault>
+        requires { count_of self + 1 < 2 ^ 64 }
+        ensures { MatchResult result (λ course. course ≡ met self left.now right.now) (λ fault. fault ≡ Fault.Memory) }
+    {
+        let Course::Alike { values } = self else {
+            return Ok(self);
+        };
+        match (left, right) {
+            (None, None) => Ok(self),
+            (Some(left), Some(right)) => match equivalent(alloc, left, right) {
+                Err(_) => Err(Fault::Memory),
+                Ok(true) => Ok(Course::Alike { values: values + 1 }),
+                Ok(false) => Ok(Course::Parted { index: values + 1 }),
             },
+            (Some(_), None) => Ok(Course::Parted { index: values + 1 }),
+            (None, Some(_)) => Ok(Course::Parted { index: values + 1 }),
         }
     }
 
@@ -117,7 +128,10 @@ pub fn compare_items<I: Items + Drop, J: Items + Drop, L: Inlet, R: Inlet>(
             });
         }
         let (right_now, right_value) = advance(right_place, right)?;
-        course = course.meet(left_value, right_value);
+        course = match course.meet(alloc, left_value, right_value) {
+            Err(fault) => return Err(fault),
+            Ok(course) => course,
+        };
         left_place = left_now;
         right_place = right_now;
         if !left_place.is_open() && !right_place.is_open() {

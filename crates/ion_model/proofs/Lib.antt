@@ -1,0 +1,11 @@
+pub mod OrderLaws
+pub mod OrderTotal
+pub mod Parts
+pub mod Heads
+pub mod OrderEqual
+pub mod CountLengths
+pub mod NormalUnique
+pub mod NormalLaws
+pub mod NormalTies
+pub mod Replacing
+pub mod Options

@@ -1,44 +1,51 @@
 -- Equivalence is reflexive, symmetric and transitive: first each part, then one level, then n levels by induction.
-use Rattle.std.proofs.Common.{◌≡◌, ℕ, zero, suc, max, Bool, true, false, refl, rules, arith, sym, ◌∙◌}
+use Rattle.std.proofs.Common.{ℕ, zero, suc, max, Bool, refl, rules, arith, sym, ◌∙◌}
 use Rattle.std.specs.Cmp.{IsEquivalence}
 use Rattle.std.specs.Cmp.Rules.{comparing}
-use Rattle.std.proofs.lemmas.Cmp.{and_equiv, on_equiv, lists_equiv, nat_eq_equiv, int_eq_equiv}
+use Rattle.std.proofs.lemmas.Cmp.{and_equiv, on_equiv, lists_equiv, nat_eq_equiv, int_eq_equiv, nat_list_eq_equiv}
+use Rattle.std.specs.Cmp.{bool_eq_equiv}
+use Rattle.std.specs.Cmp.Lexicographic.{options_equiv}
 use Rattle.ion_model.specs.declared.value.Value.{Value}
 use Rattle.ion_model.specs.declared.value.Payload.TheViews.{out-Payload}
 use Rattle.ion_model.specs.Measures.{depth}
-use Rattle.ion_model.specs.Same.{bool_eq, symbol_same, scalar_same, scalar, items, layer_same, value_same, same_to, same}
+use Rattle.ion_model.specs.Same.{scalar_same, scalar, items, fields, field_same, fields_same, layer_same, value_same, same_to, same}
+use Rattle.ion_model.specs.Counts.{alike_equiv}
+use Rattle.ion_model.specs.Decimals.{decimal_same}
+use Rattle.ion_model.specs.Symbols.{symbol_same}
+use Rattle.ion_model.specs.Timestamps.{local_same, precision_rank, timestamp_same}
 use Rattle.ion_model.specs.SameLaws.{same-agrees}
-
-bool_eq-equiv : IsEquivalence bool_eq
-bool_eq-equiv = record { refl = bool_refl; symm = bool_symm; congr = bool_congr } where
-  bool_refl : (a : Bool) → bool_eq a a ≡ true
-  bool_refl true = refl
-  bool_refl false = refl
-
-  bool_symm : (a b : Bool) → bool_eq a b ≡ bool_eq b a
-  bool_symm true true = refl
-  bool_symm true false = refl
-  bool_symm false true = refl
-  bool_symm false false = refl
-
-  bool_congr : (a b c : Bool) → bool_eq a b ≡ true → bool_eq a c ≡ bool_eq b c
-  bool_congr true true c h = refl
-  bool_congr true false c h = cc
-  bool_congr false true c h = cc
-  bool_congr false false c h = refl
 
 pub symbol_same-equiv : IsEquivalence symbol_same
 symbol_same-equiv = search (comparing, rules)
 
+decimal_same-equiv : IsEquivalence decimal_same
+decimal_same-equiv = and_equiv (and_equiv (on_equiv (λ d. d.negative) bool_eq_equiv) (on_equiv (λ d. d.magnitude) nat_eq_equiv)) (on_equiv (λ d. d.exponent) int_eq_equiv)
+
+local_same-equiv : IsEquivalence local_same
+local_same-equiv =
+    and_equiv (and_equiv (and_equiv (and_equiv (and_equiv (and_equiv (on_equiv (λ l. l.year) nat_eq_equiv) (on_equiv (λ l. l.month) nat_eq_equiv)) (on_equiv (λ l. l.day) nat_eq_equiv))
+    (on_equiv (λ l. l.hour) nat_eq_equiv)) (on_equiv (λ l. l.minute) nat_eq_equiv)) (on_equiv (λ l. l.second) nat_eq_equiv)) (on_equiv (λ l. l.fraction) nat_eq_equiv)
+
+timestamp_same-equiv : IsEquivalence timestamp_same
+timestamp_same-equiv =
+    and_equiv (and_equiv (on_equiv (λ t. precision_rank t.precision) nat_eq_equiv) (on_equiv (λ t. t.offset) (options_equiv int_eq_equiv))) (on_equiv (λ t. t.local) local_same-equiv)
+
 pub scalar_same-equiv : IsEquivalence scalar_same
 scalar_same-equiv =
-    and_equiv (on_equiv (λ s. s.kind) nat_eq_equiv)
-    (and_equiv (on_equiv (λ s. s.full) bool_eq-equiv) (and_equiv (on_equiv (λ s. s.truth) bool_eq-equiv) (on_equiv (λ s. s.int) int_eq_equiv)))
+    and_equiv (on_equiv (λ s. s.kind) nat_eq_equiv) (and_equiv (on_equiv (λ s. s.full) bool_eq_equiv) (and_equiv (on_equiv (λ s. s.truth) bool_eq_equiv)
+    (and_equiv (on_equiv (λ s. s.int) int_eq_equiv) (and_equiv (on_equiv (λ s. s.decimal) decimal_same-equiv) (and_equiv (on_equiv (λ s. s.timestamp) timestamp_same-equiv)
+    (and_equiv (on_equiv (λ s. s.symbol) symbol_same-equiv) (on_equiv (λ s. s.text) nat_list_eq_equiv)))))))
+
+pub field_same-equiv : (E : Value → Value → Bool) → IsEquivalence E → IsEquivalence (field_same E)
+field_same-equiv E e = and_equiv (on_equiv (λ f. f.name) symbol_same-equiv) (on_equiv (λ f. f.value) e)
+
+pub fields_same-equiv : (E : Value → Value → Bool) → IsEquivalence E → IsEquivalence (fields_same E)
+fields_same-equiv E e = alike_equiv (field_same E) (field_same-equiv E e)
 
 -- one level, where the test of the values inside is an equivalence
 module _ (E : Value → Value → Bool) (e : IsEquivalence E) where
   layer_same-equiv : IsEquivalence (layer_same E)
-  layer_same-equiv = and_equiv (on_equiv scalar scalar_same-equiv) (on_equiv items (lists_equiv e))
+  layer_same-equiv = and_equiv (on_equiv scalar scalar_same-equiv) (and_equiv (on_equiv items (lists_equiv e)) (on_equiv fields (fields_same-equiv E e)))
 
   value_same-equiv : IsEquivalence (value_same E)
   value_same-equiv = and_equiv (on_equiv (λ v. v.annotations) (lists_equiv symbol_same-equiv)) (on_equiv (λ v. out-Payload v.payload) layer_same-equiv)

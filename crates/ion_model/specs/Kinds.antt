@@ -1,5 +1,6 @@
 -- The words and the ranks of the thirteen kinds, and the kind of a value.
-use Rattle.std.specs.Prelude.{ℕ, List, codes}
+use Rattle.std.specs.Prelude.{ℕ, List, [], ◌∷◌, Option, Some, None, Bool, true, false, ◌&&◌, codes}
+use Rattle.std.specs.Str.{bytes_eq}
 use Rattle.ion_model.specs.declared.kind.Kind.{Kind}
 use Rattle.ion_model.specs.declared.kind.Kind.TheVariants as kinds
 use Rattle.ion_model.specs.declared.value.Value.{Value}
@@ -44,8 +45,34 @@ abbrev pub layer_kind : Layer → Kind
 layer_kind (Payload-F.Null k) = k
 layer_kind (Payload-F.Truth b) = kinds.Bool
 layer_kind (Payload-F.Int z) = kinds.Int
+layer_kind (Payload-F.Decimal d) = kinds.Decimal
+layer_kind (Payload-F.Timestamp t) = kinds.Timestamp
+layer_kind (Payload-F.Symbol s) = kinds.Symbol
+layer_kind (Payload-F.Str s) = kinds.Str
+layer_kind (Payload-F.Clob s) = kinds.Clob
+layer_kind (Payload-F.Blob s) = kinds.Blob
 layer_kind (Payload-F.List vs) = kinds.List
+layer_kind (Payload-F.Sexp vs) = kinds.Sexp
+layer_kind (Payload-F.Fields fs) = kinds.Fields
 
 -- the kind of a value; a null has the kind that it is the null of
 abbrev pub kind_of : Value → Kind
 kind_of v = layer_kind (out-Payload v.payload)
+
+abbrev pub is_fields : Kind → Bool
+is_fields kinds.Fields = true
+is_fields _ = false
+
+-- whether a symbol is the name of local symbol tables
+abbrev pub names_table : Option (List ℕ) → Bool
+names_table None = false
+names_table (Some text) = bytes_eq text (codes "$ion_symbol_table")
+
+-- the first annotation names tables, and the kind is that of structs
+abbrev pub is_table_of : List (Option (List ℕ)) → Kind → Bool
+is_table_of [] k = false
+is_table_of (s ∷ ss) k = names_table s && is_fields k
+
+-- whether a value is a local symbol table where it stands at the top level
+abbrev pub is_table : Value → Bool
+is_table v = is_table_of v.annotations (kind_of v)

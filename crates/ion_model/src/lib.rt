@@ -2,22 +2,39 @@
 //! reasons for which octets are refused.
 #![tactic(auto)]
 
+pub mod calendar;
+mod compare;
+mod copy;
+mod decimal;
+mod equivalence;
 mod kind;
 pub mod laws;
 mod measures;
+mod normal;
 mod refusal;
 mod same;
 mod sequence;
 mod symbol;
 #[cfg(test)]
 mod tests;
+mod text;
+pub mod time_laws;
+#[cfg(test)]
+mod time_tests;
+mod timestamp;
 mod value;
 mod whole;
 
+pub use compare::order;
+pub use decimal::Decimal;
+pub use equivalence::equivalent;
 pub use kind::Kind;
+pub use normal::normalise;
 pub use refusal::{Reason, Refusal};
 pub use same::same_slow;
 pub use sequence::Sequence;
 pub use symbol::Symbol;
-pub use value::{Payload, Value};
+pub use text::{Bytes, Text};
+pub use timestamp::{Local, Precision, Timestamp};
+pub use value::{Field, Payload, Value};
 pub use whole::Whole;

@@ -1,10 +1,11 @@
 //! Symbols: texts that name things, of which some are unknown.
 ghost use Rattle.std.specs.Prelude.{◌≡◌, Some, None, MatchResult, option_map};
 ghost use Rattle.ion_model.specs.declared.refusal.Reason.TheVariants as reasons;
-ghost use Rattle.ion_model.specs.Same.{symbol_same};
+ghost use Rattle.ion_model.specs.Symbols.{symbol_same, symbol_cmp};
 
 use crate::refusal::Reason;
 use std::alloc::Global;
+use std::cmp::Ordering;
 use std::marker::Model;
 use std::rc::RcStr;
 
@@ -71,6 +72,18 @@ impl Symbol {
             (None, None) => true,
             (Some(text), Some(other)) => text == other,
             _ => false,
+        }
+    }
+
+    /// The order of symbols: the unknown one first, then by the octets of the texts. Takes no memory.
+    pub fn order(&self, other: &Symbol) -> Ordering
+        ensures { result ≡ symbol_cmp self.now other.now }
+    {
+        match (self.text(), other.text()) {
+            (None, None) => Ordering::Equal,
+            (None, Some(_)) => Ordering::Less,
+            (Some(_), None) => Ordering::Greater,
+            (Some(text), Some(other)) => text.cmp(other),
         }
     }
 }

@@ -1,10 +1,13 @@
 //! Values, as the Ion data model has them.
 ghost use Rattle.std.specs.Prelude.{◌≡◌};
-ghost use Rattle.ion_model.specs.Kinds.{kind_of};
+ghost use Rattle.ion_model.specs.Kinds.{kind_of, names_table, is_table};
 
+use crate::decimal::Decimal;
 use crate::kind::Kind;
 use crate::sequence::Sequence;
 use crate::symbol::Symbol;
+use crate::text::{Bytes, Text};
+use crate::timestamp::Timestamp;
 use crate::whole::Whole;
 
 /// A value (Ion 1.0, "The Ion Data Model").
@@ -24,8 +27,26 @@ pub enum Payload {
     Null(Kind),
     Truth(bool),
     Int(Whole),
+    Decimal(Decimal),
+    Timestamp(Timestamp),
+    Symbol(Symbol),
+    Str(Text),
+    Clob(Bytes),
+    Blob(Bytes),
     /// The items in order.
     List(Sequence<Value>),
+    /// The items in order.
+    Sexp(Sequence<Value>),
+    /// The fields of a struct, in the order read; a name may repeat.
+    Fields(Sequence<Field>),
+}
+
+/// A field of a struct.
+#[cycle(value)]
+#[derive(Debug, Drop)]
+pub struct Field {
+    pub name: Symbol,
+    pub value: Value,
 }
 
 impl Value {
@@ -37,7 +58,36 @@ impl Value {
             Payload::Null(kind) => *kind,
             Payload::Truth(_) => Kind::Bool,
             Payload::Int(_) => Kind::Int,
+            Payload::Decimal(_) => Kind::Decimal,
+            Payload::Timestamp(_) => Kind::Timestamp,
+            Payload::Symbol(_) => Kind::Symbol,
+            Payload::Str(_) => Kind::Str,
+            Payload::Clob(_) => Kind::Clob,
+            Payload::Blob(_) => Kind::Blob,
             Payload::List(_) => Kind::List,
+            Payload::Sexp(_) => Kind::Sexp,
+            Payload::Fields(_) => Kind::Fields,
         }
+    }
+
+    /// Whether the value is a local symbol table where it stands at the top level: its first
+    /// annotation has the text `$ion_symbol_table`, and its kind is that of structs, null or not
+    /// (Ion 1.0, "Symbols", "Local Symbol Tables"). Takes no memory.
+    pub fn is_table(&self) -> bool
+        ensures { result ≡ is_table self.now }
+    {
+        match self.annotations.as_slice().first() {
+            None => false,
+            Some(symbol) => names_table(symbol) && self.kind() == Kind::Fields,
+        }
+    }
+}
+
+fn names_table(symbol: &Symbol) -> bool
+    ensures { result ≡ names_table symbol.now }
+{
+    match symbol.text() {
+        None => false,
+        Some(text) => text == "$ion_symbol_table",
     }
 }

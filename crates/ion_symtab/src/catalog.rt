@@ -1,14 +1,107 @@
-//! The shared symbol tables that documents may import (Ion 1.0, "Symbols").
-use std::alloc::Global;
+//! The shared symbol tables that documents may import (Ion 1.0, "Symbols", "Shared Symbol Tables").
+ghost use Rattle.std.specs.Prelude.{◌≡◌, ◌⊎◌, [], ◌∷◌, ◌++◌, IfErr, OnOk, OnErr, IsSome, is_some, Option, option_copied};
+ghost use Rattle.ion_model.specs.declared.refusal.Reason.TheVariants as reasons;
+ghost use Rattle.ion_symtab.specs.Tables.{find, find_best, newest, newer};
 
-/// The shared symbol tables at hand. Documents that import any are not read yet, so it holds none,
-/// and any two catalogs are equal.
+use crate::shared_table::SharedTable;
+use ion_model::Reason;
+use std::alloc::Global;
+use std::marker::Model;
+
+/// Shared symbol tables, of which no two have the same name and version. Contracts see the tables in
+/// the order in which they were added.
 #[derive(Drop, Debug)]
-pub struct Catalog {}
+pub struct Catalog {
+    tables: Vec<SharedTable>,
+}
+
+impl Model for Catalog {
+    ghost use Rattle.std.specs.Prelude.{List};
+    ghost use Rattle.ion_symtab.specs.Tables.{Table};
+
+    ghost Value = { List Table };
+
+    ghost view = { λ c. c.tables.items };
+}
 
 impl Catalog {
     /// A catalog of no tables; takes no memory.
-    pub fn new(_alloc: Global) -> Catalog {
-        Catalog {}
+    pub fn new(alloc: Global) -> Catalog
+        ensures { result ≡ [] }
+    {
+        Catalog {
+            tables: Vec::new(alloc),
+        }
+    }
+
+    /// Adds a table. `DuplicateTable` where one of its name and version is there already. A refusal
+    /// hands the table back and changes nothing.
+    pub fn add(&mut self, table: SharedTable) -> Result<(), (SharedTable, Reason)>
+        ensures ok { OnOk result ((find self.old table.name table.version ≡ Option.None) × (self.new ≡ self.old ++ table ∷ [])) }
+        ensures err { OnErr result (self.new ≡ self.old) }
+        ensures handed_back { IfErr result (λ e. e.0 ≡ table) }
+        ensures refused { IfErr result (λ e. (e.1 ≡ reasons.Memory) × (find self.old table.name table.version ≡ Option.None)
+            ⊎ (e.1 ≡ reasons.DuplicateTable) × IsSome (find self.old table.name table.version)) }
+    {
+        if self.find(table.name(), table.version()).is_some() {
+            return Err((table, Reason::DuplicateTable));
+        }
+        match self.tables.push(table) {
+            Ok(()) => Ok(()),
+            Err(failed) => Err((failed.value, Reason::Memory)),
+        }
+    }
+
+    /// The table of this name and version. Takes no memory.
+    pub fn find(&self, name: &str, version: u32) -> Option<&SharedTable>
+        ensures { option_copied result ≡ find self.now name.now version }
+    {
+        self.exact(name, version as u128)
+    }
+
+    /// The table of this name and version, else that of the name with the greatest version. Takes no
+    /// memory.
+    pub fn find_best(&self, name: &str, version: u32) -> Option<&SharedTable>
+        ensures { option_copied result ≡ find_best self.now name.now version }
+    {
+        match self.find(name, version) {
+            Some(table) => Some(table),
+            None => self.newest(name),
+        }
+    }
+
+    /// The table of this name and version, which may be above all versions of tables.
+    pub(crate) fn exact(&self, name: &str, version: u128) -> Option<&SharedTable>
+        ensures { option_copied result ≡ find self.now name.now version }
+    {
+        for table in &self.tables {
+            if table.name() == name && table.version() as u128 == version {
+                return Some(table);
+            }
+        }
+        None
+    }
+
+    /// The table of this name with the greatest version.
+    pub(crate) fn newest(&self, name: &str) -> Option<&SharedTable>
+        ensures { option_copied result ≡ newest self.now name.now }
+    {
+        let mut best: Option<&SharedTable> = None;
+        for table in &self.tables {
+            if table.name() == name {
+                best = newer(best, table);
+            }
+        }
+        best
+    }
+}
+
+// The one of the greater version; the first where both have one version.
+fn newer<'t>(best: Option<&'t SharedTable>, table: &'t SharedTable) -> Option<&'t SharedTable>
+    ensures { option_copied result ≡ newer (option_copied best.entry) (Option.Some table.now) }
+{
+    match best {
+        Some(best) if table.version() <= best.version() => Some(best),
+        _ => Some(table),
     }
 }

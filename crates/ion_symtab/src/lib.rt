@@ -3,19 +3,28 @@
 #![tactic(auto)]
 
 mod catalog;
+mod context;
 mod fault;
+mod fields;
+mod import;
 mod inlet;
 mod items;
+pub mod laws;
 mod limits;
 mod outlet;
+mod segments;
+mod shared_table;
+mod symbols;
 #[cfg(test)]
 mod tests;
 mod writing;
 
 pub use catalog::Catalog;
+pub use context::Context;
 pub use fault::Fault;
 pub use inlet::{Failed, FromRead, Inlet};
 pub use items::{Items, Step};
 pub use limits::Limits;
 pub use outlet::{Outlet, ToWrite};
+pub use shared_table::SharedTable;
 pub use writing::{flushed, write_whole};

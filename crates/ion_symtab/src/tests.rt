@@ -1,8 +1,7 @@
 //! Devices that fail once and then would go on, and the messages of faults.
+mod tables;
 
-use crate::{
-    Catalog, Failed, Fault, FromRead, Inlet, Limits, Outlet, ToWrite, flushed, write_whole,
-};
+use crate::{Failed, Fault, FromRead, Inlet, Limits, Outlet, ToWrite, flushed, write_whole};
 use std::io;
 use std::io::{Read, Write};
 use std::test::Fail;
@@ -192,9 +191,4 @@ fn messages(rt: HostRuntime) -> Result<(), Fail> {
         assert_eq!(rt; message.as_str(), word);
     }
     Ok(())
-}
-
-#[test]
-fn catalog(rt: HostRuntime) {
-    drop(Catalog::new(rt.alloc()));
 }

@@ -46,10 +46,10 @@ returns-then-not-is_open-2 g c =
     let verdict = closed_verdict g.L.Inlet.tells g.I.Items.stands g.I.Items.catalog g.I.Items.limits g.I.Items.denotes g.I.Items.pieces
     g.R.Inlet.tells g.J.Items.stands g.J.Items.catalog g.J.Items.limits g.J.Items.denotes g.J.Items.pieces
     (g.I.Items.catalog c.args.left_items) (g.J.Items.catalog c.args.right_items) (g.I.Items.limits c.args.left_items) (g.J.Items.limits c.args.right_items)
-    c.args.left.now c.advance.new.reader c.args.right.now c.advance-in-loop-right_place.new.reader c.in_ok-left_now.left_now c.in_ok-right_now.right_now c.meet-course.result
+    c.args.left.now c.advance.new.reader c.args.right.now c.advance-in-loop-right_place.new.reader c.in_ok-left_now.left_now c.in_ok-right_now.right_now c.in-Ok.course
     (stood.0 ++ option_to_list c.in_ok-left_now.left_value) (stood.1 ++ option_to_list c.in_ok-right_now.right_value)
     (l.gives _ _ _ stood.0 stood.2) (r.gives _ _ _ stood.1 stood.3)
-    (rw c.meet-course.ensures (meets_more c.loop-right_place.course c.loop-right_place.left_place c.in_ok-left_now.left_now c.loop-right_place.right_place c.in_ok-right_now.right_now stood.0 stood.1 c.in_ok-left_now.left_value c.in_ok-right_now.right_value stood.4 l.closed r.closed l.none r.none))
+    (rw c.in-Ok.ensures (meets_more c.loop-right_place.course c.loop-right_place.left_place c.in_ok-left_now.left_now c.loop-right_place.right_place c.in_ok-right_now.right_now stood.0 stood.1 c.in_ok-left_now.left_value c.in_ok-right_now.right_value stood.4 l.closed r.closed l.none r.none))
     c.in_default.not-Refused (false_case c.is_open.result _ _ c.is_open.ensures (search rules)) (false_case c.is_open-then-not-is_open.result _ _ c.is_open-then-not-is_open.ensures (search rules)) in
     record { verdict = rw c.verdict.ensures verdict; cause = tt }
 
@@ -67,7 +67,7 @@ loop-right_place-preserved g c =
       right_ready = r.ready;
       left_within = l.within c.args.left.now c.args.reads i.left_within;
       right_within = r.within c.args.right.now c.args.reads i.right_within;
-      bound = rw c.meet-course.ensures (omega (arith, bound, less, count));
+      bound = rw c.in-Ok.ensures (omega (arith, bound, less, count));
       open_still = elim c.else-not-is_open.branch [
         | else-not-is_open-via-then-not-is_open+else-not-is_open-2 w ↦ inr (true_case w.is_open-then-not-is_open.result _ _ w.is_open-then-not-is_open.ensures (search rules))
         | else-not-is_open-via-else-not-is_open w ↦ inl (true_case c.is_open.result _ _ c.is_open.ensures (search rules))
@@ -77,6 +77,6 @@ loop-right_place-preserved g c =
         stood.1 ++ option_to_list c.in_ok-right_now.right_value,
         l.gives _ _ _ stood.0 stood.2,
         r.gives _ _ _ stood.1 stood.3,
-        rw c.meet-course.ensures (meets_more c.loop-right_place.course c.loop-right_place.left_place c.in_ok-left_now.left_now c.loop-right_place.right_place c.in_ok-right_now.right_now stood.0 stood.1 c.in_ok-left_now.left_value c.in_ok-right_now.right_value stood.4 l.closed r.closed l.none r.none),
+        rw c.in-Ok.ensures (meets_more c.loop-right_place.course c.loop-right_place.left_place c.in_ok-left_now.left_now c.loop-right_place.right_place c.in_ok-right_now.right_now stood.0 stood.1 c.in_ok-left_now.left_value c.in_ok-right_now.right_value stood.4 l.closed r.closed l.none r.none),
       );
     }

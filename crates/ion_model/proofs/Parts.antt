@@ -1,0 +1,272 @@
+-- Parts of a payload that agree are equal, and so are parts that tie in the order.
+use Rattle.std.proofs.Common.{◌≡◌, ℕ, ℤ, ◌+◌, ◌<◌, zero, suc, length, get_or, List, [], ◌∷◌, Bool, true, false, ◌&&◌, Ordering, Less, Equal, Greater, Option, Some, None, nat_eq, refl, arith, ap, ◌∙◌, sym, subst, true≢false}
+use Rattle.std.specs.Bool.{beq}
+use Rattle.std.specs.Cmp.{signed_Decides, booleans_Decides}
+use Rattle.std.specs.Cmp.Lexicographic.{slice_cmp}
+use Rattle.std.specs.Option.{option_eq, option_cmp}
+use Rattle.std.specs.Ordering.{ordering_then, is_eq, nat_cmp, int_cmp, int_eq, bool_cmp}
+use Rattle.std.proofs.lemmas.Bool.{eqb-true}
+use Rattle.std.proofs.lemmas.Bool.Decides.{nat_tests}
+use Rattle.std.proofs.lemmas.Cmp.{tied_itself}
+use Rattle.std.proofs.lemmas.Slice.Eq.{bytes_eq-Decides}
+use lib.Pointwise.{pointwise}
+use Rattle.ion_model.specs.declared.timestamp.Local.{Local}
+use Rattle.ion_model.specs.declared.timestamp.Precision.{Precision}
+use Rattle.ion_model.specs.declared.timestamp.Precision.TheVariants as precisions
+use Rattle.ion_model.specs.Counts.{both, first, second}
+use Rattle.ion_model.specs.Decimals.{DecimalParts, decimal_same, decimal_cmp}
+use Rattle.ion_model.specs.EquivLaws.{scalar_same-equiv, symbol_same-equiv}
+use Rattle.ion_model.specs.Order.{scalar_cmp}
+use Rattle.ion_model.specs.Same.{Scalar, scalar_same}
+use Rattle.ion_model.specs.Symbols.{text_same, symbol_same, text_cmp, symbol_cmp}
+use Rattle.ion_model.specs.Timestamps.{TimestampParts, precision_rank, local_same, timestamp_same, date_cmp, time_cmp, timestamp_cmp}
+use Rattle.ion_model.proofs.OrderTotal.{scalar_cmp-total, symbol_cmp-total}
+
+-- a chain of two ties where both do
+pub then_tie : (a b : Ordering) → a ≡ Equal → b ≡ Equal → ordering_then a b ≡ Equal
+then_tie Less b p q = cc
+then_tie Equal b p q = q
+then_tie Greater b p q = cc
+
+pub then_first : (a b : Ordering) → ordering_then a b ≡ Equal → a ≡ Equal
+then_first Less b p = cc
+then_first Equal b p = refl
+then_first Greater b p = cc
+
+pub then_second : (a b : Ordering) → ordering_then a b ≡ Equal → b ≡ Equal
+then_second Less b p = cc
+then_second Equal b p = p
+then_second Greater b p = cc
+
+pub tie_from_is_eq : (o : Ordering) → is_eq o ≡ true → o ≡ Equal
+tie_from_is_eq Less p = absurd (true≢false (sym p))
+tie_from_is_eq Equal p = refl
+tie_from_is_eq Greater p = absurd (true≢false (sym p))
+
+pub nat_back : (x y : ℕ) → nat_cmp x y ≡ Equal → nat_eq x y ≡ true
+nat_back x y h = grind (arith, nat_tests)
+
+pub nat_is : (x y : ℕ) → nat_cmp x y ≡ Equal → x ≡ y
+nat_is x y h = eqb-true x y (nat_back x y h)
+
+pub bool_is : (a b : Bool) → bool_cmp a b ≡ Equal → a ≡ b
+bool_is true true h = refl
+bool_is true false h = cc
+bool_is false true h = cc
+bool_is false false h = refl
+
+bool_from : (a b : Bool) → beq a b ≡ true → a ≡ b
+bool_from a b h = (booleans_Decides a b).0 h
+
+int_from : (y z : ℤ) → int_eq y z ≡ true → y ≡ z
+int_from y z h = (signed_Decides y z).0 h
+
+int_is : (y z : ℤ) → int_cmp y z ≡ Equal → y ≡ z
+int_is y z h = int_from y z (ap is_eq h)
+
+text_back : (s t : List ℕ) → text_cmp s t ≡ Equal → text_same s t ≡ true
+text_back [] [] h = refl
+text_back [] (y ∷ ys) h = cc
+text_back (x ∷ xs) [] h = cc
+text_back (x ∷ xs) (y ∷ ys) h = both _ _ (nat_back x y (then_first _ _ h)) (text_back xs ys (then_second (nat_cmp x y) _ h))
+
+text_from : (s t : List ℕ) → text_same s t ≡ true → s ≡ t
+text_from s t h = (bytes_eq-Decides s t).0 h
+
+text_is : (s t : List ℕ) → text_cmp s t ≡ Equal → s ≡ t
+text_is s t h = text_from s t (text_back s t h)
+
+pub symbol_from : (s t : Option (List ℕ)) → symbol_same s t ≡ true → s ≡ t
+symbol_from None None h = refl
+symbol_from None (Some t) h = cc
+symbol_from (Some s) None h = cc
+symbol_from (Some s) (Some t) h = ap Some (text_from s t h)
+
+pub symbol_is : (s t : Option (List ℕ)) → symbol_cmp s t ≡ Equal → s ≡ t
+symbol_is None None h = refl
+symbol_is None (Some t) h = cc
+symbol_is (Some s) None h = cc
+symbol_is (Some s) (Some t) h = ap Some (text_is s t h)
+
+offset_from : (s t : Option ℤ) → option_eq int_eq s t ≡ true → s ≡ t
+offset_from None None h = refl
+offset_from None (Some z) h = cc
+offset_from (Some y) None h = cc
+offset_from (Some y) (Some z) h = ap Some (int_from y z h)
+
+offset_is : (s t : Option ℤ) → option_cmp int_cmp s t ≡ Equal → s ≡ t
+offset_is None None h = refl
+offset_is None (Some z) h = cc
+offset_is (Some y) None h = cc
+offset_is (Some y) (Some z) h = ap Some (int_is y z h)
+
+-- the precision of a rank
+precision_at : ℕ → Precision
+precision_at zero = precisions.Year
+precision_at (suc zero) = precisions.Month
+precision_at (suc (suc zero)) = precisions.Day
+precision_at (suc (suc (suc zero))) = precisions.Minute
+precision_at (suc (suc (suc (suc zero)))) = precisions.Second
+precision_at (suc (suc (suc (suc (suc digits))))) = precisions.Fraction digits
+
+precision_at-rank : (p : Precision) → precision_at (precision_rank p) ≡ p
+unfolding precision_at
+precision_at-rank precisions.Year = refl
+precision_at-rank precisions.Month = refl
+precision_at-rank precisions.Day = refl
+precision_at-rank precisions.Minute = refl
+precision_at-rank precisions.Second = refl
+precision_at-rank (precisions.Fraction digits) = let e : 5 + digits ≡ suc (suc (suc (suc (suc digits)))) = omega arith in ap precision_at e
+
+precision_from : (p q : Precision) → precision_rank p ≡ precision_rank q → p ≡ q
+precision_from p q h = sym (precision_at-rank p) ∙ ap precision_at h ∙ precision_at-rank q
+
+decimal_from : (d e : DecimalParts) → decimal_same d e ≡ true → d ≡ e
+decimal_from d e h =
+    let a = beq d.negative e.negative in
+    let b = nat_eq d.magnitude e.magnitude in
+    let ab = first (a && b) (int_eq d.exponent e.exponent) h in
+    let p = bool_from _ _ (first a b ab) in
+    let q = eqb-true d.magnitude e.magnitude (second a b ab) in
+    let r = int_from d.exponent e.exponent (second (a && b) _ h) in
+    λ i. record { negative = p i; magnitude = q i; exponent = r i }
+
+decimal_is : (d e : DecimalParts) → decimal_cmp d e ≡ Equal → d ≡ e
+decimal_is d e h =
+    let a = int_cmp d.exponent e.exponent in
+    let b = bool_cmp e.negative d.negative in
+    let c = nat_cmp d.magnitude e.magnitude in
+    let ab = then_first (ordering_then a b) c h in
+    let p = sym (bool_is e.negative d.negative (then_second a b ab)) in
+    let q = nat_is d.magnitude e.magnitude (then_second (ordering_then a b) c h) in
+    let r = int_is d.exponent e.exponent (then_first a b ab) in
+    λ i. record { negative = p i; magnitude = q i; exponent = r i }
+
+local_from : (l m : Local) → local_same l m ≡ true → l ≡ m
+local_from l m t =
+    let a = nat_eq l.year m.year in
+    let b = nat_eq l.month m.month in
+    let c = nat_eq l.day m.day in
+    let d = nat_eq l.hour m.hour in
+    let e = nat_eq l.minute m.minute in
+    let f = nat_eq l.second m.second in
+    let g = nat_eq l.fraction m.fraction in
+    let to_f = first (a && b && c && d && e && f) g t in
+    let to_e = first (a && b && c && d && e) f to_f in
+    let to_d = first (a && b && c && d) e to_e in
+    let to_c = first (a && b && c) d to_d in
+    let to_b = first (a && b) c to_c in
+    let year = eqb-true l.year m.year (first a b to_b) in
+    let month = eqb-true l.month m.month (second a b to_b) in
+    let day = eqb-true l.day m.day (second (a && b) c to_c) in
+    let hour = eqb-true l.hour m.hour (second (a && b && c) d to_d) in
+    let minute = eqb-true l.minute m.minute (second (a && b && c && d) e to_e) in
+    let seconds = eqb-true l.second m.second (second (a && b && c && d && e) f to_f) in
+    let fraction = eqb-true l.fraction m.fraction (second (a && b && c && d && e && f) g t) in
+    λ i. record { year = year i; month = month i; day = day i; hour = hour i; minute = minute i; second = seconds i; fraction = fraction i }
+
+local_is : (l m : Local) → date_cmp l m ≡ Equal → time_cmp l m ≡ Equal → l ≡ m
+local_is l m s t =
+    let a = nat_cmp l.year m.year in
+    let b = nat_cmp l.month m.month in
+    let d = nat_cmp l.hour m.hour in
+    let e = nat_cmp l.minute m.minute in
+    let f = nat_cmp l.second m.second in
+    let to_b = then_first (ordering_then a b) (nat_cmp l.day m.day) s in
+    let to_f = then_first (ordering_then (ordering_then d e) f) (nat_cmp l.fraction m.fraction) t in
+    let to_e = then_first (ordering_then d e) f to_f in
+    let year = nat_is l.year m.year (then_first a b to_b) in
+    let month = nat_is l.month m.month (then_second a b to_b) in
+    let day = nat_is l.day m.day (then_second (ordering_then a b) _ s) in
+    let hour = nat_is l.hour m.hour (then_first d e to_e) in
+    let minute = nat_is l.minute m.minute (then_second d e to_e) in
+    let seconds = nat_is l.second m.second (then_second (ordering_then d e) f to_f) in
+    let fraction = nat_is l.fraction m.fraction (then_second (ordering_then (ordering_then d e) f) _ t) in
+    λ i. record { year = year i; month = month i; day = day i; hour = hour i; minute = minute i; second = seconds i; fraction = fraction i }
+
+timestamp_from : (s t : TimestampParts) → timestamp_same s t ≡ true → s ≡ t
+timestamp_from s t h =
+    let a = nat_eq (precision_rank s.precision) (precision_rank t.precision) in
+    let b = option_eq int_eq s.offset t.offset in
+    let ab = first (a && b) (local_same s.local t.local) h in
+    let p = precision_from s.precision t.precision (eqb-true (precision_rank s.precision) (precision_rank t.precision) (first a b ab)) in
+    let q = offset_from s.offset t.offset (second a b ab) in
+    let r = local_from s.local t.local (second (a && b) _ h) in
+    λ i. record { local = r i; precision = p i; offset = q i }
+
+timestamp_is : (s t : TimestampParts) → timestamp_cmp s t ≡ Equal → s ≡ t
+timestamp_is s t h =
+    let a = nat_cmp (precision_rank s.precision) (precision_rank t.precision) in
+    let b = option_cmp int_cmp s.offset t.offset in
+    let c = date_cmp s.local t.local in
+    let d = time_cmp s.local t.local in
+    let abc = then_first (ordering_then (ordering_then a b) c) d h in
+    let ab = then_first (ordering_then a b) c abc in
+    let p = precision_from s.precision t.precision (nat_is (precision_rank s.precision) (precision_rank t.precision) (then_first a b ab)) in
+    let q = offset_is s.offset t.offset (then_second a b ab) in
+    let r = local_is s.local t.local (then_second (ordering_then a b) c abc) (then_second (ordering_then (ordering_then a b) c) d h) in
+    λ i. record { local = r i; precision = p i; offset = q i }
+
+pub scalar_from : (s t : Scalar) → scalar_same s t ≡ true → s ≡ t
+scalar_from s t h =
+    let a = second (nat_eq s.kind t.kind) _ h in
+    let b = second (beq s.full t.full) _ a in
+    let c = second (beq s.truth t.truth) _ b in
+    let d = second (int_eq s.int t.int) _ c in
+    let e = second (decimal_same s.decimal t.decimal) _ d in
+    let f = second (timestamp_same s.timestamp t.timestamp) _ e in
+    let kind = eqb-true s.kind t.kind (first (nat_eq s.kind t.kind) _ h) in
+    let full = bool_from s.full t.full (first (beq s.full t.full) _ a) in
+    let truth = bool_from s.truth t.truth (first (beq s.truth t.truth) _ b) in
+    let int = int_from s.int t.int (first (int_eq s.int t.int) _ c) in
+    let decimal = decimal_from s.decimal t.decimal (first (decimal_same s.decimal t.decimal) _ d) in
+    let timestamp = timestamp_from s.timestamp t.timestamp (first (timestamp_same s.timestamp t.timestamp) _ e) in
+    let symbol = symbol_from s.symbol t.symbol (first (symbol_same s.symbol t.symbol) _ f) in
+    let text = text_from s.text t.text (second (symbol_same s.symbol t.symbol) _ f) in
+    λ i. record { kind = kind i; full = full i; truth = truth i; int = int i; decimal = decimal i; timestamp = timestamp i; symbol = symbol i; text = text i }
+
+pub scalar_is : (s t : Scalar) → scalar_cmp s t ≡ Equal → s ≡ t
+scalar_is s t h =
+    let a = then_second (nat_cmp s.kind t.kind) _ h in
+    let b = then_second (bool_cmp s.full t.full) _ a in
+    let c = then_second (bool_cmp s.truth t.truth) _ b in
+    let d = then_second (int_cmp s.int t.int) _ c in
+    let e = then_second (decimal_cmp s.decimal t.decimal) _ d in
+    let f = then_second (timestamp_cmp s.timestamp t.timestamp) _ e in
+    let kind = nat_is s.kind t.kind (then_first (nat_cmp s.kind t.kind) _ h) in
+    let full = bool_is s.full t.full (then_first (bool_cmp s.full t.full) _ a) in
+    let truth = bool_is s.truth t.truth (then_first (bool_cmp s.truth t.truth) _ b) in
+    let int = int_is s.int t.int (then_first (int_cmp s.int t.int) _ c) in
+    let decimal = decimal_is s.decimal t.decimal (then_first (decimal_cmp s.decimal t.decimal) _ d) in
+    let timestamp = timestamp_is s.timestamp t.timestamp (then_first (timestamp_cmp s.timestamp t.timestamp) _ e) in
+    let symbol = symbol_is s.symbol t.symbol (then_first (symbol_cmp s.symbol t.symbol) _ f) in
+    let text = text_is s.text t.text (then_second (symbol_cmp s.symbol t.symbol) _ f) in
+    λ i. record { kind = kind i; full = full i; truth = truth i; int = int i; decimal = decimal i; timestamp = timestamp i; symbol = symbol i; text = text i }
+
+pub symbol_tie : (s t : Option (List ℕ)) → symbol_same s t ≡ true → symbol_cmp s t ≡ Equal
+symbol_tie s t h = rw (symbol_from s t h) (tied_itself symbol_cmp-total t)
+
+pub symbol_back : (s t : Option (List ℕ)) → symbol_cmp s t ≡ Equal → symbol_same s t ≡ true
+symbol_back s t h = rw (symbol_is s t h) (symbol_same-equiv.refl t)
+
+pub scalar_tie : (s t : Scalar) → scalar_same s t ≡ true → scalar_cmp s t ≡ Equal
+scalar_tie s t h = subst (λ x. scalar_cmp x t ≡ Equal) (sym (scalar_from s t h)) (tied_itself scalar_cmp-total t)
+
+pub scalar_back : (s t : Scalar) → scalar_cmp s t ≡ Equal → scalar_same s t ≡ true
+scalar_back s t h = subst (λ x. scalar_same x t ≡ true) (sym (scalar_is s t h)) (scalar_same-equiv.refl t)
+
+-- place by place
+pub pointwise_tie : {X : Type 0} (E : X → X → Bool) (R : X → X → Ordering) (xs ys : List X)
+    → ((k : ℕ) (d : X) → k < length xs → k < length ys → E (get_or xs k d) (get_or ys k d) ≡ true → R (get_or xs k d) (get_or ys k d) ≡ Equal)
+    → pointwise E xs ys ≡ true → slice_cmp R xs ys ≡ Equal
+pointwise_tie E R [] [] each h = refl
+pointwise_tie E R [] (y ∷ ys) each h = absurd (true≢false (sym h))
+pointwise_tie E R (x ∷ xs) [] each h = absurd (true≢false (sym h))
+pointwise_tie E R (x ∷ xs) (y ∷ ys) each h =
+    then_tie _ _ (each 0 x (omega arith) (omega arith) (first _ _ h)) (pointwise_tie E R xs ys (λ k d p q s. each (suc k) d (omega arith) (omega arith) s) (second (E x y) _ h))
+
+pub pointwise_back : {X : Type 0} (E : X → X → Bool) (R : X → X → Ordering) → ((x y : X) → R x y ≡ Equal → E x y ≡ true) → (xs ys : List X) → slice_cmp R xs ys ≡ Equal → pointwise E xs ys ≡ true
+pointwise_back E R each [] [] h = refl
+pointwise_back E R each [] (y ∷ ys) h = cc
+pointwise_back E R each (x ∷ xs) [] h = cc
+pointwise_back E R each (x ∷ xs) (y ∷ ys) h = both _ _ (each x y (then_first _ _ h)) (pointwise_back E R each xs ys (then_second (R x y) _ h))

@@ -1,0 +1,22 @@
+use Rattle.std.proofs.Common.{◌∙◌, arith, rules}
+use Rattle.ion_model.specs.Order.{order, field_cmp}
+use Rattle.ion_model.specs.declared.value.Payload.TheViews.{out-Payload}
+use Rattle.ion_model.proofs.OrderLaws.{order-is, prefix_first}
+use Rattle.ion_model.proofs.Heads.{heads_decide}
+use Rattle.ion_model.proofs.compare.+order.Goals as goal
+
+pub order_fields-returns-then-a-b : goal.order_fields-returns-then-a-b
+order_fields-returns-then-a-b t c = prefix_first (field_cmp order) _ _ _ c.loop-i-test.false c.loop-i.auto.i-end c.if-a-b.true ∙ c.loop-i.invariant.1
+
+pub order_items-returns-then-a-b : goal.order_items-returns-then-a-b
+order_items-returns-then-a-b t c = prefix_first order _ _ _ c.loop-i-test.false c.loop-i.auto.i-end c.if-a-b.true ∙ c.loop-i.invariant.1
+
+pub order_value-returns-in-Equal : goal.order_value-returns-in-Equal
+order_value-returns-in-Equal t c = rw (order-is c.args.a.now c.args.b.now) (grind arith)
+
+pub order_value-returns-in_default : goal.order_value-returns-in_default
+order_value-returns-in_default t c = rw (order-is c.args.a.now c.args.b.now) (grind arith)
+
+pub order_payload-returns-in_default : goal.order_payload-returns-in_default
+order_payload-returns-in_default t c =
+    c.order_heads.ensures ∙ heads_decide order (out-Payload c.args.a.now.payload) (out-Payload c.args.b.now.payload) (search rules)

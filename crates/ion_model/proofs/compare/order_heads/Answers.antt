@@ -1,0 +1,7 @@
+use Rattle.std.proofs.Common.{arith}
+use Rattle.ion_model.specs.declared.value.Payload.TheViews.{out-Payload}
+use Rattle.ion_model.proofs.OrderLaws.{scalar-kind}
+use Rattle.ion_model.proofs.compare.order_heads.Goals as goal
+
+pub returns : goal.returns
+returns c = rw (scalar-kind (out-Payload c.args.a.now.payload), scalar-kind (out-Payload c.args.b.now.payload)) (grind arith)

@@ -1,0 +1,5 @@
+use Rattle.ion_model.proofs.OrderLaws.{order-is}
+use Rattle.ion_model.proofs.laws.order_by_level.Goals as goal
+
+pub returns : goal.returns
+returns c = order-is

@@ -1,0 +1,23 @@
+-- Texts and symbols: when two are the same, and their order.
+use Rattle.std.specs.Prelude.{ℕ, List, Bool, Option, nat_eq}
+use Rattle.std.specs.Ordering.{nat_cmp}
+use Rattle.std.specs.Option.{option_eq, option_cmp}
+use Rattle.std.specs.Cmp.Lexicographic.{slice_cmp}
+use Rattle.std.specs.declared.cmp.Ordering.{Ordering}
+use lib.Pointwise.{pointwise}
+
+-- octet by octet
+abbrev pub text_same : List ℕ → List ℕ → Bool
+text_same = pointwise nat_eq
+
+-- both of unknown text, or both of the same text
+abbrev pub symbol_same : Option (List ℕ) → Option (List ℕ) → Bool
+symbol_same = option_eq text_same
+
+-- octet by octet, a proper prefix first
+abbrev pub text_cmp : List ℕ → List ℕ → Ordering
+text_cmp = slice_cmp nat_cmp
+
+-- unknown first, then by the text
+abbrev pub symbol_cmp : Option (List ℕ) → Option (List ℕ) → Ordering
+symbol_cmp = option_cmp text_cmp

@@ -1,0 +1,87 @@
+//! Decimals.
+ghost use Rattle.std.specs.Prelude.{◌≡◌, ◌<◌, ◌^◌, SomeIff};
+ghost use Rattle.ion_model.specs.Decimals.{DecimalParts, IsDecimal, decimal_same, decimal_cmp};
+
+use std::cmp::Ordering;
+use std::marker::Model;
+
+/// A decimal: a coefficient of sign and magnitude, so that zero has two, and a power of ten that it
+/// is multiplied by (Ion 1.0, "Decimal"). Kept are magnitudes below 2^127 and exponents from -2^31 to
+/// 2^31-1. Numerically equal decimals of different exponents are different values.
+#[derive(Debug, Clone, Copy, PartialEq, Eq)]
+pub struct Decimal {
+    negative: bool,
+    magnitude: u128,
+    exponent: i32,
+}
+
+impl Model for Decimal {
+    ghost use Rattle.ion_model.specs.Decimals.{DecimalParts, IsDecimal};
+
+    ghost Value = { DecimalParts };
+
+    ghost view = { λ d. record { negative = d.negative; magnitude = d.magnitude; exponent = d.exponent } };
+
+    ghost invariant = { λ d. IsDecimal (record { negative = d.negative; magnitude = d.magnitude; exponent = d.exponent }) };
+
+    ghost inverse = { λ d. record { negative = d.negative; magnitude = d.magnitude; exponent = d.exponent } };
+}
+
+impl Decimal {
+    /// The decimal of this sign, magnitude and exponent; `None` exactly where the magnitude is 2^127 or
+    /// more. Takes no memory.
+    pub fn new(negative: bool, magnitude: u128, exponent: i32) -> Option<Decimal>
+        ensures { let parts : DecimalParts = record { negative = negative; magnitude = magnitude; exponent = exponent } in
+            SomeIff result (IsDecimal parts) parts }
+    {
+        if magnitude >= 1 << 127 {
+            return None;
+        }
+        Some(Decimal {
+            negative,
+            magnitude,
+            exponent,
+        })
+    }
+
+    /// Whether the coefficient has a minus; a zero may have one.
+    pub fn negative(self) -> bool
+        ensures { result ≡ self.negative }
+    {
+        self.negative
+    }
+
+    /// The coefficient without its sign, below 2^127.
+    pub fn magnitude(self) -> u128
+        ensures value { result ≡ self.magnitude }
+        ensures kept { IsDecimal self }
+    {
+        self.magnitude
+    }
+
+    /// The power of ten.
+    pub fn exponent(self) -> i32
+        ensures { result ≡ self.exponent }
+    {
+        self.exponent
+    }
+
+    /// Whether both agree in sign, magnitude and exponent.
+    pub fn same(self, other: Decimal) -> bool
+        ensures { result ≡ decimal_same self other }
+    {
+        self.negative == other.negative
+            && self.magnitude == other.magnitude
+            && self.exponent == other.exponent
+    }
+
+    /// The order of decimals: by exponent, then a minus first, then by magnitude.
+    pub fn order(self, other: Decimal) -> Ordering
+        ensures { result ≡ decimal_cmp self other }
+    {
+        self.exponent
+            .cmp(&other.exponent)
+            .then(other.negative.cmp(&self.negative))
+            .then(self.magnitude.cmp(&other.magnitude))
+    }
+}

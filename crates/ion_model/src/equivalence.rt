@@ -1,0 +1,103 @@
+//! Whether two values are equivalent, by normal forms of structs.
+ghost use Rattle.std.specs.Prelude.{◌≡◌, IfOk, MatchResult};
+ghost use Rattle.std.specs.Ordering.{is_eq};
+ghost use Rattle.std.specs.Cmp.Lexicographic.{slice_cmp};
+ghost use lib.Pointwise.{pointwise};
+ghost use Rattle.ion_model.specs.declared.refusal.Reason.TheVariants as reasons;
+ghost use Rattle.ion_model.specs.declared.value.Payload.TheViews.{out-Payload};
+ghost use Rattle.ion_model.specs.Same.{same, fields_same, layer_same};
+ghost use Rattle.ion_model.specs.Order.{order, field_cmp};
+ghost use Rattle.ion_model.specs.Normal.{AreNormalOf};
+
+use crate::compare::order_fields;
+use crate::copy::copy_fields;
+use crate::normal::tidy_fields;
+use crate::refusal::Reason;
+use crate::same::{same_payload, same_symbols};
+use crate::sequence::Sequence;
+use crate::value::{Field, Payload, Value};
+use std::alloc::Global;
+
+/// Whether two values are equivalent, as `same_slow` says. The only refusal is `Memory`. Values are
+/// compared as they stand down to their structs; two structs of n fields each are copied, their fields
+/// sorted, inner levels first, and then compared, which costs some n log n comparisons of fields.
+pub fn equivalent(alloc: Global, a: &Value, b: &Value) -> Result<bool, Reason>
+    ensures { MatchResult result (λ r. r ≡ same a.now b.now) (λ e. e ≡ reasons.Memory) }
+{
+    equivalent_value(alloc, a, b)
+}
+
+#[cycle(equivalent)]
+fn equivalent_value(alloc: Global, a: &Value, b: &Value) -> Result<bool, Reason>
+    ensures { MatchResult result (λ r. r ≡ same a.now b.now) (λ e. e ≡ reasons.Memory) }
+{
+    if !same_symbols(a.annotations.as_slice(), b.annotations.as_slice()) {
+        return Ok(false);
+    }
+    equivalent_payload(alloc, a, b)
+}
+
+#[cycle(equivalent)]
+fn equivalent_payload(alloc: Global, a: &Value, b: &Value) -> Result<bool, Reason>
+    ensures { MatchResult result
+        (λ r. r ≡ layer_same same (out-Payload a.now.payload) (out-Payload b.now.payload))
+        (λ e. e ≡ reasons.Memory) }
+{
+    match (&a.payload, &b.payload) {
+        (Payload::List(vs), Payload::List(ws)) => {
+            equivalent_items(alloc, vs.as_slice(), ws.as_slice())
+        }
+        (Payload::Sexp(vs), Payload::Sexp(ws)) => {
+            equivalent_items(alloc, vs.as_slice(), ws.as_slice())
+        }
+        (Payload::Fields(fs), Payload::Fields(gs)) => equivalent_fields(alloc, fs, gs),
+        _ => Ok(same_payload(a, b)),
+    }
+}
+
+#[cycle(equivalent)]
+fn equivalent_items(alloc: Global, vs: &[Value], ws: &[Value]) -> Result<bool, Reason>
+    ensures { MatchResult result (λ r. r ≡ pointwise same vs.now ws.now) (λ e. e ≡ reasons.Memory) }
+{
+    if vs.len() != ws.len() {
+        return Ok(false);
+    }
+    for (i, item) in vs.iter().enumerate() {
+        if !equivalent_value(alloc, item, &ws[i])? {
+            return Ok(false);
+        }
+    }
+    Ok(true)
+}
+
+fn equivalent_fields(
+    alloc: Global,
+    fs: &Sequence<Field>,
+    gs: &Sequence<Field>,
+) -> Result<bool, Reason>
+    ensures { MatchResult result (λ r. r ≡ fields_same same fs.now gs.now) (λ e. e ≡ reasons.Memory) }
+{
+    if fs.len() != gs.len() {
+        return Ok(false);
+    }
+    let left = sorted(alloc, fs)?;
+    let right = sorted(alloc, gs)?;
+    Ok(tied(&left, &right))
+}
+
+// The fields in ascending order, their values in normal form.
+fn sorted(alloc: Global, fields: &Sequence<Field>) -> Result<Vec<Field>, Reason>
+    ensures { MatchResult result (λ rows. AreNormalOf rows.items fields.now) (λ e. e ≡ reasons.Memory) }
+{
+    let mut rows = copy_fields(alloc, fields)?.into_vec();
+    match tidy_fields(alloc, &mut rows) {
+        Ok(()) => Ok(rows),
+        Err(_) => Err(Reason::Memory),
+    }
+}
+
+fn tied(fs: &[Field], gs: &[Field]) -> bool
+    ensures { result ≡ is_eq (slice_cmp (field_cmp order) fs.now gs.now) }
+{
+    order_fields(fs, gs).is_eq()
+}

@@ -1,0 +1,105 @@
+//! Normal forms: the fields of each struct in order, inner levels first.
+ghost use Rattle.std.specs.Prelude.{◌≡◌, true, IsTrue, OnOk, IfOk, IfErr, MatchResult, IsPermutation};
+ghost use Rattle.ion_model.specs.declared.refusal.Reason.TheVariants as reasons;
+ghost use lib.Pointwise.{pointwise};
+ghost use Rattle.ion_model.specs.Same.{same, field_same, fields_same, layer_same};
+ghost use Rattle.ion_model.specs.declared.value.Payload.TheViews.{out-Payload};
+ghost use Rattle.ion_model.specs.Normal.{IsNormal, LayerNormal, AllNormal, AllFieldsNormal, FieldsInOrder};
+
+use crate::compare::order_field;
+use crate::kind::Kind;
+use crate::refusal::Reason;
+use crate::sequence::Sequence;
+use crate::value::{Field, Payload, Value};
+use std::alloc::{AllocError, Global};
+use std::mem;
+
+/// The normal form of a value: the fields of every struct in ascending order, inner levels first. It is
+/// equivalent to the value, and of two normal forms `order` is `Equal` just where the values are
+/// equivalent. The only refusal is `Memory`; the value handed back with it is equivalent to the one given.
+pub fn normalise(alloc: Global, value: Value) -> Result<Value, (Value, Reason)>
+    ensures same { MatchResult result (λ v. IsTrue (same v value)) (λ e. IsTrue (same e.0 value)) }
+    ensures normal { IfOk result (λ v. IsNormal v) }
+    ensures memory { IfErr result (λ e. e.1 ≡ reasons.Memory) }
+{
+    let mut value = value;
+    match tidy(alloc, &mut value) {
+        Ok(()) => Ok(value),
+        Err(_) => Err((value, Reason::Memory)),
+    }
+}
+
+#[cycle(tidy)]
+fn tidy(alloc: Global, value: &mut Value) -> Result<(), AllocError>
+    ensures same { same value.new value.old ≡ true }
+    ensures normal { OnOk result (IsNormal value.new) }
+{
+    let payload = mem::replace(&mut value.payload, Payload::Null(Kind::Null));
+    let (payload, outcome) = tidy_payload(alloc, payload);
+    value.payload = payload;
+    outcome
+}
+
+#[cycle(tidy)]
+fn tidy_payload(alloc: Global, payload: Payload) -> (Payload, Result<(), AllocError>)
+    ensures same { layer_same same (out-Payload result.0) (out-Payload payload) ≡ true }
+    ensures normal { OnOk result.1 (LayerNormal (out-Payload result.0)) }
+{
+    match payload {
+        Payload::List(items) => {
+            let mut values = items.into_vec();
+            let outcome = tidy_values(alloc, &mut values);
+            (Payload::List(Sequence::from_vec(values)), outcome)
+        }
+        Payload::Sexp(items) => {
+            let mut values = items.into_vec();
+            let outcome = tidy_values(alloc, &mut values);
+            (Payload::Sexp(Sequence::from_vec(values)), outcome)
+        }
+        Payload::Fields(fields) => {
+            let mut rows = fields.into_vec();
+            let outcome = tidy_fields(alloc, &mut rows);
+            (Payload::Fields(Sequence::from_vec(rows)), outcome)
+        }
+        other => (other, Ok(())),
+    }
+}
+
+#[cycle(tidy)]
+fn tidy_values(alloc: Global, values: &mut Vec<Value>) -> Result<(), AllocError>
+    ensures same { pointwise same values.new.items values.old.items ≡ true }
+    ensures normal { OnOk result (AllNormal values.new.items) }
+{
+    for i in 0..values.len() {
+        tidy(alloc, &mut values[i])?;
+    }
+    Ok(())
+}
+
+#[cycle(tidy)]
+pub(crate) fn tidy_fields(alloc: Global, rows: &mut Vec<Field>) -> Result<(), AllocError>
+    ensures same { fields_same same rows.new.items rows.old.items ≡ true }
+    ensures inner { OnOk result (AllFieldsNormal rows.new.items) }
+    ensures ordered { OnOk result (FieldsInOrder rows.new.items) }
+{
+    tidy_rows(alloc, rows)?;
+    sort_rows(rows)
+}
+
+fn sort_rows(rows: &mut Vec<Field>) -> Result<(), AllocError>
+    ensures permutation { IsPermutation rows.old.items rows.new.items }
+    ensures ordered { OnOk result (FieldsInOrder rows.new.items) }
+{
+    rows.sort_by(|f, g| order_field(f, g))
+}
+
+#[cycle(tidy)]
+fn tidy_rows(alloc: Global, rows: &mut Vec<Field>) -> Result<(), AllocError>
+    ensures same { pointwise (field_same same) rows.new.items rows.old.items ≡ true }
+    ensures inner { OnOk result (AllFieldsNormal rows.new.items) }
+{
+    for i in 0..rows.len() {
+        tidy(alloc, &mut rows[i].value)?;
+    }
+    Ok(())
+}

@@ -1,0 +1,5 @@
+use Rattle.ion_symtab.specs.TableLaws.{find_is, find_some}
+use Rattle.ion_symtab.proofs.laws.exact.Goals as goal
+
+pub returns : goal.returns
+returns c = record { found = find_is; there = find_some }

@@ -1,0 +1,5 @@
+use Rattle.ion_symtab.specs.ContextLaws.{resolve_stays}
+use Rattle.ion_symtab.proofs.laws.ids_stay.Goals as goal
+
+pub returns : goal.returns
+returns c = resolve_stays

@@ -1,0 +1,174 @@
+//! Contexts: what the symbol ids of a document stand for (Ion 1.0, "Symbols").
+ghost use Rattle.std.specs.Prelude.{◌≡◌, ◌⊎◌, ◌≤◌, true, length, Ok, Err, IfErr, IfOk, OnOk, OnErr, MatchResult, option_copied};
+ghost use Rattle.ion_model.specs.declared.refusal.Reason.TheVariants as reasons;
+ghost use Rattle.ion_model.specs.Kinds.{is_table};
+ghost use Rattle.ion_symtab.specs.Slots.{greatest_id, system_slots, resolve};
+ghost use Rattle.ion_symtab.specs.Next.{next, extended, appends};
+ghost use Rattle.ion_symtab.specs.Outcome.{Gives};
+ghost use Rattle.ion_symtab.specs.Segments.{Fills};
+
+use crate::catalog::Catalog;
+use crate::fields::{elements, is_text, only};
+use crate::segments::Segments;
+use ion_model::{Payload, Reason, Symbol, Value};
+use std::alloc::Global;
+use std::marker::Model;
+
+/// What the symbol ids stand for at a place of a document. Contracts see the list of slots, of which
+/// the first has the id 1: each is a text, unknown, or a gap.
+#[derive(Drop, Debug)]
+pub struct Context {
+    system: Vec<Symbol>,
+    added: Segments,
+}
+
+impl Model for Context {
+    ghost use Rattle.std.specs.Prelude.{List, ◌≡◌, map, ◌++◌};
+    ghost use Rattle.ion_symtab.specs.Slots.{Slot, system_slots};
+
+    ghost Value = { List Slot };
+
+    ghost use Rattle.ion_symtab.specs.Next.{local_slot};
+
+    ghost view = { λ c. system_slots ++ c.added.slots };
+
+    ghost invariant = { λ c. (map local_slot c.system.items ≡ system_slots) × (c.added.first ≡ 9) };
+}
+
+// How many system slots there are.
+const SYSTEM_SLOTS: u32 = 9;
+
+// The texts of the system slots.
+const SYSTEM: [&str; 9] = [
+    "$ion",
+    "$ion_1_0",
+    "$ion_symbol_table",
+    "name",
+    "version",
+    "imports",
+    "symbols",
+    "max_id",
+    "$ion_shared_symbol_table",
+];
+
+impl Context {
+    /// The context of the system slots alone, in which every document begins (Ion 1.0, "Symbols",
+    /// "System Symbols"). The only refusal is `Memory`.
+    #[tactic(auto, unfolding(crate::specs::Slots::system_slots))]
+    pub fn system(alloc: Global) -> Result<Context, Reason>
+        ensures { MatchResult result (λ c. c ≡ system_slots) (λ r. r ≡ reasons.Memory) }
+    {
+        let mut system = Vec::new(alloc);
+        for text in SYSTEM {
+            let symbol = Symbol::known(alloc, text)?;
+            system.push(symbol)?;
+        }
+        Ok(Context {
+            system,
+            added: Segments::new(alloc, SYSTEM_SLOTS),
+        })
+    }
+
+    /// Makes it the context of the system slots alone. Takes no memory.
+    pub fn reset(&mut self)
+        ensures { self.new ≡ system_slots }
+    {
+        self.added.clear();
+    }
+
+    /// The greatest id, which is the number of slots: 9 to 2^31-1. Takes no memory.
+    #[tactic(auto, using(crate::specs::Slots::nine_system_slots))]
+    pub fn max_id(&self) -> u32
+        ensures count { result ≡ length self.now }
+        ensures bound { result ≤ greatest_id }
+    {
+        self.added.end()
+    }
+
+    /// The symbol of an id; 0 is the symbol of unknown text. `SymbolRange` where the id is above the
+    /// greatest, `ImportGap` where a gap stands there.
+    #[tactic(auto, using(crate::specs::Slots::nine_system_slots))]
+    pub fn resolve(&self, id: u64) -> Result<Symbol, Reason>
+        ensures { Gives (resolve self.now id) result }
+    {
+        if id == 0 {
+            return Ok(Symbol::unknown());
+        }
+        if id > self.max_id() as u64 {
+            return Err(Reason::SymbolRange);
+        }
+        let place = (id - 1) as u32;
+        if place < SYSTEM_SLOTS {
+            return self.system.as_slice()[place as usize].copy();
+        }
+        self.added.symbol_at(place)
+    }
+
+    /// Makes it the context behind a local symbol table (Ion 1.0, "Symbols", "Local Symbol Tables" and
+    /// "Imports"): the system slots, or all slots that there were where `imports` is the symbol
+    /// `$ion_symbol_table`; then those of each struct in a list `imports`; then one for each element of
+    /// a list `symbols`, a string's text or unknown text. Other fields are open content.
+    ///
+    /// An import is ignored where its `name` is no string, empty or `$ion`. Its `version` is 1 where it
+    /// is absent, null, no int, or below 1. It means the table of that name and version or, if there
+    /// is none and `max_id` is an int that isn't negative, the one of that name with the greatest
+    /// version. Such a `max_id` is its number of slots: the table is cut, or filled up with gaps.
+    ///
+    /// The first reason in this order answers, and leaves the context as it was: `NullTable` for
+    /// `null.struct`; `RepeatedField` where `imports` or `symbols` stands twice; for each import in turn
+    /// `RepeatedField` where `name`, `version` or `max_id` stands twice, also if it is ignored,
+    /// `MissingImport` where the catalog has no table for it, `TableTooLarge` where an id would be above
+    /// 2^31-1; last `TableTooLarge` by `symbols`. `Memory` may come at any point.
+    #[tactic(auto, using(crate::specs::Slots::nine_system_slots), unfolding(crate::specs::Next::next))]
+    pub fn apply(&mut self, table: &Value, catalog: &Catalog) -> Result<(), Reason>
+        requires { is_table table.now ≡ true }
+        ensures ok { OnOk result (next self.old table.now catalog.now ≡ Ok self.new) }
+        ensures refused { IfErr result (λ r. (r ≡ reasons.Memory) ⊎ (next self.old table.now catalog.now ≡ Err r)) }
+        ensures unchanged { OnErr result (self.new ≡ self.old) }
+    {
+        let fields = match &table.payload {
+            Payload::Fields(fields) => fields.as_slice(),
+            _ => return Err(Reason::NullTable),
+        };
+        let imports = only(fields, "imports")?;
+        let symbols = only(fields, "symbols")?;
+        let alloc = self.added.alloc();
+        if appends(imports) {
+            let added = added(alloc, self.max_id(), imports, symbols, catalog)?;
+            self.added.append(added)?;
+        } else {
+            self.added = added(alloc, SYSTEM_SLOTS, imports, symbols, catalog)?;
+        }
+        Ok(())
+    }
+}
+
+// The slots that `imports` and `symbols` give, behind so many.
+fn added(
+    alloc: Global,
+    first: u32,
+    imports: Option<&Value>,
+    symbols: Option<&Value>,
+    catalog: &Catalog,
+) -> Result<Segments, Reason>
+    requires { first ≤ greatest_id }
+    ensures { Fills (λ slots. extended catalog.now slots (option_copied imports.entry) (option_copied symbols.entry)) first result }
+{
+    let mut added = Segments::new(alloc, first);
+    added.push_imports(elements(imports), catalog)?;
+    added.push_symbols(elements(symbols))?;
+    Ok(added)
+}
+
+// Whether `imports` is the symbol `$ion_symbol_table`.
+fn appends(imports: Option<&Value>) -> bool
+    ensures { result ≡ appends (option_copied imports.entry) }
+{
+    match imports {
+        None => false,
+        Some(value) => match &value.payload {
+            Payload::Symbol(symbol) => is_text(symbol, "$ion_symbol_table"),
+            _ => false,
+        },
+    }
+}
