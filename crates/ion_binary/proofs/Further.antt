@@ -16,38 +16,38 @@ use Rattle.ion_binary.specs.Laws.{grows}
 use Rattle.ion_binary.specs.Views.{machine_of, Stands, SameSetting}
 
 -- behind u the values s were given, and the machine is m
-abbrev Ran : Limits → List ℕ → List (Value × ℕ) → Machine → Type 0
-Ran l u s m = run l 0 initial u ≡ record { given = s; now = Ok m }
+abbrev Ran : Catalog → Limits → List ℕ → List (Value × ℕ) → Machine → Type 0
+Ran g l u s m = run g l 0 initial u ≡ record { given = s; now = Ok m }
 
 -- octets that follow u go on from m
-run_further : (l : Limits) (to : ℕ) (u w : List ℕ) (s : List (Value × ℕ)) (m : Machine) → to ≡ length u → Ran l u s m →
-    run l 0 initial (u ++ w) ≡ record { given = s ++ (run l to m w).given; now = (run l to m w).now }
-run_further l to u w s m e ran = run-append l 0 to u w (omega arith) initial ∙ ap (λ r. then_run r (λ n. run l to n w)) ran
+run_further : (g : Catalog) (l : Limits) (to : ℕ) (u w : List ℕ) (s : List (Value × ℕ)) (m : Machine) → to ≡ length u → Ran g l u s m →
+    run g l 0 initial (u ++ w) ≡ record { given = s ++ (run g l to m w).given; now = (run g l to m w).now }
+run_further g l to u w s m e ran = run-append g l 0 to u w (omega arith) initial ∙ ap (λ r. then_run r (λ n. run g l to n w)) ran
 
 -- behind what a step used, its value comes behind s
-ran_further : (l : Limits) (to : ℕ) (u : List ℕ) (s : List (Value × ℕ)) (m n : Machine) (piece : List ℕ) (used : ℕ) (value : Option Value) → to ≡ length u →
-    Ran l u s m → Advances to (run l to m) piece (Ok (record { used = used; value = value })) n →
-    Ran l (u ++ take used piece) (s ++ given_at value (length u + used)) n
-ran_further l to u s m n piece used None e ran advances =
+ran_further : (g : Catalog) (l : Limits) (to : ℕ) (u : List ℕ) (s : List (Value × ℕ)) (m n : Machine) (piece : List ℕ) (used : ℕ) (value : Option Value) → to ≡ length u →
+    Ran g l u s m → Advances to (run g l to m) piece (Ok (record { used = used; value = value })) n →
+    Ran g l (u ++ take used piece) (s ++ given_at value (length u + used)) n
+ran_further g l to u s m n piece used None e ran advances =
     let all : take used piece ≡ piece = let h = advances.1.0 in grind (arith, common_steps) in
-    run_further l to u (take used piece) s m e ran
-    ∙ ap (λ w. let r = run l to m w in record { given = s ++ r.given; now = r.now }) all
+    run_further g l to u (take used piece) s m e ran
+    ∙ ap (λ w. let r = run g l to m w in record { given = s ++ r.given; now = r.now }) all
     ∙ ap (λ r. record { given = s ++ r.given; now = r.now }) advances.1.1
-ran_further l to u s m n piece used (Some v) e ran advances =
-    run_further l to u (take used piece) s m e ran
+ran_further g l to u s m n piece used (Some v) e ran advances =
+    run_further g l to u (take used piece) s m e ran
     ∙ ap (λ r. record { given = s ++ r.given; now = r.now }) advances.1.1
     ∙ ap (λ k. record { given = s ++ (v, k) ∷ []; now = Ok n }) (let j : to + used ≡ length u + used = omega arith in j)
 
 -- a step that isn't refused answers what the trace says
 answers_value : (g : Catalog) (l : Limits) (to : ℕ) (u : List ℕ) (s : List (Value × ℕ)) (m n : Machine) (piece : List ℕ) (used : ℕ) (value : Option Value) → to ≡ length u →
-    Ran l u s m → Advances to (run l to m) piece (Ok (record { used = used; value = value })) n → Answers (trace g l) u s piece (Ok (record { used = used; value = value }))
+    Ran g l u s m → Advances to (run g l to m) piece (Ok (record { used = used; value = value })) n → Answers (trace g l) u s piece (Ok (record { used = used; value = value }))
 answers_value g l to u s m n piece used None e ran advances =
     let all : take used piece ≡ piece = let h = advances.1.0 in grind (arith, common_steps) in
-    let after = ran_further l to u s m n piece used None e ran advances in
+    let after = ran_further g l to u s m n piece used None e ran advances in
     let P : List ℕ → Type 0 = λ w. ((trace g l (u ++ w)).given ≡ s) × ((trace g l (u ++ w)).refused ≡ None) in
     subst P all (ap (λ (x : Run). (trace_of x).given) after ∙ append-nil s, ap (λ (x : Run). (trace_of x).refused) after)
 answers_value g l to u s m n piece used (Some v) e ran advances =
-    let after = ran_further l to u s m n piece used (Some v) e ran advances in
+    let after = ran_further g l to u s m n piece used (Some v) e ran advances in
     let front = ap (λ (x : Run). (trace_of x).given) after in
     let whole : (u ++ take used piece) ++ drop used piece ≡ u ++ piece = append_assoc u (take used piece) (drop used piece) ∙ ap (λ w. u ++ w) (take-append-drop used piece) in
     let more = grows g l (u ++ take used piece) (drop used piece) in
@@ -55,20 +55,20 @@ answers_value g l to u s m n piece used (Some v) e ran advances =
 
 -- so does one that is
 answers : (g : Catalog) (l : Limits) (to : ℕ) (u : List ℕ) (s : List (Value × ℕ)) (m n : Machine) (piece : List ℕ) (result : Result Step Refusal) → to ≡ length u →
-    Ran l u s m → Advances to (run l to m) piece result n → Answers (trace g l) u s piece result
+    Ran g l u s m → Advances to (run g l to m) piece result n → Answers (trace g l) u s piece result
 answers g l to u s m n piece (Ok step) e ran advances = answers_value g l to u s m n piece step.used step.value e ran advances
 answers g l to u s m n piece (Err refusal) e ran advances = λ other.
-    let after = ap trace_of (run_further l to u piece s m e ran ∙ ap (λ r. record { given = s ++ r.given; now = r.now }) (advances other)) in
+    let after = ap trace_of (run_further g l to u piece s m e ran ∙ ap (λ r. record { given = s ++ r.given; now = r.now }) (advances other)) in
     (ap (λ t. t.given) after ∙ append-nil s, ap (λ t. t.refused) after)
 
 -- a step of a reader that stands for u answers what the trace says
 pub step_answers : (old : BinaryReader) (n : Machine) (u : List ℕ) (s : List (Value × ℕ)) (piece : List ℕ) (result : Result Step Refusal) → Stands old u s →
-    Advances old.used (run old.limits old.used (machine_of old)) piece result n → Answers (trace old.catalog.now old.limits) u s piece result
+    Advances old.used (run old.catalog.now old.limits old.used (machine_of old)) piece result n → Answers (trace old.catalog.now old.limits) u s piece result
 step_answers old n u s piece result h advances = answers old.catalog.now old.limits old.used u s (machine_of old) n piece result h.counted h.ran advances
 
 -- the reader stands for the octets that a step used, too
 pub step_far : (old new : BinaryReader) (piece : List ℕ) (result : Result Step Refusal) →
-    Advances old.used (run old.limits old.used (machine_of old)) piece result (machine_of new) → IfOk result (λ step. new.used ≡ old.used + step.used) → SameSetting old new →
+    Advances old.used (run old.catalog.now old.limits old.used (machine_of old)) piece result (machine_of new) → IfOk result (λ step. new.used ≡ old.used + step.used) → SameSetting old new →
     IfOk result (λ step. (u : List ℕ) (s : List (Value × ℕ)) → Stands old u s → Stands new (u ++ take step.used piece) (s ++ given_at step.value (length u + step.used)))
 step_far old new piece (Err refusal) advances counts setting = tt
 step_far old new piece (Ok step) advances counts setting = λ u s h.
@@ -77,6 +77,9 @@ step_far old new piece (Ok step) advances counts setting = λ u s h.
       fine = setting.failed ∙ h.fine;
       counted = omega (arith, length-append u (take step.used piece), length-take-le step.used piece advances.0);
       ran =
-          subst (λ (l : Limits). Ran l (u ++ take step.used piece) (s ++ given_at step.value (length u + step.used)) (machine_of new)) (sym setting.limits)
-          (ran_further old.limits old.used u s (machine_of old) (machine_of new) piece step.used step.value h.counted h.ran advances);
+          let given = s ++ given_at step.value (length u + step.used) in
+          let octets = u ++ take step.used piece in
+          subst (λ (g : Catalog). Ran g new.limits octets given (machine_of new)) (ap (λ (b : _). b.now) (sym setting.catalog))
+          (subst (λ (l : Limits). Ran old.catalog.now l octets given (machine_of new)) (sym setting.limits)
+          (ran_further old.catalog.now old.limits old.used u s (machine_of old) (machine_of new) piece step.used step.value h.counted h.ran advances));
     }

@@ -1,2 +1,10 @@
+pub mod Scalars
 pub mod Leading
 pub mod Further
+pub mod Levels
+pub mod Insides
+pub mod Encoded
+pub mod Numbered
+pub mod Places
+pub mod Tabled
+pub mod Fronts

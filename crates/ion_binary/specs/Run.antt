@@ -7,9 +7,9 @@ use Rattle.ion_symtab.specs.declared.items.Step.{Step}
 use Rattle.ion_symtab.specs.declared.limits.Limits.{Limits}
 use Rattle.ion_symtab.specs.declared.catalog.Catalog.{Catalog}
 use Rattle.ion_symtab.specs.Trace.{Trace}
-use Rattle.ion_binary.specs.declared.reader.Frame.{Frame}
-use Rattle.ion_binary.specs.declared.reader.Phase.{Phase}
-use Rattle.ion_binary.specs.declared.reader.Phase.TheVariants.{Ready}
+use Rattle.ion_binary.specs.declared.state.Frame.{Frame}
+use Rattle.ion_binary.specs.declared.state.Phase.{Phase}
+use Rattle.ion_binary.specs.declared.state.Phase.TheVariants.{Ready}
 use Rattle.ion_binary.specs.Machine.{Machine, Outcome, goes, gives, refuses, feed, initial}
 
 -- the values with the octets up to where each came, and the machine or the refusal at which the octets end
@@ -26,11 +26,11 @@ run_on to rest (goes n) = rest n
 run_on to rest (gives v n) = with_value v to (rest n)
 run_on to rest (refuses reason) = record { given = []; now = Err (record { offset = to; reason = reason }) }
 
-module _ (l : Limits) where
+module _ (g : Catalog) (l : Limits) where
   -- behind `to` octets
   abbrev pub run : ℕ → Machine → List ℕ → Run
   run to m [] = record { given = []; now = Ok m }
-  run to m (b ∷ bs) = run_on (to + 1) (λ n. run (to + 1) n bs) (feed l.depth l.item m b)
+  run to m (b ∷ bs) = run_on (to + 1) (λ n. run (to + 1) n bs) (feed g l m b)
 
 -- Over this piece a step answered what a run from here says, and left the machine there.
 abbrev pub Advances : ℕ → (List ℕ → Run) → List ℕ → Result Step Refusal → Machine → Type 0
@@ -61,4 +61,4 @@ abbrev pub trace_of : Run → Trace
 trace_of r = record { given = r.given; refused = refused_of r.now; ends = ends_of r.now }
 
 abbrev pub trace : Catalog → Limits → List ℕ → Trace
-trace g l octets = trace_of (run l 0 initial octets)
+trace g l octets = trace_of (run g l 0 initial octets)

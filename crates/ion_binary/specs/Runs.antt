@@ -3,6 +3,7 @@ use Rattle.std.proofs.Common.{◌≡◌, ℕ, ◌+◌, List, [], ◌∷◌, ◌+
 use Rattle.ion_model.specs.declared.value.Value.{Value}
 use Rattle.ion_model.specs.declared.refusal.Refusal.{Refusal}
 use Rattle.ion_symtab.specs.declared.limits.Limits.{Limits}
+use Rattle.ion_symtab.specs.declared.catalog.Catalog.{Catalog}
 use Rattle.ion_binary.specs.Machine.{Machine, Outcome, goes, gives, refuses, feed}
 use Rattle.ion_binary.specs.Run.{Run, run, run_on, with_value}
 
@@ -31,25 +32,25 @@ then_after to (goes m) k = refl
 then_after to (gives v m) k = refl
 then_after to (refuses e) k = refl
 
-module _ (l : Limits) where
+module _ (g : Catalog) (l : Limits) where
   -- what is so for each machine that an octet may lead to is so for the outcome
-  pub on_outcome : (to mid : ℕ) (u w : List ℕ) → ((n : Machine) → run l to n (u ++ w) ≡ then_run (run l to n u) (λ n. run l mid n w)) →
-      (o : Outcome) → run_on to (λ n. run l to n (u ++ w)) o ≡ then_run (run_on to (λ n. run l to n u) o) (λ n. run l mid n w)
+  pub on_outcome : (to mid : ℕ) (u w : List ℕ) → ((n : Machine) → run g l to n (u ++ w) ≡ then_run (run g l to n u) (λ n. run g l mid n w)) →
+      (o : Outcome) → run_on to (λ n. run g l to n (u ++ w)) o ≡ then_run (run_on to (λ n. run g l to n u) o) (λ n. run g l mid n w)
   on_outcome to mid u w rest (goes n) = rest n
   on_outcome to mid u w rest (gives v n) =
-      let r = run l to n u in
-      ap (with_value v to) (rest n) ∙ on_now-more (v, to) r.given r.now (λ k. run l mid k w)
+      let r = run g l to n u in
+      ap (with_value v to) (rest n) ∙ on_now-more (v, to) r.given r.now (λ k. run g l mid k w)
   on_outcome to mid u w rest (refuses reason) = refl
 
   -- a run over octets in two pieces is one run after the other
-  pub run-append : (to mid : ℕ) (u w : List ℕ) → mid ≡ to + length u → (m : Machine) → run l to m (u ++ w) ≡ then_run (run l to m u) (λ n. run l mid n w)
-  run-append to mid [] w e m = ap (λ k. run l k m w) (let i : to ≡ mid = omega arith in i)
-  run-append to mid (b ∷ bs) w e m = on_outcome (to + 1) mid bs w (run-append (to + 1) mid bs w (omega arith)) (feed l.depth l.item m b)
+  pub run-append : (to mid : ℕ) (u w : List ℕ) → mid ≡ to + length u → (m : Machine) → run g l to m (u ++ w) ≡ then_run (run g l to m u) (λ n. run g l mid n w)
+  run-append to mid [] w e m = ap (λ k. run g l k m w) (let i : to ≡ mid = omega arith in i)
+  run-append to mid (b ∷ bs) w e m = on_outcome (to + 1) mid bs w (run-append (to + 1) mid bs w (omega arith)) (feed g l m b)
 
-  pub run_via : (to mid : ℕ) (m n : Machine) (r : Run) (u w : List ℕ) → mid ≡ to + length u → run l to m u ≡ led n → run l mid n w ≡ r → run l to m (u ++ w) ≡ r
-  run_via to mid m n r u w e h k = run-append to mid u w e m ∙ (ap (λ x. then_run x (λ n. run l mid n w)) h ∙ k)
+  pub run_via : (to mid : ℕ) (m n : Machine) (r : Run) (u w : List ℕ) → mid ≡ to + length u → run g l to m u ≡ led n → run g l mid n w ≡ r → run g l to m (u ++ w) ≡ r
+  run_via to mid m n r u w e h k = run-append to mid u w e m ∙ (ap (λ x. then_run x (λ n. run g l mid n w)) h ∙ k)
 
-  pub run_step : (to mid : ℕ) (m n : Machine) (r : Run) (u : List ℕ) (b : ℕ) → mid ≡ to + length u → run l to m u ≡ led n → after (mid + 1) (feed l.depth l.item n b) ≡ r → run l to m (u ++ b ∷ []) ≡ r
+  pub run_step : (to mid : ℕ) (m n : Machine) (r : Run) (u : List ℕ) (b : ℕ) → mid ≡ to + length u → run g l to m u ≡ led n → after (mid + 1) (feed g l n b) ≡ r → run g l to m (u ++ b ∷ []) ≡ r
   run_step to mid m n r u b e h k = run_via to mid m n r u (b ∷ []) e h k
 
 pub length-one : (u : List ℕ) (b : ℕ) → length (u ++ b ∷ []) ≡ length u + 1

@@ -3,44 +3,45 @@ use Rattle.std.proofs.Common.{◌≡◌, ℕ, ◌+◌, ◌≤◌, List, [], ◌�
 use Rattle.ion_model.specs.declared.value.Value.{Value}
 use Rattle.ion_model.specs.declared.refusal.Refusal.{Refusal}
 use Rattle.ion_symtab.specs.declared.limits.Limits.{Limits}
+use Rattle.ion_symtab.specs.declared.catalog.Catalog.{Catalog}
 use Rattle.ion_symtab.specs.Promises.{BeginsNone}
-use Rattle.ion_binary.specs.declared.reader.Phase.TheVariants.{Ready}
+use Rattle.ion_binary.specs.declared.state.Phase.TheVariants.{Ready}
 use Rattle.ion_binary.specs.Grammar.{Document, Whole, no_piece, document}
 use Rattle.ion_binary.specs.Machine.{Machine, Outcome, goes, gives, refuses, feed, at, initial}
 use Rattle.ion_binary.specs.Run.{Run, run, run_on, with_value}
 use Rattle.ion_binary.specs.Runs.{run-append, then_run, on_now}
-use Rattle.ion_binary.specs.Steady.{Steady, feed_steady}
-use Rattle.ion_binary.specs.Documents.{document_run}
+use Rattle.ion_binary.specs.Steady.{Steady, FineFrames, feed_steady}
+use Rattle.ion_binary.specs.Documents.{pieces_run}
 
 -- the start of the open piece never moves back
-pub run_onward : (l : Limits) (to : ℕ) (m : Machine) (w : List ℕ) (n : Machine) → m.start ≤ m.used → (run l to m w).now ≡ Ok n → m.start ≤ n.start
-run_onward l to m [] n h e = let k : m ≡ n = cc in subst (λ (x : Machine). m.start ≤ x.start) k (omega arith)
-run_onward l to m (b ∷ bs) n h e = go (feed l.depth l.item m b) (feed_steady l.depth l.item m b h) (λ k i. run_onward l (to + 1) k bs n i) e
+pub run_onward : (g : Catalog) (l : Limits) (to : ℕ) (m : Machine) (w : List ℕ) (n : Machine) → m.start ≤ m.used → (run g l to m w).now ≡ Ok n → m.start ≤ n.start
+run_onward g l to m [] n h e = let k : m ≡ n = cc in subst (λ (x : Machine). m.start ≤ x.start) k (omega arith)
+run_onward g l to m (b ∷ bs) n h e = go (feed g l m b) (feed_steady g l m b h) (λ k i. run_onward g l (to + 1) k bs n i) e
   where
-    go : (o : Outcome) → Steady m.start o → ((k : Machine) → k.start ≤ k.used → (run l (to + 1) k bs).now ≡ Ok n → k.start ≤ n.start) → (run_on (to + 1) (λ k. run l (to + 1) k bs) o).now ≡ Ok n → m.start ≤ n.start
+    go : (o : Outcome) → Steady m.start (FineFrames m.frames) o → ((k : Machine) → k.start ≤ k.used → (run g l (to + 1) k bs).now ≡ Ok n → k.start ≤ n.start) → (run_on (to + 1) (λ k. run g l (to + 1) k bs) o).now ≡ Ok n → m.start ≤ n.start
     go (goes k) s f e = let a = s.from in let b = f k s.to e in omega arith
     go (gives v k) s f e = let a = s.from in let b = f k s.to e in omega arith
     go (refuses x) s f e = absurd cc
 
 -- a refused run: the octets before the last lead to a machine that refuses it
-pub record Stop (l : Limits) (to : ℕ) (m : Machine) (u : List ℕ) (r : Refusal) : Type 0 where
+pub record Stop (g : Catalog) (l : Limits) (to : ℕ) (m : Machine) (u : List ℕ) (r : Refusal) : Type 0 where
   pub before : List ℕ
   pub b : ℕ
   pub rest : List ℕ
   pub n : Machine
   pub parts : u ≡ before ++ b ∷ rest
-  pub ran : run l to m before ≡ record { given = (run l to m u).given; now = Ok n }
+  pub ran : run g l to m before ≡ record { given = (run g l to m u).given; now = Ok n }
   pub offset : r.offset ≡ to + length before + 1
-  pub refused : feed l.depth l.item n b ≡ refuses r.reason
+  pub refused : feed g l n b ≡ refuses r.reason
 
-pub stop_of : (l : Limits) (to : ℕ) (m : Machine) (u : List ℕ) (r : Refusal) → (run l to m u).now ≡ Err r → Stop l to m u r
-stop_of l to m [] r h = absurd cc
-stop_of l to m (b ∷ bs) r h = go (feed l.depth l.item m b) refl (λ n. stop_of l (to + 1) n bs r) h
+pub stop_of : (g : Catalog) (l : Limits) (to : ℕ) (m : Machine) (u : List ℕ) (r : Refusal) → (run g l to m u).now ≡ Err r → Stop g l to m u r
+stop_of g l to m [] r h = absurd cc
+stop_of g l to m (b ∷ bs) r h = go (feed g l m b) refl (λ n. stop_of g l (to + 1) n bs r) h
   where
     on : List ℕ → Outcome → Run
-    on ys o = run_on (to + 1) (λ n. run l (to + 1) n ys) o
+    on ys o = run_on (to + 1) (λ n. run g l (to + 1) n ys) o
 
-    go : (o : Outcome) → feed l.depth l.item m b ≡ o → ((n : Machine) → (run l (to + 1) n bs).now ≡ Err r → Stop l (to + 1) n bs r) → (run_on (to + 1) (λ n. run l (to + 1) n bs) o).now ≡ Err r → Stop l to m (b ∷ bs) r
+    go : (o : Outcome) → feed g l m b ≡ o → ((n : Machine) → (run g l (to + 1) n bs).now ≡ Err r → Stop g l (to + 1) n bs r) → (run_on (to + 1) (λ n. run g l (to + 1) n bs) o).now ≡ Err r → Stop g l to m (b ∷ bs) r
     go (goes n) e rest h =
         let p = rest n h in
         let o = p.offset in
@@ -50,7 +51,7 @@ stop_of l to m (b ∷ bs) r h = go (feed l.depth l.item m b) refl (λ n. stop_of
           rest = p.rest;
           n = p.n;
           parts = ap (λ xs. b ∷ xs) p.parts;
-          ran = ap (run_on (to + 1) (λ n. run l (to + 1) n p.before)) e ∙ (p.ran ∙ ap (λ o. record { given = (run_on (to + 1) (λ n. run l (to + 1) n bs) o).given; now = Ok p.n }) (sym e));
+          ran = ap (run_on (to + 1) (λ n. run g l (to + 1) n p.before)) e ∙ (p.ran ∙ ap (λ o. record { given = (run_on (to + 1) (λ n. run g l (to + 1) n bs) o).given; now = Ok p.n }) (sym e));
           offset = omega arith;
           refused = p.refused;
         }
@@ -63,7 +64,7 @@ stop_of l to m (b ∷ bs) r h = go (feed l.depth l.item m b) refl (λ n. stop_of
           rest = p.rest;
           n = p.n;
           parts = ap (λ xs. b ∷ xs) p.parts;
-          ran = ap (run_on (to + 1) (λ n. run l (to + 1) n p.before)) e ∙ (ap (with_value v (to + 1)) p.ran ∙ ap (λ o. record { given = (run_on (to + 1) (λ n. run l (to + 1) n bs) o).given; now = Ok p.n }) (sym e));
+          ran = ap (run_on (to + 1) (λ n. run g l (to + 1) n p.before)) e ∙ (ap (with_value v (to + 1)) p.ran ∙ ap (λ o. record { given = (run_on (to + 1) (λ n. run g l (to + 1) n bs) o).given; now = Ok p.n }) (sym e));
           offset = omega arith;
           refused = p.refused;
         }
@@ -76,30 +77,30 @@ stop_of l to m (b ∷ bs) r h = go (feed l.depth l.item m b) refl (λ n. stop_of
           rest = bs;
           n = m;
           parts = refl;
-          ran = ap (λ o. record { given = (run_on (to + 1) (λ n. run l (to + 1) n bs) o).given; now = Ok m }) (sym e);
+          ran = ap (λ o. record { given = (run_on (to + 1) (λ n. run g l (to + 1) n bs) o).given; now = Ok m }) (sym e);
           offset = omega arith;
           refused = e ∙ ap (λ (q : Refusal). refuses q.reason) is;
         }
 
 -- the octets up to the refused one are refused
-pub stopped : (l : Limits) (u : List ℕ) (r : Refusal) (p : Stop l 0 initial u r) → (run l 0 initial (p.before ++ p.b ∷ [])).now ≡ Err (record { offset = length p.before + 1; reason = r.reason })
-stopped l u r p =
-    ap (λ x. x.now) (run-append l 0 (length p.before) p.before (p.b ∷ []) (omega arith) initial)
-    ∙ (ap (λ x. (then_run x (λ n. run l (length p.before) n (p.b ∷ []))).now) p.ran
-    ∙ ap (λ o. (run_on (length p.before + 1) (λ n. run l (length p.before + 1) n []) o).now) p.refused)
+pub stopped : (g : Catalog) (l : Limits) (u : List ℕ) (r : Refusal) (p : Stop g l 0 initial u r) → (run g l 0 initial (p.before ++ p.b ∷ [])).now ≡ Err (record { offset = length p.before + 1; reason = r.reason })
+stopped g l u r p =
+    ap (λ x. x.now) (run-append g l 0 (length p.before) p.before (p.b ∷ []) (omega arith) initial)
+    ∙ (ap (λ x. (then_run x (λ n. run g l (length p.before) n (p.b ∷ []))).now) p.ran
+    ∙ ap (λ o. (run_on (length p.before + 1) (λ n. run g l (length p.before + 1) n []) o).now) p.refused)
 
 -- no document begins with octets that are refused
-pub begins_none : (l : Limits) (u : List ℕ) (r : Refusal) → (run l 0 initial u).now ≡ Err r → BeginsNone (Document l) u
-begins_none l u r h rest s d =
-    let i = ap (λ x. x.now) (run-append l 0 (length u) u rest (omega arith) initial) in
-    let j = ap (λ x. x.now) (document_run l (u ++ rest) s d).ran in
-    let k = ap (λ x. (on_now (run l 0 initial u).given x (λ n. run l (length u) n rest)).now) h in
+pub begins_none : (g : Catalog) (l : Limits) (u : List ℕ) (r : Refusal) → (run g l 0 initial u).now ≡ Err r → BeginsNone (Document g l) u
+begins_none g l u r h rest s d =
+    let i = ap (λ x. x.now) (run-append g l 0 (length u) u rest (omega arith) initial) in
+    let j = ap (λ x. x.now) (pieces_run g l (u ++ rest) s d.0 d.1).ran in
+    let k = ap (λ x. (on_now (run g l 0 initial u).given x (λ n. run g l (length u) n rest)).now) h in
     absurd cc
 
 -- whole pieces at the front of octets end where the open piece starts, or before it
-pub whole_within : (l : Limits) (v rest : List ℕ) (t : List Value) (n : Machine) → Whole l v t → (run l 0 initial (v ++ rest)).now ≡ Ok n → length v ≤ n.start
-whole_within l _ rest t n no_piece h = omega arith
-whole_within l _ rest t n (document v s d) h =
-    let i = ap (λ x. x.now) (run-append l 0 (length v) v rest (omega arith) initial) in
-    let j = ap (λ x. (then_run x (λ n. run l (length v) n rest)).now) (document_run l v s d).ran in
-    run_onward l (length v) (at (length v) (length v) [] Ready) rest n (omega arith) (sym j ∙ (sym i ∙ h))
+pub whole_within : (g : Catalog) (l : Limits) (v rest : List ℕ) (t : List Value) (n : Machine) → Whole g l v t → (run g l 0 initial (v ++ rest)).now ≡ Ok n → length v ≤ n.start
+whole_within g l _ rest t n no_piece h = omega arith
+whole_within g l _ rest t n (document v s c d) h =
+    let i = ap (λ x. x.now) (run-append g l 0 (length v) v rest (omega arith) initial) in
+    let j = ap (λ x. (then_run x (λ n. run g l (length v) n rest)).now) (pieces_run g l v s c d).ran in
+    run_onward g l (length v) (at (length v) (length v) c [] Ready) rest n (omega arith) (sym j ∙ (sym i ∙ h))

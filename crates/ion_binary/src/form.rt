@@ -1,6 +1,6 @@
 //! What a descriptor octet opens.
 ghost use Rattle.std.specs.Prelude.{◌≡◌};
-ghost use Rattle.ion_binary.specs.Opening.{opening_of, body_of};
+ghost use Rattle.ion_binary.specs.Opening.{opening_of, body_of, with_octets};
 
 use ion_model::{Kind, Reason};
 use ion_scalar::{Descriptor, Size};
@@ -10,6 +10,19 @@ use ion_scalar::{Descriptor, Size};
 pub enum Scalar {
     Int,
     NegativeInt,
+    Decimal,
+    Timestamp,
+    Symbol,
+    Str,
+    Clob,
+    Blob,
+}
+
+/// The two kinds of values that are items one behind the other.
+#[derive(Clone, Copy, Debug, PartialEq, Eq)]
+pub enum Listing {
+    List,
+    Sexp,
 }
 
 /// What has a length.
@@ -17,7 +30,12 @@ pub enum Scalar {
 pub enum Form {
     Pad,
     Scalar(Scalar),
-    List,
+    Listing(Listing),
+    Struct,
+    /// A struct that announces the order of its fields; it has at least one.
+    OrderedStruct,
+    /// An annotation wrapper: annotations, and the value that they stand before.
+    Wrapper,
 }
 
 /// What a descriptor octet opens, or why it can't stand where a value begins.
@@ -31,6 +49,7 @@ pub enum Opening {
 }
 
 /// What an octet opens where a value may begin.
+#[tactic(auto, unfolding(crate::specs::Opening::opening_of))]
 pub fn opening_of(octet: u8) -> Opening
     ensures { result ≡ opening_of octet }
 {
@@ -40,7 +59,7 @@ pub fn opening_of(octet: u8) -> Opening
         Ok(Descriptor::Null(kind)) => Opening::Null(kind),
         Ok(Descriptor::Truth(truth)) => Opening::Truth(truth),
         Ok(Descriptor::Pad(size)) => Opening::Sized(Form::Pad, size),
-        Ok(Descriptor::Ordered) => Opening::Refused(Reason::Malformed),
+        Ok(Descriptor::Ordered) => Opening::Sized(Form::OrderedStruct, Size::Follows),
         Ok(Descriptor::Body(code, size)) => body_of(code, size),
     }
 }
@@ -51,8 +70,27 @@ fn body_of(code: u8, size: Size) -> Opening
 {
     match code {
         2 => Opening::Sized(Form::Scalar(Scalar::Int), size),
-        3 => Opening::Sized(Form::Scalar(Scalar::NegativeInt), size),
-        11 => Opening::Sized(Form::List, size),
+        3 => with_octets(Scalar::NegativeInt, size),
+        5 => Opening::Sized(Form::Scalar(Scalar::Decimal), size),
+        6 => with_octets(Scalar::Timestamp, size),
+        7 => Opening::Sized(Form::Scalar(Scalar::Symbol), size),
+        8 => Opening::Sized(Form::Scalar(Scalar::Str), size),
+        9 => Opening::Sized(Form::Scalar(Scalar::Clob), size),
+        10 => Opening::Sized(Form::Scalar(Scalar::Blob), size),
+        11 => Opening::Sized(Form::Listing(Listing::List), size),
+        12 => Opening::Sized(Form::Listing(Listing::Sexp), size),
+        13 => Opening::Sized(Form::Struct, size),
+        14 => Opening::Sized(Form::Wrapper, size),
         _ => Opening::Refused(Reason::Malformed),
+    }
+}
+
+/// A scalar that no body without octets is: the descriptor alone shows that it is none.
+fn with_octets(scalar: Scalar, size: Size) -> Opening
+    ensures { result ≡ with_octets scalar size }
+{
+    match size {
+        Size::Known(0) => Opening::Refused(Reason::Malformed),
+        _ => Opening::Sized(Form::Scalar(scalar), size),
     }
 }

@@ -1,10 +1,19 @@
 //! Binary documents of Amazon Ion 1.0 (Ion 1.0, "Ion Binary Encoding").
 #![tactic(auto)]
 
+mod encoding;
 mod form;
+mod framing;
+pub mod laws;
+mod names;
+mod numbering;
 mod reader;
 mod scalar;
+mod state;
+mod table;
 #[cfg(test)]
 mod tests;
+mod writer;
 
 pub use reader::BinaryReader;
+pub use writer::BinaryWriter;

@@ -1,21 +1,48 @@
 //! The scalars whose octets are their body.
 ghost use Rattle.std.specs.Prelude.{◌≡◌, ◌^◌, ◌<◌, IfOk};
-ghost use Rattle.ion_binary.specs.Machine.{judge, int_of};
+ghost use Rattle.ion_symtab.specs.Outcome.{Gives};
+ghost use Rattle.ion_binary.specs.Judge.{judge, int_of, symbol_of, text_of};
 
 use crate::form::Scalar;
-use ion_model::{Payload, Reason, Whole};
-use ion_scalar::uint_of;
+use ion_model::{Bytes, Payload, Reason, Text, Whole};
+use ion_scalar::{decimal_of, timestamp_of, uint_of};
+use ion_symtab::Context;
+use std::mem;
 
-/// The scalar that a body is (Ion 1.0, "Ion Binary Encoding", "2 and 3: int"): `TooLarge` for an int
-/// of magnitude 2^127 and more, `Malformed` for a negative zero.
-pub fn judge(scalar: Scalar, body: &[u8]) -> Result<Payload, Reason>
-    ensures { result ≡ judge scalar body.now }
+/// The scalar that a body is (Ion 1.0, "Ion Binary Encoding", typed value formats). The octets of a
+/// string, clob or blob are taken over without a copy; nothing is said of what is left of the body.
+///
+/// `TooLarge` for an int of magnitude 2^127 and more, `Malformed` for a negative zero, `BadUtf8` for a
+/// string that isn't UTF-8; for a symbol what `Context::resolve` says of its id, and `TooLarge` from
+/// 2^127 on; for a decimal or timestamp what its body is refused for. `Memory` may come at any point.
+#[tactic(auto, unfolding(crate::specs::Judge::judge))]
+pub fn judge(context: &Context, scalar: Scalar, body: &mut Vec<u8>) -> Result<Payload, Reason>
+    ensures { Gives (judge context.now scalar body.old.items) result }
 {
-    let magnitude = uint_of(body);
     match scalar {
-        Scalar::Int => int_of(false, magnitude),
-        Scalar::NegativeInt => int_of(true, magnitude),
+        Scalar::Int => int_of(false, uint_of(body.as_slice())),
+        Scalar::NegativeInt => int_of(true, uint_of(body.as_slice())),
+        Scalar::Decimal => match decimal_of(body.as_slice()) {
+            Ok(decimal) => Ok(Payload::Decimal(decimal)),
+            Err(reason) => Err(reason),
+        },
+        Scalar::Timestamp => match timestamp_of(body.as_slice()) {
+            Ok(timestamp) => Ok(Payload::Timestamp(timestamp)),
+            Err(reason) => Err(reason),
+        },
+        Scalar::Symbol => symbol_of(context, uint_of(body.as_slice())),
+        Scalar::Str => text_of(taken(body)),
+        Scalar::Clob => Ok(Payload::Clob(Bytes::from_vec(taken(body)))),
+        Scalar::Blob => Ok(Payload::Blob(Bytes::from_vec(taken(body)))),
     }
+}
+
+/// The octets, in place of which none are left.
+fn taken(body: &mut Vec<u8>) -> Vec<u8>
+    ensures { result.items ≡ body.old.items }
+{
+    let none = Vec::new(*body.allocator());
+    mem::replace(body, none)
 }
 
 /// The int of a sign and a magnitude.
@@ -32,4 +59,30 @@ fn int_of(negative: bool, magnitude: Result<u128, Reason>) -> Result<Payload, Re
         Some(whole) => Ok(Payload::Int(whole)),
         None => unreachable!(),
     }
+}
+
+/// The symbol of an id.
+fn symbol_of(context: &Context, id: Result<u128, Reason>) -> Result<Payload, Reason>
+    ensures { Gives (symbol_of context.now id) result }
+{
+    let id = id?;
+    if id > context.max_id() as u128 {
+        return Err(Reason::SymbolRange);
+    }
+    match context.resolve(id as u64) {
+        Ok(symbol) => Ok(Payload::Symbol(symbol)),
+        Err(reason) => Err(reason),
+    }
+}
+
+/// The string of its octets.
+fn text_of(octets: Vec<u8>) -> Result<Payload, Reason>
+    ensures { result ≡ text_of octets.items }
+{
+    if !simdutf8::is_utf8(octets.as_slice()) {
+        return Err(Reason::BadUtf8);
+    }
+    // checked just now
+    let text = unsafe { String::from_utf8_unchecked(octets) };
+    Ok(Payload::Str(Text::from_string(text)))
 }

@@ -2,11 +2,17 @@
 ghost use Rattle.std.specs.Prelude.{◌≡◌, ◌+◌, ◌≤◌, ◌<◌, ◌^◌, true, length, IfOk};
 
 use crate::BinaryReader;
-use ion_model::{Payload, Reason, Refusal, Value, same_slow};
+use ion_model::{Payload, Reason, Refusal, Value, equivalent};
 use ion_symtab::{Catalog, Items, Limits, Step};
 use std::alloc::Global;
 use std::process::Abort;
 use std::test::Fail;
+
+mod bodies;
+mod malicious;
+mod structs;
+mod tables;
+mod worked;
 
 /// A document, by the octets behind its version marker, and what a reader answers.
 #[derive(Clone, Copy, Debug)]
@@ -50,6 +56,12 @@ impl Row {
         self
     }
 }
+
+/// Octets behind a version marker, and the octets used up to where each value comes.
+type Accepted = (&'static [u8], &'static [u64]);
+
+/// Octets behind a version marker, and the offset and the reason of the refusal.
+type Refused = (&'static [u8], u64, Reason);
 
 /// What a reader answered.
 #[derive(Debug, Drop)]
@@ -155,22 +167,44 @@ fn meets_at_each_cut(rt: &impl Abort, alloc: Global, row: &Row) -> Result<(), Fa
     Ok(())
 }
 
+/// Documents within the usual limits that are accepted.
+fn accepts(rt: &impl Abort, alloc: Global, rows: &[Accepted]) -> Result<(), Fail> {
+    for row in rows {
+        let (tail, totals) = *row;
+        meets_at_each_cut(rt, alloc, &Row::accepted(tail, totals))?;
+    }
+    Ok(())
+}
+
+/// Documents within the usual limits that are refused before they give a value.
+fn refuses(rt: &impl Abort, alloc: Global, rows: &[Refused]) -> Result<(), Fail> {
+    for row in rows {
+        let (tail, offset, reason) = *row;
+        meets_at_each_cut(rt, alloc, &Row::refused(tail, offset, reason))?;
+    }
+    Ok(())
+}
+
+static DOCUMENTS: [Accepted; 8] = [
+    (&[], &[]),
+    (&[0xB3, 0x21, 5, 0x11], &[8]),
+    (&[0xBE, 0x83, 0x21, 5, 0x11], &[9]),
+    (&[0x21, 5, 0x4F], &[6, 7]),
+    (&[0x20], &[5]),
+    (&[0x20, 0x20], &[5, 6]),
+    (&[0x0F, 0x0F], &[5, 6]),
+    (&[0xB4, 1, 0xFF, 0x20, 0], &[9]),
+];
+
 #[test]
 fn documents(rt: HostRuntime) -> Result<(), Fail> {
+    accepts(&rt, rt.alloc(), DOCUMENTS.as_slice())?;
     let rows = [
-        Row::accepted(&[], &[]),
-        Row::accepted(&[0xB3, 0x21, 5, 0x11], &[8]),
-        Row::accepted(&[0xBE, 0x83, 0x21, 5, 0x11], &[9]),
-        Row::accepted(&[0x21, 5, 0x4F], &[6, 7]),
-        Row::accepted(&[0x20], &[5]),
-        Row::accepted(&[0x20, 0x20], &[5, 6]),
-        Row::accepted(&[0x0F, 0x0F], &[5, 6]),
         Row::accepted(&[0xB2, 0xB1, 0x20], &[7]).with_depth(2),
         Row::accepted(&[0xBE, 0, 0x80], &[7]).with_item(3),
         // a second marker, and pads that count towards no limit
         Row::accepted(&[0x11, 0xE0, 1, 0, 0xEA, 0x20], &[5, 10]).with_depth(1),
         Row::accepted(&[1, 0xFF, 0x2E, 0x81, 0x11], &[9]).with_item(3),
-        Row::accepted(&[0xB4, 1, 0xFF, 0x20, 0], &[9]),
     ];
     for row in &rows {
         meets_at_each_cut(&rt, rt.alloc(), row)?;
@@ -178,32 +212,36 @@ fn documents(rt: HostRuntime) -> Result<(), Fail> {
     Ok(())
 }
 
+static REFUSALS: [Refused; 10] = [
+    (&[0x30], 5, Reason::Malformed),
+    (&[0x31, 0], 6, Reason::Malformed),
+    (&[0x13], 5, Reason::Malformed),
+    (&[0xB1, 0x21], 6, Reason::Malformed),
+    (&[0xB2, 0x0E, 0x85], 7, Reason::Malformed),
+    (&[0xB2, 0x0E, 0], 7, Reason::Malformed),
+    (&[0xE0, 1, 1, 0xEA], 8, Reason::Version),
+    (&[0x40], 5, Reason::Float),
+    // 2^127, and a pad of 2^63-1 octets that don't come
+    (
+        &[
+            0x2E, 0x90, 0x80, 0, 0, 0, 0, 0, 0, 0, 0, 0, 0, 0, 0, 0, 0, 0,
+        ],
+        22,
+        Reason::TooLarge,
+    ),
+    (
+        &[14, 0x7F, 0x7F, 0x7F, 0x7F, 0x7F, 0x7F, 0x7F, 0x7F, 0xFF],
+        14,
+        Reason::Incomplete,
+    ),
+];
+
 #[test]
 fn refusals(rt: HostRuntime) -> Result<(), Fail> {
+    refuses(&rt, rt.alloc(), REFUSALS.as_slice())?;
     let rows = [
-        Row::refused(&[0x30], 5, Reason::Malformed),
-        Row::refused(&[0x31, 0], 6, Reason::Malformed),
-        Row::refused(&[0x13], 5, Reason::Malformed),
-        Row::refused(&[0xB1, 0x21], 6, Reason::Malformed),
-        Row::refused(&[0xB2, 0x0E, 0x85], 7, Reason::Malformed),
-        Row::refused(&[0xB2, 0x0E, 0], 7, Reason::Malformed),
-        Row::refused(&[0xE0, 1, 1, 0xEA], 8, Reason::Version),
-        Row::refused(&[0x40], 5, Reason::Float),
         Row::refused(&[0xB3, 0xB2, 0xB1, 0x20], 7, Reason::Depth).with_depth(2),
         Row::refused(&[0xBE, 0, 0, 0, 0x81], 8, Reason::ItemTooLong).with_item(3),
-        // 2^127, and a pad of 2^63-1 octets that don't come
-        Row::refused(
-            &[
-                0x2E, 0x90, 0x80, 0, 0, 0, 0, 0, 0, 0, 0, 0, 0, 0, 0, 0, 0, 0,
-            ],
-            22,
-            Reason::TooLarge,
-        ),
-        Row::refused(
-            &[14, 0x7F, 0x7F, 0x7F, 0x7F, 0x7F, 0x7F, 0x7F, 0x7F, 0xFF],
-            14,
-            Reason::Incomplete,
-        ),
     ];
     for row in &rows {
         meets_at_each_cut(&rt, rt.alloc(), row)?;
@@ -218,12 +256,19 @@ fn one_value(alloc: Global, tail: &[u8]) -> Result<Value, Fail> {
     Ok(answers.values.pop().ok_or("no value")?)
 }
 
+/// Whether the one value of each of two documents is equivalent to the other's.
+fn agree(alloc: Global, left: &[u8], right: &[u8]) -> Result<bool, Fail> {
+    let left = one_value(alloc, left)?;
+    let right = one_value(alloc, right)?;
+    Ok(equivalent(alloc, &left, &right)?)
+}
+
 #[test]
 fn values(rt: HostRuntime) -> Result<(), Fail> {
     let alloc = rt.alloc();
     let short = one_value(alloc, &[0xB3, 0x21, 5, 0x11])?;
     let long = one_value(alloc, &[0xBE, 0x83, 0x21, 5, 0x11])?;
-    assert!(rt; same_slow(&short, &long));
+    assert!(rt; equivalent(alloc, &short, &long)?);
     if let Payload::List(items) = &short.payload
         && let [five, truth] = items.as_slice()
     {
@@ -240,6 +285,23 @@ fn values(rt: HostRuntime) -> Result<(), Fail> {
         ],
     )?;
     assert!(rt; matches!(&greatest.payload, Payload::Int(n) if n.get() == i128::MAX));
+    Ok(())
+}
+
+#[test]
+fn a_step_takes_a_whole_document(rt: HostRuntime) -> Result<(), Fail> {
+    let catalog = Catalog::new(rt.alloc());
+    let mut reader = BinaryReader::new(rt.alloc(), &catalog, Limits::usual())?;
+    let step = reader
+        .step(&[0xE0, 1, 0, 0xEA, 0x20])
+        .map_err(|_| "refused")?;
+    assert_eq!(rt; step.used, 5);
+    if let Some(value) = &step.value {
+        assert!(rt; matches!(&value.payload, Payload::Int(n) if n.get() == 0));
+    } else {
+        panic!(rt; "no value");
+    }
+    assert!(rt; matches!(reader.finish(), Ok(None)));
     Ok(())
 }
 

@@ -4,6 +4,8 @@ use Rattle.std.specs.Io.KnownBytes.{Appends, Keeps}
 use Rattle.ion_model.specs.declared.refusal.Refusal.{Refusal as the_refusal}
 use Rattle.ion_docs.specs.declared.comparison.Verdict.{Verdict}
 use Rattle.ion_docs.specs.declared.comparison.Verdict.TheVariants as verdicts
+use Rattle.ion_model.specs.declared.value.Value.{Value}
+use Rattle.ion_binary.specs.Output.{bin_of}
 use Rattle.ion_docs.specs.Listing.{accepted_line}
 use Rattle.ion_cmd.specs.declared.lines.Whose.TheVariants.{Only, One}
 use Rattle.ion_cmd.specs.declared.run.Ending.{Ending}
@@ -15,7 +17,7 @@ abbrev pub EndsChecked : Option (List ℕ) → Option (List ℕ) → Result ℕ 
 EndsChecked old new (Ok values) ending = (ending ≡ Accepted) × Appends old new (accepted_line values)
 EndsChecked old new (Err refusal) ending = (ending ≡ Refused Only refusal) × Keeps old new
 
--- `show` ends so with this answer; its lines have gone out before
+-- `show` and `convert` end so with this answer; what they write has gone out before
 abbrev pub EndsShown : Result ℕ the_refusal → Ending → Type 0
 EndsShown (Ok values) ending = ending ≡ Accepted
 EndsShown (Err refusal) ending = ending ≡ Refused Only refusal
@@ -27,8 +29,12 @@ EndsCompared old new (verdicts.Different index) ending = (ending ≡ Different) 
 EndsCompared old new (verdicts.Refused side refusal) ending = (ending ≡ Refused (One side) refusal) × Keeps old new
 
 -- the last line that went to the output, if any must have
+abbrev pub TellsLine : Option (List ℕ) → Option (List ℕ) → Type 0
+TellsLine old new = (front : List ℕ) × (values : ℕ) × (Appends old new (front ++ accepted_line values) ⊎ Appends old new (equivalent_line values))
+
+-- that line, or the document of some stream
 abbrev pub TellsAccepted : Option (List ℕ) → Option (List ℕ) → Type 0
-TellsAccepted old new = (front : List ℕ) × (values : ℕ) × (Appends old new (front ++ accepted_line values) ⊎ Appends old new (equivalent_line values))
+TellsAccepted old new = TellsLine old new ⊎ ((s : List Value) × Appends old new (bin_of s))
 
 abbrev pub TellsDifferent : Option (List ℕ) → Option (List ℕ) → Type 0
 TellsDifferent old new = (index : ℕ) × Appends old new (different_line index)

@@ -43,7 +43,7 @@ IsCause failed Memory = ⊤
 IsCause failed Read = ⊤
 IsCause failed Write = failed ≡ true
 IsCause failed TooManyReads = ⊤
-IsCause failed TooLarge = ⊥
+IsCause failed TooLarge = ⊤
 IsCause failed Open = ⊤
 
 -- between old and new a device took a front of this line, and the whole of it unless it has failed

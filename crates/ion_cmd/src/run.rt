@@ -8,6 +8,7 @@ ghost use Rattle.ion_docs.specs.Documents.{Denotes, Pieces};
 ghost use Rattle.ion_docs.specs.Checked.{IsChecked};
 ghost use Rattle.ion_docs.specs.Listing.{IsShown, IsWriteCause};
 ghost use Rattle.ion_docs.specs.Compared.{IsCompared};
+ghost use Rattle.ion_docs.specs.Converted.{IsConverted};
 ghost use Rattle.ion_cmd.specs.Lines.{fault_line, refusal_line, IsCause, Reports, ReportsRefusal, ReportsFault};
 ghost use Rattle.ion_cmd.specs.Endings.{EndsChecked, EndsShown, EndsCompared, TellsAccepted, TellsDifferent, TellsEnding};
 
@@ -16,7 +17,7 @@ use crate::lines::{
 };
 use crate::sources::Sources;
 use crate::words::{Request, Task, WordsError, parse};
-use ion_docs::{Verdict, check, compare, show};
+use ion_docs::{Target, Verdict, check, compare, convert, show};
 use ion_model::Refusal;
 use ion_symtab::{Catalog, Fault, Inlet, Limits, Outlet, flushed, write_whole};
 use std::alloc::Global;
@@ -164,6 +165,10 @@ fn ending_of<N: Sources, O: Outlet>(
     match request.task {
         Task::Check(name) => checked(alloc, &mut sources.source(name)?, out, catalog, limits),
         Task::Show(name) => shown(alloc, &mut sources.source(name)?, out, catalog, limits),
+        Task::Convert(name, target) => {
+            let mut source = sources.source(name)?;
+            converted(alloc, &mut source, out, target, catalog, limits)
+        }
         Task::Compare(left, right) => {
             let mut left = sources.source(left)?;
             let mut right = sources.source(right)?;
@@ -179,7 +184,7 @@ fn checked<R: Inlet, O: Outlet>(
     catalog: &Catalog,
     limits: Limits,
 ) -> Result<Ending, Fault>
-    ensures ending { IfOk result (λ ending. (answer : Result ℕ Refusal) × IsChecked R.tells (Denotes limits) (Pieces limits) reader.old answer
+    ensures ending { IfOk result (λ ending. (answer : Result ℕ Refusal) × IsChecked R.tells (Denotes catalog.now limits) (Pieces catalog.now limits) reader.old answer
         × EndsChecked (O.took out.old) (O.took out.new) answer ending) }
     ensures cause { IfErr result (λ fault. IsReadCause R.calls_made R.has_failed R.has_ended limits.reads reader.old reader.new fault
         ⊎ IsWriteCause O.has_failed out.new fault) }
@@ -201,11 +206,29 @@ fn shown<R: Inlet, O: Outlet>(
     limits: Limits,
 ) -> Result<Ending, Fault>
     ensures ending { IfOk result (λ ending. (answer : Result ℕ Refusal)
-        × IsShown R.tells (Denotes limits) (Pieces limits) reader.old (O.took out.old) (O.took out.new) answer × EndsShown answer ending) }
+        × IsShown R.tells (Denotes catalog.now limits) (Pieces catalog.now limits) reader.old (O.took out.old) (O.took out.new) answer × EndsShown answer ending) }
     ensures cause { IfErr result (λ fault. IsReadCause R.calls_made R.has_failed R.has_ended limits.reads reader.old reader.new fault
         ⊎ IsWriteCause O.has_failed out.new fault) }
 {
     match show(alloc, reader, out, catalog, limits)? {
+        Ok(_) => Ok(Ending::Accepted),
+        Err(refusal) => Ok(Ending::Refused(Whose::Only, refusal)),
+    }
+}
+
+fn converted<R: Inlet, O: Outlet>(
+    alloc: Global,
+    reader: &mut R,
+    out: &mut O,
+    target: Target,
+    catalog: &Catalog,
+    limits: Limits,
+) -> Result<Ending, Fault>
+    ensures ending { IfOk result (λ ending. (answer : Result ℕ Refusal)
+        × IsConverted R.tells (Denotes catalog.now limits) (Pieces catalog.now limits) reader.old (O.took out.old) (O.took out.new) answer × EndsShown answer ending) }
+    ensures cause { IfErr result (IsCause (O.has_failed out.new)) }
+{
+    match convert(alloc, reader, out, target, catalog, limits)? {
         Ok(_) => Ok(Ending::Accepted),
         Err(refusal) => Ok(Ending::Refused(Whose::Only, refusal)),
     }
@@ -220,7 +243,7 @@ fn compared<L: Inlet, R: Inlet, O: Outlet>(
     limits: Limits,
 ) -> Result<Ending, Fault>
     ensures ending { IfOk result (λ ending. (verdict : Verdict)
-        × IsCompared (Denotes limits) (Pieces limits) (Denotes limits) (Pieces limits) L.tells R.tells left.old right.old verdict
+        × IsCompared (Denotes catalog.now limits) (Pieces catalog.now limits) (Denotes catalog.now limits) (Pieces catalog.now limits) L.tells R.tells left.old right.old verdict
         × EndsCompared (O.took out.old) (O.took out.new) verdict ending) }
     ensures cause { IfErr result (λ fault. IsReadCause L.calls_made L.has_failed L.has_ended limits.reads left.old left.new fault
         ⊎ IsReadCause R.calls_made R.has_failed R.has_ended limits.reads right.old right.new fault

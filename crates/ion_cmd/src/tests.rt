@@ -157,7 +157,7 @@ static ROWS: [Row; 20] = [
 const USAGE: &str =
     "usage: ion_cmd check|show|convert|compare FILE.. [--to text|binary] [--catalog FILE] [--depth N] [--item N]\n";
 
-static WRONG_WORDS: [&[&str]; 22] = [
+static WRONG_WORDS: [&[&str]; 25] = [
     &[""],
     &["--help"],
     &["-h"],
@@ -179,6 +179,9 @@ static WRONG_WORDS: [&[&str]; 22] = [
     &["check", "list", "--item", "0"],
     &["check", "list", "--item", "1073741825"],
     &["check", "list", "--to", "text"],
+    &["convert", "list"],
+    &["convert", "list", "--to", "text"],
+    &["convert", "--to", "binary"],
     &["list"],
 ];
 

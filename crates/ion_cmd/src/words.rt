@@ -10,6 +10,7 @@ ghost use Rattle.ion_cmd.specs.Words.{IsTaskOf, HasNoTask, IsStandardShow, AreLi
 
 use clap::error::ErrorKind;
 use clap::{Arg, ArgMatches, Command, Error, value_parser};
+use ion_docs::Target;
 use ion_symtab::Limits;
 use std::alloc::{AllocError, Global};
 use std::convert::AsStr;
@@ -19,6 +20,7 @@ use std::convert::AsStr;
 pub enum Task<'a> {
     Check(&'a str),
     Show(&'a str),
+    Convert(&'a str, Target),
     Compare(&'a str, &'a str),
 }
 
@@ -88,6 +90,13 @@ fn task_of<'a>(name: &str, matches: &ArgMatches<'a>) -> Result<Task<'a>, WordsEr
     match name {
         "check" => Ok(Task::Check(given(matches, "FILE")?)),
         "show" => Ok(Task::Show(given(matches, "FILE")?)),
+        "convert" => {
+            let file = given(matches, "FILE")?;
+            match given(matches, "to")? {
+                "binary" => Ok(Task::Convert(file, Target::Binary)),
+                _ => Err(WordsError::Usage),
+            }
+        }
         "compare" => {
             let left = given(matches, "LEFT")?;
             let right = given(matches, "RIGHT")?;
@@ -127,6 +136,10 @@ fn limits_of(matches: &ArgMatches<'_>) -> Result<Limits, WordsError>
 fn command<'a>(alloc: Global) -> Result<Command<'a>, AllocError> {
     let check = Command::new(alloc, "check").arg(file(alloc, "FILE"))?;
     let show = Command::new(alloc, "show").arg(file(alloc, "FILE"))?;
+    let to = Arg::new(alloc, "to").long("to").required(true);
+    let convert = Command::new(alloc, "convert")
+        .arg(file(alloc, "FILE"))?
+        .arg(to)?;
     let compare = Command::new(alloc, "compare")
         .arg(file(alloc, "LEFT"))?
         .arg(file(alloc, "RIGHT"))?;
@@ -135,6 +148,7 @@ fn command<'a>(alloc: Global) -> Result<Command<'a>, AllocError> {
         .subcommand_required(true)
         .subcommand(with_limits(alloc, check)?)?
         .subcommand(with_limits(alloc, show)?)?
+        .subcommand(with_limits(alloc, convert)?)?
         .subcommand(with_limits(alloc, compare)?)
 }
 

@@ -5,3 +5,4 @@ pub mod Courses
 pub mod Chosen
 pub mod Fronts
 pub mod Verdicts
+pub mod Conversions

@@ -6,8 +6,10 @@ use Rattle.ion_model.specs.declared.refusal.Refusal.{Refusal}
 use Rattle.ion_symtab.specs.declared.catalog.Catalog.{Catalog}
 use Rattle.ion_symtab.specs.declared.limits.Limits.{Limits}
 use Rattle.ion_symtab.specs.Trace.{Trace, Streams, Grows, plain}
-use Rattle.ion_symtab.specs.Promises.{Refuses, BeginsNone, Shown, Shows, IsSmall}
-use Rattle.ion_binary.specs.Grammar.{Document, begins, marked, skips, holds, the_marker, Whole, no_piece, document, OpenRest, of_marker}
+use Rattle.ion_symtab.specs.Promises.{Refuses, BeginsNone, Shown, Shows, IsSmall, GivesNoTable}
+use Rattle.ion_symtab.specs.Slots.{Slot, system_slots}
+use Rattle.ion_binary.specs.Grammar as grammar
+use Rattle.ion_binary.specs.Grammar.{Document, begins, marked, skips, turns, holds, the_marker, Whole, no_piece, document, OpenRest, of_marker}
 use Rattle.ion_binary.specs.Run.{trace}
 use Rattle.ion_binary.specs.Laws as binary
 use Rattle.ion_binary.specs.StandsLaws.{given_of, bounded}
@@ -22,131 +24,132 @@ pub binary-append : (u w : List ℕ) → is_binary u ≡ true → is_binary (u +
 binary-append [] w h = absurd cc
 binary-append (first ∷ u) w h = h
 
--- a binary document begins with E0
-document_binary : (l : Limits) (w : List ℕ) (s : List Value) → Document l w s → is_binary w ≡ true
-document_binary l _ _ begins = refl
-document_binary l _ _ (marked u s d) = binary-append u the_marker (document_binary l u s d)
-document_binary l _ _ (skips u w s d p) = binary-append u w (document_binary l u s d)
-document_binary l _ _ (holds u w s v d b p q) = binary-append u w (document_binary l u s d)
+-- the pieces of a binary document begin with E0
+pieces_binary : (g : Catalog) (l : Limits) (w : List ℕ) (s : List Value) (c : List Slot) → grammar.Pieces g l w s c → is_binary w ≡ true
+pieces_binary g l _ _ _ begins = refl
+pieces_binary g l _ _ _ (marked u s c d) = binary-append u the_marker (pieces_binary g l u s c d)
+pieces_binary g l _ _ _ (skips u w s c d p) = binary-append u w (pieces_binary g l u s c d)
+pieces_binary g l _ _ _ (turns u w s c e v d b t n p q) = binary-append u w (pieces_binary g l u s c d)
+pieces_binary g l _ _ _ (holds u w s c v d b t p q) = binary-append u w (pieces_binary g l u s c d)
 
 pub chosen_binary : (g : Catalog) (l : Limits) (u : List ℕ) → is_binary u ≡ true → chosen g l u ≡ trace g l u
 chosen_binary g l [] h = absurd cc
 chosen_binary g l (first ∷ u) h = ap (λ b. cond b (trace g l (first ∷ u)) refused_at_first) h
 
-other_first : (l : Limits) (first : ℕ) (w : List ℕ) (s : List Value) → (first == 0xE0) ≡ false → Denotes l (first ∷ w) s → ⊥
-other_first l first w s h (in_binary _ _ e d) = cc
+other_first : (g : Catalog) (l : Limits) (first : ℕ) (w : List ℕ) (s : List Value) → (first == 0xE0) ≡ false → Denotes g l (first ∷ w) s → ⊥
+other_first g l first w s h (in_binary _ _ e d) = cc
 
 -- octets denote a stream exactly where they end well
-nothing_admits : (l : Limits) (s : List Value) → Streams nothing_read s → Denotes l [] s
-nothing_admits l s t =
+nothing_admits : (g : Catalog) (l : Limits) (s : List Value) → Streams nothing_read s → Denotes g l [] s
+nothing_admits g l s t =
     let last : t.last ≡ None = cc t.ends in
-    subst (Denotes l []) (sym (t.values ∙ ap option_to_list last)) is_empty
+    subst (Denotes g l []) (sym (t.values ∙ ap option_to_list last)) is_empty
 
-nothing_accepts : (l : Limits) (w : List ℕ) (s : List Value) → w ≡ [] → Denotes l w s → Streams nothing_read s
-nothing_accepts l _ _ e is_empty = record { last = None; ends = refl; values = refl }
-nothing_accepts l _ _ e (in_binary w s h d) = let k : is_binary w ≡ false = ap is_binary e in absurd cc
+nothing_accepts : (g : Catalog) (l : Limits) (w : List ℕ) (s : List Value) → w ≡ [] → Denotes g l w s → Streams nothing_read s
+nothing_accepts g l _ _ e is_empty = record { last = None; ends = refl; values = refl }
+nothing_accepts g l _ _ e (in_binary w s h d) = let k : is_binary w ≡ false = ap is_binary e in absurd cc
 
-first_admits : (g : Catalog) (l : Limits) (first : ℕ) (w : List ℕ) (s : List Value) (t : Trace) → t ≡ chosen g l (first ∷ w) → Streams t s → Denotes l (first ∷ w) s
+first_admits : (g : Catalog) (l : Limits) (first : ℕ) (w : List ℕ) (s : List Value) (t : Trace) → t ≡ chosen g l (first ∷ w) → Streams t s → Denotes g l (first ∷ w) s
 first_admits g l first w s t e =
-    subst (λ (x : Trace). Streams x s → Denotes l (first ∷ w) s) (sym e)
-    (cond_both (first == 0xE0) (trace g l (first ∷ w)) refused_at_first (λ (x : Trace). Streams x s → Denotes l (first ∷ w) s)
+    subst (λ (x : Trace). Streams x s → Denotes g l (first ∷ w) s) (sym e)
+    (cond_both (first == 0xE0) (trace g l (first ∷ w)) refused_at_first (λ (x : Trace). Streams x s → Denotes g l (first ∷ w) s)
     (λ h r. in_binary (first ∷ w) s h ((binary.exact g l (first ∷ w) s).0 r))
     (λ h r. let k = r.ends in absurd cc))
 
-first_accepts : (g : Catalog) (l : Limits) (u : List ℕ) (s : List Value) → Denotes l u s → 0 < length u → Streams (chosen g l u) s
+first_accepts : (g : Catalog) (l : Limits) (u : List ℕ) (s : List Value) → Denotes g l u s → 0 < length u → Streams (chosen g l u) s
 first_accepts g l _ _ is_empty h = absurd (omega arith)
 first_accepts g l _ _ (in_binary w s e d) h = subst (λ (x : Trace). Streams x s) (sym (chosen_binary g l w e)) ((binary.exact g l w s).1 d)
 
-pub chosen_exact : (g : Catalog) (l : Limits) (u : List ℕ) (s : List Value) → Streams (chosen g l u) s ↔ Denotes l u s
-chosen_exact g l [] s = (nothing_admits l s, nothing_accepts l [] s refl)
+pub chosen_exact : (g : Catalog) (l : Limits) (u : List ℕ) (s : List Value) → Streams (chosen g l u) s ↔ Denotes g l u s
+chosen_exact g l [] s = (nothing_admits g l s, nothing_accepts g l [] s refl)
 chosen_exact g l (first ∷ w) s = (first_admits g l first w s (chosen g l (first ∷ w)) refl, λ d. first_accepts g l (first ∷ w) s d (omega arith))
 
 -- octets denote at most one stream
-same_stream : (l : Limits) (u w : List ℕ) (s t : List Value) → u ≡ w → Denotes l u s → Denotes l w t → s ≡ t
-same_stream l _ _ _ _ e is_empty is_empty = refl
-same_stream l _ _ _ _ e is_empty (in_binary w t h d) = let k : is_binary w ≡ false = ap is_binary (sym e) in absurd cc
-same_stream l _ _ _ _ e (in_binary u s h d) is_empty = let k : is_binary u ≡ false = ap is_binary e in absurd cc
-same_stream l _ _ _ _ e (in_binary u s h d) (in_binary w t i f) = binary.one_stream l w s t (subst (λ x. Document l x s) e d) f
+same_stream : (g : Catalog) (l : Limits) (u w : List ℕ) (s t : List Value) → u ≡ w → Denotes g l u s → Denotes g l w t → s ≡ t
+same_stream g l _ _ _ _ e is_empty is_empty = refl
+same_stream g l _ _ _ _ e is_empty (in_binary w t h d) = let k : is_binary w ≡ false = ap is_binary (sym e) in absurd cc
+same_stream g l _ _ _ _ e (in_binary u s h d) is_empty = let k : is_binary u ≡ false = ap is_binary e in absurd cc
+same_stream g l _ _ _ _ e (in_binary u s h d) (in_binary w t i f) = binary.one_stream g l w s t (subst (λ x. Document g l x s) e d) f
 
-pub one_document : (l : Limits) (u : List ℕ) (s t : List Value) → Denotes l u s → Denotes l u t → s ≡ t
-one_document l u s t a b = same_stream l u u s t refl a b
+pub one_document : (g : Catalog) (l : Limits) (u : List ℕ) (s t : List Value) → Denotes g l u s → Denotes g l u t → s ≡ t
+one_document g l u s t a b = same_stream g l u u s t refl a b
 
 -- pieces are those of the binary format
-pieces_whole : (l : Limits) (w following : List ℕ) (s : List Value) → Pieces l w following s → Whole l w s
-pieces_whole l _ _ _ (binary_pieces w following s h) = h
+pieces_whole : (g : Catalog) (l : Limits) (w following : List ℕ) (s : List Value) → Pieces g l w following s → Whole g l w s
+pieces_whole g l _ _ _ (binary_pieces w following s h) = h
 
-abbrev shown_by : (l : Limits) (u : List ℕ) (s : List Value) → Shown (λ front following t. Whole l front t) u s → Shown (Pieces l) u s
-shown_by l u s h = record {
+abbrev shown_by : (g : Catalog) (l : Limits) (u : List ℕ) (s : List Value) → Shown (λ front following t. Whole g l front t) u s → Shown (Pieces g l) u s
+shown_by g l u s h = record {
   front = h.front;
   open_rest = h.open_rest;
   parts = h.parts;
   whole = λ following. binary_pieces h.front (h.open_rest ++ following) s (h.whole following);
-  longest = λ v rest t e w. h.longest v rest t e (λ following. pieces_whole l v (rest ++ following) t (w following));
+  longest = λ v rest t e w. h.longest v rest t e (λ following. pieces_whole g l v (rest ++ following) t (w following));
 }
 
 -- where no binary document begins so, no document does
-none_document : (l : Limits) (u : List ℕ) → BeginsNone (Document l) u → BeginsNone (Denotes l) u
-none_document l u none rest s d = go (u ++ rest) s d refl
+none_document : (g : Catalog) (l : Limits) (u : List ℕ) → BeginsNone (Document g l) u → BeginsNone (Denotes g l) u
+none_document g l u none rest s d = go (u ++ rest) s d refl
   where
-    go : (w : List ℕ) (s : List Value) → Denotes l w s → w ≡ u ++ rest → ⊥
+    go : (w : List ℕ) (s : List Value) → Denotes g l w s → w ≡ u ++ rest → ⊥
     go _ _ is_empty e = empty u rest e none
       where
-        empty : (u rest : List ℕ) → [] ≡ u ++ rest → BeginsNone (Document l) u → ⊥
-        empty [] rest e none = none the_marker [] begins
+        empty : (u rest : List ℕ) → [] ≡ u ++ rest → BeginsNone (Document g l) u → ⊥
+        empty [] rest e none = none the_marker [] (system_slots, begins)
         empty (x ∷ u) rest e none = cc
-    go _ _ (in_binary w s h d) e = none rest s (subst (λ x. Document l x s) e d)
+    go _ _ (in_binary w s h d) e = none rest s (subst (λ x. Document g l x s) e d)
 
-refuses_by : (l : Limits) (u : List ℕ) (t : Trace) (r : Refusal) → Refuses (Document l) (λ front following s. Whole l front s) u t r → Refuses (Denotes l) (Pieces l) u t r
-refuses_by l u t r h = record {
+refuses_by : (g : Catalog) (l : Limits) (u : List ℕ) (t : Trace) (r : Refusal) → Refuses (Document g l) (λ front following s. Whole g l front s) u t r → Refuses (Denotes g l) (Pieces g l) u t r
+refuses_by g l u t r h = record {
   within = h.within;
-  none = none_document l (take r.offset u) h.none;
-  shown = shown_by l (take r.offset u) (plain t.given) h.shown;
+  none = none_document g l (take r.offset u) h.none;
+  shown = shown_by g l (take r.offset u) (plain t.given) h.shown;
   ends = h.ends;
   whole_memory = h.whole_memory;
   before_end = h.before_end;
 }
 
 -- octets that don't begin with E0 show nothing
-nothing_shown : (l : Limits) (first : ℕ) (w : List ℕ) → (first == 0xE0) ≡ false → Shown (Pieces l) (first ∷ w) []
-nothing_shown l first w h = record {
+nothing_shown : (g : Catalog) (l : Limits) (first : ℕ) (w : List ℕ) → (first == 0xE0) ≡ false → Shown (Pieces g l) (first ∷ w) []
+nothing_shown g l first w h = record {
   front = [];
   open_rest = first ∷ w;
   parts = refl;
   whole = λ following. binary_pieces [] ((first ∷ w) ++ following) [] no_piece;
-  longest = λ v rest t e p. none v rest t e (pieces_whole l v (rest ++ []) t (p []));
+  longest = λ v rest t e p. none v rest t e (pieces_whole g l v (rest ++ []) t (p []));
 }
   where
-    none : (v rest : List ℕ) (t : List Value) → first ∷ w ≡ v ++ rest → Whole l v t → length v ≤ 0
+    none : (v rest : List ℕ) (t : List Value) → first ∷ w ≡ v ++ rest → Whole g l v t → length v ≤ 0
     none _ rest _ e no_piece = omega arith
-    none _ rest _ e (document v s d) =
-        let k = binary-append v rest (document_binary l v s d) in
+    none _ rest _ e (document v s c d) =
+        let k = binary-append v rest (pieces_binary g l v s c d) in
         let i : (first == 0xE0) ≡ true = ap is_binary e ∙ k in
         absurd cc
 
-first_refuses : (l : Limits) (first : ℕ) (w : List ℕ) → (first == 0xE0) ≡ false → Refuses (Denotes l) (Pieces l) (first ∷ w) refused_at_first at_first
-first_refuses l first w h = record {
+first_refuses : (g : Catalog) (l : Limits) (first : ℕ) (w : List ℕ) → (first == 0xE0) ≡ false → Refuses (Denotes g l) (Pieces g l) (first ∷ w) refused_at_first at_first
+first_refuses g l first w h = record {
   within = omega arith;
-  none = λ rest s d. other_first l first rest s h d;
-  shown = nothing_shown l first [] h;
+  none = λ rest s d. other_first g l first rest s h d;
+  shown = nothing_shown g l first [] h;
   ends = refl;
   whole_memory = λ e. cc;
   before_end = λ e. cc;
 }
 
-first_refused : (g : Catalog) (l : Limits) (first : ℕ) (w : List ℕ) (r : Refusal) → (chosen g l (first ∷ w)).refused ≡ Some r → Refuses (Denotes l) (Pieces l) (first ∷ w) (chosen g l (first ∷ w)) r
+first_refused : (g : Catalog) (l : Limits) (first : ℕ) (w : List ℕ) (r : Refusal) → (chosen g l (first ∷ w)).refused ≡ Some r → Refuses (Denotes g l) (Pieces g l) (first ∷ w) (chosen g l (first ∷ w)) r
 first_refused g l first w r =
-    let P : Trace → Type 0 = λ t. t.refused ≡ Some r → Refuses (Denotes l) (Pieces l) (first ∷ w) t r in
+    let P : Trace → Type 0 = λ t. t.refused ≡ Some r → Refuses (Denotes g l) (Pieces g l) (first ∷ w) t r in
     cond_both (first == 0xE0) (trace g l (first ∷ w)) refused_at_first P
-    (λ e h. refuses_by l (first ∷ w) (trace g l (first ∷ w)) r (binary.refused g l (first ∷ w) r h))
-    (λ e h. let k : at_first ≡ r = cc h in subst (Refuses (Denotes l) (Pieces l) (first ∷ w) refused_at_first) k (first_refuses l first w e))
+    (λ e h. refuses_by g l (first ∷ w) (trace g l (first ∷ w)) r (binary.refused g l (first ∷ w) r h))
+    (λ e h. let k : at_first ≡ r = cc h in subst (Refuses (Denotes g l) (Pieces g l) (first ∷ w) refused_at_first) k (first_refuses g l first w e))
 
 -- a refusal at n means that no document begins with the first n octets
-pub chosen_refused : (g : Catalog) (l : Limits) (u : List ℕ) (r : Refusal) → (chosen g l u).refused ≡ Some r → Refuses (Denotes l) (Pieces l) u (chosen g l u) r
+pub chosen_refused : (g : Catalog) (l : Limits) (u : List ℕ) (r : Refusal) → (chosen g l u).refused ≡ Some r → Refuses (Denotes g l) (Pieces g l) u (chosen g l u) r
 chosen_refused g l [] r h = absurd cc
 chosen_refused g l (first ∷ w) r h = first_refused g l first w r h
 
-shows_nothing : (l : Limits) → Shows (Pieces l) (λ front rest. OpenRest l rest) [] []
-shows_nothing l = record {
+shows_nothing : (g : Catalog) (l : Limits) → Shows (Pieces g l) (λ front rest. OpenRest l rest) [] []
+shows_nothing g l = record {
   shown = record {
     front = [];
     open_rest = [];
@@ -157,16 +160,16 @@ shows_nothing l = record {
   rest = of_marker [] (omega arith);
 }
 
-first_shown : (g : Catalog) (l : Limits) (first : ℕ) (w : List ℕ) → (chosen g l (first ∷ w)).refused ≡ None → Shows (Pieces l) (λ front rest. OpenRest l rest) (first ∷ w) (plain (chosen g l (first ∷ w)).given)
+first_shown : (g : Catalog) (l : Limits) (first : ℕ) (w : List ℕ) → (chosen g l (first ∷ w)).refused ≡ None → Shows (Pieces g l) (λ front rest. OpenRest l rest) (first ∷ w) (plain (chosen g l (first ∷ w)).given)
 first_shown g l first w =
-    let P : Trace → Type 0 = λ t. t.refused ≡ None → Shows (Pieces l) (λ front rest. OpenRest l rest) (first ∷ w) (plain t.given) in
+    let P : Trace → Type 0 = λ t. t.refused ≡ None → Shows (Pieces g l) (λ front rest. OpenRest l rest) (first ∷ w) (plain t.given) in
     cond_both (first == 0xE0) (trace g l (first ∷ w)) refused_at_first P
-    (λ e h. let s = binary.shown g l (first ∷ w) h in record { shown = shown_by l (first ∷ w) (plain (trace g l (first ∷ w)).given) s.shown; rest = s.rest })
+    (λ e h. let s = binary.shown g l (first ∷ w) h in record { shown = shown_by g l (first ∷ w) (plain (trace g l (first ∷ w)).given) s.shown; rest = s.rest })
     (λ e h. absurd cc)
 
 -- where nothing was refused, the values given are those shown
-pub chosen_shown : (g : Catalog) (l : Limits) (u : List ℕ) → (chosen g l u).refused ≡ None → Shows (Pieces l) (λ front rest. OpenRest l rest) u (plain (chosen g l u).given)
-chosen_shown g l [] h = shows_nothing l
+pub chosen_shown : (g : Catalog) (l : Limits) (u : List ℕ) → (chosen g l u).refused ≡ None → Shows (Pieces g l) (λ front rest. OpenRest l rest) u (plain (chosen g l u).given)
+chosen_shown g l [] h = shows_nothing g l
 chosen_shown g l (first ∷ w) h = first_shown g l first w h
 
 first_unfinished : (g : Catalog) (l : Limits) (first : ℕ) (w : List ℕ) (r : Refusal) → (chosen g l (first ∷ w)).refused ≡ None → (chosen g l (first ∷ w)).ends ≡ Err r → r.offset ≡ length (first ∷ w)
@@ -184,6 +187,12 @@ pub chosen_small : (g : Catalog) (l : Limits) (u : List ℕ) → IsSmall u (chos
 chosen_small g l [] = record { given = omega arith; last = λ v h. absurd cc }
 chosen_small g l (first ∷ w) =
     cond_both (first == 0xE0) (trace g l (first ∷ w)) refused_at_first (IsSmall (first ∷ w)) (λ e. binary.small g l (first ∷ w)) (λ e. record { given = omega arith; last = λ v h. absurd cc })
+
+-- no value given is a local symbol table
+pub chosen_values : (g : Catalog) (l : Limits) (u : List ℕ) → GivesNoTable (chosen g l u)
+chosen_values g l [] = record { given = tt; last = λ v h. absurd cc }
+chosen_values g l (first ∷ w) =
+    cond_both (first == 0xE0) (trace g l (first ∷ w)) refused_at_first GivesNoTable (λ e. binary.no_tables g l (first ∷ w)) (λ e. record { given = tt; last = λ v h. absurd cc })
 
 -- what was refused stays refused, and what was given stays given
 grows_by : (b : Bool) (before after : Trace) → Grows before after → Grows (cond b before refused_at_first) (cond b after refused_at_first)

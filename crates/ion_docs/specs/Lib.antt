@@ -9,3 +9,4 @@ pub mod Courses
 pub mod Chosen
 pub mod DocStands
 pub mod DocLaws
+pub mod Converted

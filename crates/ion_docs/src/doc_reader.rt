@@ -69,15 +69,15 @@ impl Items for DocReader<'_> {
     ghost use Rattle.ion_docs.specs.Documents.{Denotes, Pieces};
     ghost use Rattle.ion_docs.specs.Chosen.{chosen};
     ghost use Rattle.ion_docs.specs.DocStands.{DocStands, taken_of, failed_of, kept_of};
-    ghost use Rattle.ion_docs.specs.DocLaws.{doc_counted, doc_given, doc_bounded, chosen_grows, chosen_exact, one_document, chosen_refused, chosen_shown, chosen_unfinished, chosen_small};
+    ghost use Rattle.ion_docs.specs.DocLaws.{doc_counted, doc_given, doc_bounded, chosen_grows, chosen_exact, one_document, chosen_refused, chosen_shown, chosen_unfinished, chosen_small, chosen_values};
 
     ghost catalog = { λ r. r.catalog.now };
 
     ghost limits = { λ r. r.limits };
 
-    ghost denotes = { λ g l. Denotes l };
+    ghost denotes = { Denotes };
 
-    ghost pieces = { λ g l. Pieces l };
+    ghost pieces = { Pieces };
 
     ghost open_after = { λ l front rest. OpenRest l rest };
 
@@ -105,7 +105,7 @@ impl Items for DocReader<'_> {
 
     ghost exact = { chosen_exact };
 
-    ghost one_stream = { λ g l u s t. one_document l u s t };
+    ghost one_stream = { one_document };
 
     ghost refused = { chosen_refused };
 
@@ -114,6 +114,8 @@ impl Items for DocReader<'_> {
     ghost unfinished = { chosen_unfinished };
 
     ghost small = { chosen_small };
+
+    ghost no_tables = { chosen_values };
 
     fn step(&mut self, piece: &[u8]) -> Result<Step, Refusal> {
         match &mut self.format {

@@ -4,10 +4,12 @@ ghost use Rattle.ion_symtab.specs.Cause.{IsReadCause};
 ghost use Rattle.ion_docs.specs.Documents.{Denotes, Pieces};
 ghost use Rattle.ion_docs.specs.Checked.{IsChecked};
 ghost use Rattle.ion_docs.specs.Compared.{IsCompared};
+ghost use Rattle.ion_docs.specs.Converted.{IsConverted, ReadSoFar, ConvertsSoFar, IsConvertCause};
 ghost use Rattle.ion_docs.specs.Listing.{IsShown, IsWriteCause, ShowsSoFar};
 
 use crate::checking::check_items;
 use crate::comparison::{Verdict, compare_items};
+use crate::conversion::{Target, convert_items};
 use crate::doc_reader::DocReader;
 use crate::listing::show_items;
 use ion_model::Refusal;
@@ -26,7 +28,7 @@ pub fn check<R: Inlet>(
     catalog: &Catalog,
     limits: Limits,
 ) -> Result<Result<u64, Refusal>, Fault>
-    ensures verdict { IfOk result (IsChecked R.tells (Denotes limits) (Pieces limits) reader.old) }
+    ensures verdict { IfOk result (IsChecked R.tells (Denotes catalog.now limits) (Pieces catalog.now limits) reader.old) }
     ensures cause { IfErr result (IsReadCause R.calls_made R.has_failed R.has_ended limits.reads
         reader.old reader.new) }
 {
@@ -48,12 +50,12 @@ pub fn show<R: Inlet, W: Outlet>(
     catalog: &Catalog,
     limits: Limits,
 ) -> Result<Result<u64, Refusal>, Fault>
-    ensures shown { IfOk result (IsShown R.tells (Denotes limits) (Pieces limits) reader.old
+    ensures shown { IfOk result (IsShown R.tells (Denotes catalog.now limits) (Pieces catalog.now limits) reader.old
         (W.took writer.old) (W.took writer.new)) }
     ensures done { OnOk result (W.has_failed writer.new ≡ false) }
     ensures so_far { OnErr result (ShowsSoFar R.tells ⟦<DocReader<'static> as Items>⟧.stands
         ⟦<DocReader<'static> as Items>⟧.catalog ⟦<DocReader<'static> as Items>⟧.limits
-        (Denotes limits) (Pieces limits) W.took
+        (Denotes catalog.now limits) (Pieces catalog.now limits) W.took
         catalog.now limits reader.old reader.new writer.old writer.new) }
     ensures cause { IfErr result (λ fault.
         IsReadCause R.calls_made R.has_failed R.has_ended limits.reads reader.old reader.new fault
@@ -61,6 +63,43 @@ pub fn show<R: Inlet, W: Outlet>(
 {
     let items = DocReader::new(alloc, catalog, limits).map_err(|_| Fault::Memory)?;
     show_items(alloc, items, limits.reads(), reader, writer)
+}
+
+/// Writes a document that denotes the stream of another (Ion 1.0, "The Ion Data Model"), in the encoding
+/// of `target`: the one spelling that `ion_binary` gives a stream.
+///
+/// The answer is that of `check`. On a refusal the conversion of the values that the octets up to it show
+/// is written. The writer is flushed last, on a refusal too. At a fault some first octets of the
+/// conversion of the values read so far were written. Faults: those of `check`, `Write` where a write or
+/// the flush failed, and `TooLarge` where a symbol would need an id above 2^31-1.
+pub fn convert<R: Inlet, W: Outlet>(
+    alloc: Global,
+    reader: &mut R,
+    writer: &mut W,
+    target: Target,
+    catalog: &Catalog,
+    limits: Limits,
+) -> Result<Result<u64, Refusal>, Fault>
+    ensures converted { IfOk result (IsConverted R.tells (Denotes catalog.now limits) (Pieces catalog.now limits) reader.old
+        (W.took writer.old) (W.took writer.new)) }
+    ensures done { OnOk result (W.has_failed writer.new ≡ false) }
+    ensures so_far { OnErr result (ConvertsSoFar (ReadSoFar R.tells ⟦<DocReader<'static> as Items>⟧.stands
+        ⟦<DocReader<'static> as Items>⟧.catalog ⟦<DocReader<'static> as Items>⟧.limits
+        (Denotes catalog.now limits) (Pieces catalog.now limits) catalog.now limits reader.old reader.new)
+        W.took writer.old writer.new) }
+    ensures cause { IfErr result (λ fault.
+        IsReadCause R.calls_made R.has_failed R.has_ended limits.reads reader.old reader.new fault
+        ⊎ IsConvertCause (ReadSoFar R.tells ⟦<DocReader<'static> as Items>⟧.stands
+        ⟦<DocReader<'static> as Items>⟧.catalog ⟦<DocReader<'static> as Items>⟧.limits
+        (Denotes catalog.now limits) (Pieces catalog.now limits) catalog.now limits reader.old reader.new)
+        (W.has_failed writer.new) fault) }
+{
+    match target {
+        Target::Binary => {
+            let items = DocReader::new(alloc, catalog, limits).map_err(|_| Fault::Memory)?;
+            convert_items(alloc, items, limits.reads(), reader, writer)
+        }
+    }
 }
 
 /// Whether two documents have equivalent streams: as many values, and in each place values that are
@@ -77,8 +116,8 @@ pub fn compare<L: Inlet, R: Inlet>(
     catalog: &Catalog,
     limits: Limits,
 ) -> Result<Verdict, Fault>
-    ensures verdict { IfOk result (IsCompared (Denotes limits) (Pieces limits)
-        (Denotes limits) (Pieces limits) L.tells R.tells left.old right.old) }
+    ensures verdict { IfOk result (IsCompared (Denotes catalog.now limits) (Pieces catalog.now limits)
+        (Denotes catalog.now limits) (Pieces catalog.now limits) L.tells R.tells left.old right.old) }
     ensures cause { IfErr result (λ fault.
         IsReadCause L.calls_made L.has_failed L.has_ended limits.reads left.old left.new fault
         ⊎ IsReadCause R.calls_made R.has_failed R.has_ended limits.reads right.old right.new fault) }

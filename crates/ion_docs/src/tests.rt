@@ -11,7 +11,7 @@ use std::test::Fail;
 /// A reader that gives at most `first` octets in its first call and at most `then` in each other,
 /// and fails at one call, once.
 #[derive(Drop)]
-struct Cut<'a> {
+pub(crate) struct Cut<'a> {
     octets: &'a [u8],
     first: usize,
     then: usize,
@@ -20,7 +20,7 @@ struct Cut<'a> {
 }
 
 /// No call fails.
-const NEVER: u64 = u64::MAX;
+pub(crate) const NEVER: u64 = u64::MAX;
 
 impl Read for Cut<'_> {
     fn read(&mut self, buf: &mut [u8]) -> io::Result<usize> {
@@ -36,7 +36,7 @@ impl Read for Cut<'_> {
 }
 
 /// The octets in two pieces, cut behind the first `first`, or in one.
-fn in_two(octets: &[u8], first: usize) -> FromRead<Cut<'_>> {
+pub(crate) fn in_two(octets: &[u8], first: usize) -> FromRead<Cut<'_>> {
     FromRead::new(Cut {
         octets,
         first,
@@ -84,11 +84,11 @@ impl Read for Endless {
 
 /// A writer that takes at most `takes` octets a call, and fails at one call, once.
 #[derive(Drop)]
-struct Slow<'v> {
-    taken: &'v mut Vec<u8>,
-    calls: u64,
-    fails_at: u64,
-    takes: usize,
+pub(crate) struct Slow<'v> {
+    pub(crate) taken: &'v mut Vec<u8>,
+    pub(crate) calls: u64,
+    pub(crate) fails_at: u64,
+    pub(crate) takes: usize,
 }
 
 impl Slow<'_> {

@@ -9,3 +9,6 @@ pub mod NormalLaws
 pub mod NormalTies
 pub mod Replacing
 pub mod Options
+pub mod PartingLaws
+pub mod PartingLeast
+pub mod PartingOne

@@ -44,7 +44,7 @@ same-from_order v w h =
     let n = suc (max (depth v) (depth w)) in
     sym ((same-agrees n).at v w (omega arith) (omega arith)) ∙ same_to-from n v w ((order-agrees n).at v w (omega arith) (omega arith) ∙ h)
 
-field_back : (f g : Field) → field_cmp order f g ≡ Equal → field_same same f g ≡ true
+pub field_back : (f g : Field) → field_cmp order f g ≡ Equal → field_same same f g ≡ true
 field_back f g e = both _ _ (symbol_back f.name g.name (then_first (symbol_cmp f.name g.name) _ e)) (same-from_order f.value g.value (then_second (symbol_cmp f.name g.name) _ e))
 
 get-greatest : {A : Type 0} (f : A → ℕ) (xs : List A) (i : ℕ) (d : A) → i < length xs → f (get_or xs i d) ≤ greatest (map f xs)

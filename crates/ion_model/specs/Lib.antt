@@ -16,3 +16,5 @@ pub mod SameLaws
 pub mod EquivLaws
 pub mod CalendarLaws
 pub mod TimestampLaws
+pub mod Parting
+pub mod PartingSteps

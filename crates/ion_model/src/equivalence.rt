@@ -86,7 +86,7 @@ fn equivalent_fields(
 }
 
 // The fields in ascending order, their values in normal form.
-fn sorted(alloc: Global, fields: &Sequence<Field>) -> Result<Vec<Field>, Reason>
+pub(crate) fn sorted(alloc: Global, fields: &Sequence<Field>) -> Result<Vec<Field>, Reason>
     ensures { MatchResult result (λ rows. AreNormalOf rows.items fields.now) (λ e. e ≡ reasons.Memory) }
 {
     let mut rows = copy_fields(alloc, fields)?.into_vec();

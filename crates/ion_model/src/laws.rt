@@ -1,6 +1,6 @@
 //! Laws of equivalence, of the order and of normal forms. Each stands on an empty function: its
 //! contract is the law.
-ghost use Rattle.std.specs.Prelude.{◌≡◌, ◌↔◌, ℕ, List, Option, IsTrue, IsPermutation};
+ghost use Rattle.std.specs.Prelude.{◌≡◌, ◌↔◌, ℕ, List, Option, false, IsTrue, IsPermutation};
 ghost use Rattle.std.specs.Cmp.{IsTotalOrder};
 ghost use Rattle.std.specs.declared.cmp.Ordering.TheVariants.{Equal};
 ghost use lib.Pointwise.{pointwise};
@@ -8,6 +8,8 @@ ghost use Rattle.ion_model.specs.Measures.{annotated};
 ghost use Rattle.ion_model.specs.Same.{same, value_same, field_same};
 ghost use Rattle.ion_model.specs.Order.{order, value_cmp};
 ghost use Rattle.ion_model.specs.Normal.{IsNormal};
+ghost use Rattle.ion_model.specs.Parting.{IsPath};
+ghost use Rattle.ion_model.specs.declared.path.Part.{Part};
 ghost use Rattle.ion_model.specs.declared.value.Value.{Value};
 ghost use Rattle.ion_model.specs.declared.value.Field.{Field};
 ghost use Rattle.ion_model.specs.declared.value.Payload.TheVariants as payloads;
@@ -58,4 +60,11 @@ pub fn total_order()
 pub fn normal_forms()
     ensures ties { (v w : Value) → IsNormal v → IsNormal w → IsTrue (same v w) ↔ (order v w ≡ Equal) }
     ensures one { (v w : Value) → IsNormal v → IsNormal w → IsTrue (same v w) → v ≡ w }
+{}
+
+/// Two values that have a path aren't equivalent, so that something truly differs at its end; and they
+/// have no other path.
+pub fn paths()
+    ensures differ { (path : List Part) (v w : Value) → IsPath path v w → same v w ≡ false }
+    ensures one { (path other : List Part) (v w : Value) → IsPath path v w → IsPath other v w → path ≡ other }
 {}

@@ -11,6 +11,9 @@ mod kind;
 pub mod laws;
 mod measures;
 mod normal;
+mod path;
+#[cfg(test)]
+mod path_tests;
 mod refusal;
 mod same;
 mod sequence;
@@ -30,6 +33,7 @@ pub use decimal::Decimal;
 pub use equivalence::equivalent;
 pub use kind::Kind;
 pub use normal::normalise;
+pub use path::{Part, Path, parting};
 pub use refusal::{Reason, Refusal};
 pub use same::same_slow;
 pub use sequence::Sequence;

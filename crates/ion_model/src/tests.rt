@@ -16,21 +16,21 @@ use std::alloc::Global;
 use std::cmp::Ordering;
 use std::test::Fail;
 
-fn bare(alloc: Global, payload: Payload) -> Value {
+pub(crate) fn bare(alloc: Global, payload: Payload) -> Value {
     Value {
         annotations: Sequence::new(alloc),
         payload,
     }
 }
 
-fn int(alloc: Global, n: i128) -> Value {
+pub(crate) fn int(alloc: Global, n: i128) -> Value {
     match Whole::new(n) {
         Some(whole) => bare(alloc, Payload::Int(whole)),
         None => bare(alloc, Payload::Null(Kind::Int)),
     }
 }
 
-fn list(alloc: Global, numbers: &[i128]) -> Result<Value, Reason> {
+pub(crate) fn list(alloc: Global, numbers: &[i128]) -> Result<Value, Reason> {
     let mut items = Sequence::new(alloc);
     for n in numbers {
         items.push(int(alloc, *n))?;
@@ -38,7 +38,7 @@ fn list(alloc: Global, numbers: &[i128]) -> Result<Value, Reason> {
     Ok(bare(alloc, Payload::List(items)))
 }
 
-fn annotated(alloc: Global, text: &str, value: Value) -> Result<Value, Reason> {
+pub(crate) fn annotated(alloc: Global, text: &str, value: Value) -> Result<Value, Reason> {
     let mut value = value;
     value.annotations.push(Symbol::known(alloc, text)?)?;
     Ok(value)
@@ -116,7 +116,7 @@ fn words(rt: HostRuntime) -> Result<(), Fail> {
     Ok(())
 }
 
-fn decimal(alloc: Global, negative: bool, magnitude: u128, exponent: i32) -> Value {
+pub(crate) fn decimal(alloc: Global, negative: bool, magnitude: u128, exponent: i32) -> Value {
     match Decimal::new(negative, magnitude, exponent) {
         Some(decimal) => bare(alloc, Payload::Decimal(decimal)),
         None => bare(alloc, Payload::Null(Kind::Decimal)),
@@ -124,7 +124,7 @@ fn decimal(alloc: Global, negative: bool, magnitude: u128, exponent: i32) -> Val
 }
 
 // A local time from the year to the minute, without seconds.
-fn local(year: u16, month: u8, day: u8, hour: u8, minute: u8) -> Local {
+pub(crate) fn local(year: u16, month: u8, day: u8, hour: u8, minute: u8) -> Local {
     Local {
         year,
         month,
@@ -136,7 +136,12 @@ fn local(year: u16, month: u8, day: u8, hour: u8, minute: u8) -> Local {
     }
 }
 
-fn timestamp(alloc: Global, local: Local, precision: Precision, offset: Option<i16>) -> Value {
+pub(crate) fn timestamp(
+    alloc: Global,
+    local: Local,
+    precision: Precision,
+    offset: Option<i16>,
+) -> Value {
     match Timestamp::new(local, precision, offset) {
         Some(timestamp) => bare(alloc, Payload::Timestamp(timestamp)),
         None => bare(alloc, Payload::Null(Kind::Timestamp)),
@@ -149,7 +154,7 @@ fn text(alloc: Global, text: &str) -> Result<Value, Reason> {
 }
 
 // The struct with a field more, or one of this field.
-fn with(alloc: Global, of: Value, name: &str, value: Value) -> Result<Value, Reason> {
+pub(crate) fn with(alloc: Global, of: Value, name: &str, value: Value) -> Result<Value, Reason> {
     let Value {
         annotations: _annotations,
         payload,
@@ -163,11 +168,11 @@ fn with(alloc: Global, of: Value, name: &str, value: Value) -> Result<Value, Rea
     Ok(bare(alloc, Payload::Fields(fields)))
 }
 
-fn one(alloc: Global, name: &str, value: Value) -> Result<Value, Reason> {
+pub(crate) fn one(alloc: Global, name: &str, value: Value) -> Result<Value, Reason> {
     with(alloc, bare(alloc, Payload::Null(Kind::Fields)), name, value)
 }
 
-fn two(alloc: Global, a: &str, n: i128, b: &str, m: i128) -> Result<Value, Reason> {
+pub(crate) fn two(alloc: Global, a: &str, n: i128, b: &str, m: i128) -> Result<Value, Reason> {
     with(alloc, one(alloc, a, int(alloc, n))?, b, int(alloc, m))
 }
 

@@ -1,17 +1,11 @@
 -- What each answer of a reading call says of the octets that it was given.
-use Rattle.std.specs.Prelude.{◌≡◌, ℕ, ◌^◌, ◌<◌, ◌≤◌, List, [], ◌∷◌, ◌++◌, length, take, Result, Ok, Err}
+use Rattle.std.specs.Prelude.{◌≡◌, ◌≢◌, ◌⊎◌, ℕ, ◌^◌, ◌<◌, ◌≤◌, List, [], ◌∷◌, ◌++◌, length, take, Result, Ok, Err}
+use Rattle.ion_model.specs.Decimals.{DecimalParts, IsDecimal}
 use Rattle.ion_model.specs.declared.refusal.Reason.{Reason}
-use Rattle.ion_model.specs.declared.refusal.Reason.TheVariants.{TooLarge, Malformed, Incomplete, Float}
+use Rattle.ion_model.specs.declared.refusal.Reason.TheVariants.{TooLarge, Malformed, Incomplete}
 use Rattle.ion_scalar.specs.declared.fields.Signed.{Signed}
+use Rattle.ion_scalar.specs.DecimalField.{IsDecimalField}
 use Rattle.ion_scalar.specs.Fields.{positional, Digits, VarUInt, VarInt, seven_bits, six_bits}
-
--- of a call that reads a token: which values the token has (`Is`), which of them the answer has room for (`Fits`), and whether the token is a float (`IsFloat`)
-abbrev pub Reads : {X : Type 0} → (X → Type 0) → (X → Type 0) → Type 0 → Result X Reason → Type 0
-Reads Is Fits IsFloat (Ok x) = Is x × Fits x
-Reads {X} Is Fits IsFloat (Err TooLarge) = (x : X) × Is x × (Fits x → ⊥)
-Reads {X} Is Fits IsFloat (Err Malformed) = ((x : X) → Is x → ⊥) × (IsFloat → ⊥)
-Reads Is Fits IsFloat (Err Float) = IsFloat
-Reads Is Fits IsFloat (Err _) = ⊥
 
 -- behind the digit `front`, the seven bits of octets reach 2^63 with one that no octet before it ends
 pub record Reaches (front : ℕ) (octets : List ℕ) : Type 0 where
@@ -57,3 +51,10 @@ ReadsVarInt octets (Ok read) = BeginsWithInt octets read.0 read.1
 ReadsVarInt octets (Err TooLarge) = ReachesInt octets
 ReadsVarInt octets (Err Incomplete) = GoesOnInt octets
 ReadsVarInt octets (Err _) = ⊥
+
+-- of the body of a decimal: which decimal it is, and whether that is kept; else an exponent that reaches 2^63, or has no end
+abbrev pub ReadsDecimal : List ℕ → Result DecimalParts Reason → Type 0
+ReadsDecimal body (Ok d) = IsDecimalField body d × IsDecimal d
+ReadsDecimal body (Err TooLarge) = ((d : DecimalParts) × IsDecimalField body d × (IsDecimal d → ⊥)) ⊎ ReachesInt body
+ReadsDecimal body (Err Malformed) = (body ≢ []) × GoesOnInt body
+ReadsDecimal body (Err _) = ⊥

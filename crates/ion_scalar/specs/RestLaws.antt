@@ -1,5 +1,5 @@
 -- What reading the rest of a VarUInt or VarInt answers, behind any digit.
-use Rattle.std.proofs.Common.{◌≡◌, ℕ, zero, suc, [], ◌∷◌, ◌++◌, ◌-◌, ◌+◌, ◌^◌, ◌<◌, ◌≤◌, List, length, get_or, map, take, drop, refl, sym, ap, ◌∙◌, arith, Ok, Err, Result, inl, inr, length-append}
+use Rattle.std.proofs.Common.{◌≡◌, ℕ, zero, suc, [], ◌∷◌, ◌++◌, ◌-◌, ◌+◌, ◌^◌, ◌<◌, ◌≤◌, List, length, get_or, map, take, drop, refl, sym, ap, subst, ◌∙◌, arith, Ok, Err, Result, inl, inr, length-append}
 use Rattle.std.specs.List.{position_or_len}
 use Rattle.std.proofs.Math.ListN.{get_or-append}
 use Rattle.std.proofs.Math.Seq.{get_or-append_seam, take-append_seam, drop-cons}
@@ -11,7 +11,7 @@ use Rattle.ion_model.specs.declared.refusal.Reason.TheVariants.{TooLarge, Incomp
 use Rattle.ion_scalar.specs.Fields.{positional, Digits, none, more, seven_bits, groups, is_last, up_to_last, var_rest}
 use Rattle.ion_scalar.specs.Reads.{Reaches, GoesOn}
 use Rattle.ion_scalar.specs.Positional.{positional_one}
-use Rattle.ion_scalar.specs.Ends.{GoOn, ends_at}
+use Rattle.ion_scalar.specs.Ends.{GoOn, ends_at, too_large_at}
 
 pub digits_below : (ds : List ℕ) → Digits ds → GoOn ds (length ds)
 digits_below _ none k h = absurd (omega arith)
@@ -51,6 +51,18 @@ rest_read front used digits last rest s bound =
     let value : groups front (take (i + 1) os) ≡ positional 128 (front ∷ digits ++ last ∷ []) = rw (cut, seven_bits_push digits (128 + last) s, seven) refl in
     let read = ends_at front used os i within on (omega arith) (rw value bound) in
     rw value at read
+
+-- and digits that reach 2^63 with one octet more are too large, whatever follows
+pub rest_reaches : (front used : ℕ) (os : List ℕ) → Reaches front os → var_rest front used os ≡ Err TooLarge
+rest_reaches front used os r =
+    let i = length r.digits in
+    let whole = r.digits ++ r.octet ∷ r.rest in
+    let here : get_or whole i 0 ≡ r.octet = get_or-append_seam r.digits r.octet r.rest 0 in
+    let on : GoOn whole i = λ k h. rw (get_or-append r.digits (r.octet ∷ r.rest) 0 k h) (digits_below r.digits r.small k h) in
+    let within : i < length whole = omega (arith, length-append r.digits (r.octet ∷ r.rest)) in
+    let cut : take (i + 1) whole ≡ r.digits ++ r.octet ∷ [] = rw (take_more whole i 0 within, here, take-append_seam r.digits (r.octet ∷ r.rest)) refl in
+    let value : groups front (take (i + 1) whole) ≡ positional 128 (front ∷ r.digits ++ seven_bits r.octet ∷ []) = rw (cut, seven_bits_push r.digits r.octet r.small) refl in
+    subst (λ (xs : List ℕ). var_rest front used xs ≡ Err TooLarge) (sym r.cut) (too_large_at front used whole i within on (rw value r.large))
 
 go_on : (os : List ℕ) → GoOn os (position_or_len is_last os)
 go_on os k h = leb-false 128 (get_or os k 0) (fails_before_first is_last os k 0 h)

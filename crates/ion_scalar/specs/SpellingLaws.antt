@@ -90,20 +90,22 @@ int_signed negative (d ∷ ds) =
 int_reads : (os : List ℕ) (negative : Bool) (n : ℕ) → n < 2 ^ 127 → (int_negative os ≡ negative) × (int_magnitude os ≡ n) → int_field os ≡ Ok (negative, n)
 int_reads os negative n bound e = rw (e.0, e.1, lt-ltb n (2 ^ 127) bound) refl
 
-int_digits : (negative : Bool) (n : ℕ) → n < 2 ^ 127 → int_field (signed_digits 128 negative (digits_of 256 n)) ≡ Ok (negative, n)
-int_digits negative n bound =
-    let s = int_signed negative (digits_of 256 n) in
-    int_reads (signed_digits 128 negative (digits_of 256 n)) negative n bound (s.0, s.1 ∙ positional_digits_of 256 n (omega arith))
-
-pub int_again : (negative : Bool) (n : ℕ) → n < 2 ^ 127 → int_field (int_octets negative n) ≡ Ok (negative, n)
-int_again true n bound = int_digits true n bound
-int_again false n bound =
+pub int_parts : (negative : Bool) (n : ℕ) → (int_negative (int_octets negative n) ≡ negative) × (int_magnitude (int_octets negative n) ≡ n)
+int_parts true n =
+    let s = int_signed true (digits_of 256 n) in
+    (s.0, s.1 ∙ positional_digits_of 256 n (omega arith))
+int_parts false n =
     elim (cases_lt 0 n) [
-      | inl some ↦ rw (lt-ltb 0 n some) (int_digits false n bound)
+      | inl some ↦
+          let s = int_signed false (digits_of 256 n) in
+          rw (lt-ltb 0 n some) (s.0, s.1 ∙ positional_digits_of 256 n (omega arith))
       | inr empty ↦
           let e : n ≡ 0 = omega arith in
-          rw e refl
+          rw e (refl, refl)
     ]
+
+pub int_again : (negative : Bool) (n : ℕ) → n < 2 ^ 127 → int_field (int_octets negative n) ≡ Ok (negative, n)
+int_again negative n bound = int_reads (int_octets negative n) negative n bound (int_parts negative n)
 
 -- the first octet of a VarInt with the sign below its highest bit
 var_first : (negative : Bool) (d : ℕ) → d < 64 → (is_negative (sign_bit 64 negative + d) ≡ negative) × (six_bits (sign_bit 64 negative + d) ≡ d)

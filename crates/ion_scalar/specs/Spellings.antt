@@ -1,6 +1,8 @@
 -- How numbers are written as octets: always the fewest.
-use Rattle.std.specs.Prelude.{ℕ, ◌+◌, ◌/◌, ◌%◌, ◌<◌, Bool, true, false, List, [], ◌∷◌, ◌++◌, length, slice_index, nat_lt, if◌then◌else◌}
+use Rattle.std.specs.Prelude.{int_lt, ℕ, ℤ, pos, not, ◌&&◌, ◌==◌, unsigned_abs, ◌+◌, ◌/◌, ◌%◌, ◌<◌, Bool, true, false, List, [], ◌∷◌, ◌++◌, length, slice_index, nat_lt, if◌then◌else◌}
+use Rattle.std.specs.Ordering.{int_eq}
 use Rattle.std.specs.Int.Digits.{digits_of}
+use Rattle.ion_model.specs.Decimals.{DecimalParts}
 
 -- the digits of base 128, one at least, 128 added to the last
 abbrev pub var_uint_octets : ℕ → List ℕ
@@ -32,6 +34,15 @@ int_octets negative n =
     if negative then signed_digits 128 negative (digits_of 256 n)
     else if nat_lt 0 n then signed_digits 128 negative (digits_of 256 n)
     else []
+
+-- the exponent and the coefficient of a decimal; 0d0 has no octets
+abbrev pub is_zero : Bool → ℕ → ℤ → Bool
+is_zero negative m e = not negative && ((m == 0) && int_eq e (pos 0))
+
+abbrev pub decimal_octets : DecimalParts → List ℕ
+decimal_octets d =
+    if is_zero d.negative d.magnitude d.exponent then []
+    else var_int_octets (int_lt d.exponent (pos 0)) (unsigned_abs d.exponent) ++ int_octets d.negative d.magnitude
 
 -- each of a list is below that number, as each octet is below 256
 abbrev pub AreBelow : ℕ → List ℕ → Type 0

@@ -1,9 +1,10 @@
 -- A VarUInt is read back, and what is read is one.
 use Rattle.std.proofs.Common.{◌≡◌, ℕ, [], ◌∷◌, ◌++◌, ◌+◌, List, length, refl, sym, ap, subst, ◌∙◌, arith, Ok, Err, Result, length-append, append_assoc}
 use Rattle.ion_model.specs.declared.refusal.Reason.{Reason}
+use Rattle.ion_model.specs.declared.refusal.Reason.TheVariants.{TooLarge}
 use Rattle.ion_scalar.specs.Fields.{positional, VarUInt, var_uint}
-use Rattle.ion_scalar.specs.Reads.{BeginsWith, ReadsVarUInt}
-use Rattle.ion_scalar.specs.RestLaws.{Ended, ReadsRest, rest_read, rest_answers}
+use Rattle.ion_scalar.specs.Reads.{BeginsWith, Reaches, ReadsVarUInt}
+use Rattle.ion_scalar.specs.RestLaws.{Ended, ReadsRest, rest_read, rest_reaches, rest_answers}
 
 -- octets that begin with a VarUInt are read as its value and length
 pub var_uint_read : (w rest : List ℕ) (n : ℕ) → VarUInt w n → var_uint (w ++ rest) ≡ Ok (n, length w)
@@ -28,6 +29,9 @@ module _ (os : List ℕ) where
 -- each answer of the reading says what the octets are
 pub var_uint_answers : (os : List ℕ) → ReadsVarUInt os (var_uint os)
 var_uint_answers os = answers os (var_uint os) (rest_answers 0 0 os (omega arith))
+
+pub var_uint_reaches : (os : List ℕ) → Reaches 0 os → var_uint os ≡ Err TooLarge
+var_uint_reaches os r = rest_reaches 0 0 os r
 
 pub var_uint_ok : (os : List ℕ) (n used : ℕ) → var_uint os ≡ Ok (n, used) → BeginsWith os n used
 var_uint_ok os n used e = subst (ReadsVarUInt os) e (var_uint_answers os)

@@ -1,9 +1,19 @@
 //! What the definitions that this crate's contracts name have to do with the specification. A law is called for its clause alone.
-ghost use Rattle.std.specs.Prelude.{◌≡◌, ◌≤◌, ◌++◌, ℕ, Bool, List, Ok, length};
+ghost use Rattle.std.specs.Prelude.{◌≡◌, ◌≤◌, ◌++◌, ◌+ℤ◌, ℕ, ℤ, pos, Bool, List, Ok, length};
 ghost use Rattle.ion_scalar.specs.Fields.{positional, int_negative, int_magnitude, VarUInt, VarInt, var_uint, var_int, signed_of};
-ghost use Rattle.ion_scalar.specs.Reads.{ReadsVarUInt, ReadsVarInt};
+ghost use Rattle.ion_scalar.specs.Reads.{ReadsVarUInt, ReadsVarInt, ReadsDecimal};
 ghost use Rattle.ion_scalar.specs.Spellings.{AreBelow, var_uint_octets, var_int_octets, uint_octets, int_octets};
+ghost use Rattle.ion_model.specs.Decimals.{DecimalParts, IsDecimal};
+ghost use Rattle.ion_scalar.specs.DecimalField.{IsDecimalField, decimal_of_body};
+ghost use Rattle.ion_scalar.specs.declared.number.Number.{Number};
+ghost use Rattle.ion_scalar.specs.Numbers.{IsNumber, IsFloat};
 ghost use Rattle.ion_scalar.specs.Rows.{IsTable};
+ghost use Rattle.ion_scalar.specs.Shifted.{moved};
+ghost use Rattle.ion_model.specs.declared.calendar.Minute.{Minute};
+ghost use Rattle.ion_model.specs.Calendar.{IsMinute, InYears, minute_number};
+ghost use Rattle.ion_model.specs.Timestamps.{TimestampParts, IsOffset};
+ghost use Rattle.ion_scalar.specs.TimestampReasons.{ReadsTimestampBody};
+ghost use Rattle.ion_scalar.specs.TimestampField.{IsTimestampBody, timestamp_of_body};
 
 /// Octets that begin with a VarUInt are read as its number and its length, whatever follows it.
 pub fn var_uint_is_read()
@@ -30,6 +40,35 @@ pub fn var_int_answers()
     ensures { (octets : List ℕ) → ReadsVarInt octets (var_int octets) }
 {}
 
+/// The body of a decimal that is kept is read as that decimal.
+pub fn decimal_is_read()
+    ensures { (body : List ℕ) (d : DecimalParts) → IsDecimalField body d → IsDecimal d → decimal_of_body body ≡ Ok d }
+{}
+
+/// Each answer of reading the body of a decimal tells what the octets are.
+pub fn decimal_answers()
+    ensures { (body : List ℕ) → ReadsDecimal body (decimal_of_body body) }
+{}
+
+/// The body of a timestamp is read as that timestamp.
+pub fn timestamp_is_read()
+    ensures { (body : List ℕ) (t : TimestampParts) → IsTimestampBody body t → timestamp_of_body body ≡ Ok t }
+{}
+
+/// Each answer of reading the body of a timestamp tells what the octets are.
+pub fn timestamp_answers()
+    ensures { (body : List ℕ) → ReadsTimestampBody body (timestamp_of_body body) }
+{}
+
+/// A minute that is moved by less than a day is one of the years 1 to 9999 just where it lies in them, and then its number is moved by
+/// as much.
+pub fn moved_by_number()
+    ensures number { (m : Minute) (by : ℤ) → IsMinute m → IsOffset by → InYears (pos (minute_number m) +ℤ by)
+        → IsMinute (moved m by) × (pos (minute_number (moved m by)) ≡ pos (minute_number m) +ℤ by) }
+    ensures years { (m : Minute) (by : ℤ) → IsMinute m → IsOffset by → 1 ≤ (moved m by).date.year → (moved m by).date.year ≤ 9999
+        → InYears (pos (minute_number m) +ℤ by) }
+{}
+
 /// No spelling of a number has fewer octets than the one that is written.
 pub fn fewest()
     ensures var_uint { (w : List ℕ) (n : ℕ) → AreBelow 256 w → VarUInt w n → length (var_uint_octets n) ≤ length w }
@@ -41,4 +80,10 @@ pub fn fewest()
 /// The descriptors are the printed table.
 pub fn descriptor_table()
     ensures { IsTable }
+{}
+
+/// A token spells one number at most, and none if it is a float.
+pub fn one_number()
+    ensures one { (token : List ℕ) (x y : Number) → IsNumber token x → IsNumber token y → x ≡ y }
+    ensures float { (token : List ℕ) (x : Number) → IsNumber token x → IsFloat token → ⊥ }
 {}

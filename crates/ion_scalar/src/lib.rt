@@ -1,17 +1,30 @@
-//! Numbers of Amazon Ion 1.0 as octets.
+//! Numbers of Amazon Ion 1.0 as octets and as tokens.
 #![tactic(auto)]
 
+mod decimal_body;
 mod decimals;
 mod descriptor;
 mod digits;
 mod fields;
 mod ints;
 pub mod laws;
+mod number;
 mod put;
+mod text;
+mod timestamp_body;
+mod timestamp_writer;
+mod timestamps;
 
+pub use decimal_body::decimal_of;
 pub use descriptor::{Descriptor, Size};
 pub use fields::{Signed, int_of, read_var_int, read_var_uint, uint_of};
-pub use put::{put_int, put_uint, put_var_int, put_var_uint};
+pub use number::{Number, number_of};
+pub use put::{put_decimal, put_int, put_uint, put_var_int, put_var_uint};
+pub use text::put_number;
+pub use timestamp_body::timestamp_of;
+pub use timestamp_writer::put_timestamp;
 
+#[cfg(test)]
+mod body_tests;
 #[cfg(test)]
 mod tests;

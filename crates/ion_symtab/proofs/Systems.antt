@@ -29,6 +29,7 @@ nine_symbols symbols e = omega (arith, length-map symbols local_slot, ap length 
 
 -- an id that isn't 0 is a place and one
 resolve_place : (slots : List Slot) (id : ℕ) → id ≢ 0 → resolve slots id ≡ symbol_at (slice_get slots (id - 1))
+unfolding resolve
 resolve_place slots id h = cond-false _ _ _ (ne_eqb id 0 h)
 
 -- a symbol of a local table gives itself

@@ -87,6 +87,7 @@ get_front (s ∷ c) more (suc i) h = get_front c more i (omega arith)
 
 -- an id keeps its symbol where slots are added
 pub resolve_stays : (c d : List Slot) (id : ℕ) → Begins c d → id ≤ length c → resolve d id ≡ resolve c id
+unfolding resolve
 resolve_stays c d zero p h = refl
 resolve_stays c d (suc i) p h =
     let n : suc i - 1 < length c = omega arith in

@@ -1,6 +1,7 @@
 -- What a reader's trace promises over the documents of its format.
-use Rattle.std.specs.Prelude.{◌≡◌, ◌≢◌, ◌+◌, ◌≤◌, ℕ, List, [], ◌∷◌, ◌++◌, length, take, Some, Ok, Err}
+use Rattle.std.specs.Prelude.{◌≡◌, ◌≢◌, ◌+◌, ◌≤◌, ℕ, List, [], ◌∷◌, ◌++◌, length, take, Some, Ok, Err, false}
 use Rattle.ion_model.specs.declared.value.Value.{Value}
+use Rattle.ion_model.specs.Kinds.{is_table}
 use Rattle.ion_model.specs.Measures.{nodes}
 use Rattle.ion_model.specs.declared.refusal.Refusal.{Refusal}
 use Rattle.ion_model.specs.declared.refusal.Reason.TheVariants.{Memory, Incomplete}
@@ -47,3 +48,13 @@ Spaced from ((v, at) ∷ given) to = (from + nodes v ≤ at) × Spaced at given 
 pub record IsSmall (u : List ℕ) (t : Trace) : Type 0 where
   pub given : Spaced 0 t.given (length u)
   pub last : (v : Value) → t.ends ≡ Ok (Some v) → Spaced 0 (t.given ++ (v, length u) ∷ []) (length u)
+
+-- none of these is a local symbol table
+abbrev pub NoTables : List Value → Type 0
+NoTables [] = Unit {0}
+NoTables (v ∷ vs) = (is_table v ≡ false) × NoTables vs
+
+-- no value given is a local symbol table
+pub record GivesNoTable (t : Trace) : Type 0 where
+  pub given : NoTables (plain t.given)
+  pub last : (v : Value) → t.ends ≡ Ok (Some v) → is_table v ≡ false

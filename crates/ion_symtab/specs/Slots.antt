@@ -44,5 +44,5 @@ symbol_at None = Err reasons.SymbolRange
 symbol_at (Some slot) = slot_symbol slot
 
 -- the symbol of an id; 0 is the symbol of unknown text
-abbrev pub resolve : List Slot → ℕ → Result (Option (List ℕ)) Reason
+unfoldable pub resolve : List Slot → ℕ → Result (Option (List ℕ)) Reason
 resolve slots id = if id == 0 then Ok None else symbol_at (slice_get slots (id - 1))

@@ -87,7 +87,7 @@ impl Context {
 
     /// The symbol of an id; 0 is the symbol of unknown text. `SymbolRange` where the id is above the
     /// greatest, `ImportGap` where a gap stands there.
-    #[tactic(auto, using(crate::specs::Slots::nine_system_slots))]
+    #[tactic(auto, using(crate::specs::Slots::nine_system_slots), unfolding(crate::specs::Slots::resolve))]
     pub fn resolve(&self, id: u64) -> Result<Symbol, Reason>
         ensures { Gives (resolve self.now id) result }
     {

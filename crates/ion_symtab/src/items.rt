@@ -3,7 +3,7 @@ ghost use Rattle.std.specs.Prelude.{◌≡◌, ℕ, ◌+◌, ◌*◌, ◌≤◌,
 ghost use Rattle.ion_model.specs.declared.value.Value.{Value};
 ghost use Rattle.ion_model.specs.declared.refusal.Reason.TheVariants.{Memory};
 ghost use Rattle.ion_symtab.specs.Trace.{Trace, Answers, Finishes, UsesAll, Grows, Streams, plain, given_at};
-ghost use Rattle.ion_symtab.specs.Promises.{Refuses, Shows, IsSmall};
+ghost use Rattle.ion_symtab.specs.Promises.{Refuses, Shows, IsSmall, GivesNoTable};
 
 use ion_model::{Refusal, Value};
 
@@ -161,4 +161,7 @@ pub trait Items: Sized {
 
     /// A value has at most as many nodes as octets were used for it.
     ghost small: { (g : Catalog) (l : Limits) (u : List ℕ) → IsSmall u (trace g l u) };
+
+    /// A local symbol table where one may stand is no value: it changes what symbol ids stand for.
+    ghost no_tables: { (g : Catalog) (l : Limits) (u : List ℕ) → GivesNoTable (trace g l u) };
 }

@@ -2,16 +2,17 @@
 ghost use Rattle.std.specs.Prelude.{◌≡◌, ◌+◌, ◌<◌, ◌^◌, [], length, IfOk, IfErr, None};
 ghost use Rattle.ion_model.specs.declared.refusal.Reason.TheVariants.{Memory};
 ghost use Rattle.ion_binary.specs.Run.{run, whole, Advances};
-ghost use Rattle.ion_binary.specs.Views.{machine_of, open_lists, SameSetting};
+ghost use Rattle.ion_binary.specs.Views.{machine_of, open_frames, SameSetting};
 
-use super::{BinaryReader, Mark, Phase};
+use super::BinaryReader;
+use crate::state::{Mark, Phase};
 use ion_model::{Reason, Refusal, Value};
-use ion_symtab::{Catalog, Items, Limits, Step};
+use ion_symtab::{Catalog, Context, Items, Limits, Step};
 use std::alloc::Global;
 
 impl<'a> BinaryReader<'a> {
-    /// A reader of no octets yet, for a document within these limits. The shared tables of `catalog`
-    /// aren't used yet. `Memory` where a growth was refused; a new reader needs none.
+    /// A reader of no octets yet, for a document within these limits that may import the shared tables
+    /// of `catalog`. The only refusal is `Memory`.
     pub fn new(
         alloc: Global,
         catalog: &'a Catalog,
@@ -26,12 +27,14 @@ impl<'a> BinaryReader<'a> {
         ensures pending { IfOk result (λ r. ⟦<BinaryReader<'a> as Items>⟧.pending r ≡ 0) }
         ensures memory { IfErr result (λ reason. reason ≡ Memory) }
     {
+        let context = Context::system(alloc)?;
         Ok(BinaryReader {
             alloc,
             catalog,
             limits,
             used: 0,
             start: 0,
+            context,
             phase: Phase::InMarker(Mark::First, true),
             body: Vec::new(alloc),
             frames: Vec::new(alloc),
@@ -43,7 +46,7 @@ impl<'a> BinaryReader<'a> {
 impl BinaryReader<'_> {
     /// Whether the octets so far are whole pieces.
     fn is_whole(&self) -> bool
-        ensures { result ≡ whole self.now.phase (open_lists self.now) }
+        ensures { result ≡ whole self.now.phase (open_frames self.now) }
     {
         match self.phase {
             Phase::Ready => self.frames.is_empty(),
@@ -55,30 +58,43 @@ impl BinaryReader<'_> {
     /// decided; `Memory` has the octets of earlier steps.
     fn advance(&mut self, piece: &[u8]) -> Result<Step, Refusal>
         requires room { self.old.used + length piece.now < 2 ^ 63 }
-        ensures does { Advances self.old.used (run self.old.limits self.old.used (machine_of self.old)) piece.now result (machine_of self.new) }
+        ensures does { Advances self.old.used (run self.old.catalog.now self.old.limits self.old.used (machine_of self.old)) piece.now result (machine_of self.new) }
         ensures used { IfOk result (λ step. self.new.used ≡ self.old.used + step.used) }
         ensures memory { IfErr result (λ refusal. refusal.reason ≡ Memory → refusal.offset ≡ self.old.used) }
         ensures setting { SameSetting self.old self.new }
     {
         let before = self.used;
-        for (i, octet) in piece.iter().enumerate() {
-            // read here, since nothing is known of the machine behind an `Err`
-            let offset = self.used + 1;
-            match self.feed(*octet) {
-                Ok(None) => {}
-                Ok(Some(value)) => {
-                    return Ok(Step {
-                        used: i + 1,
-                        value: Some(value),
-                    });
+        let mut i = 0;
+        while i < piece.len() {
+            if self.goes_on() {
+                match self.take_inside(&piece[i..]) {
+                    Ok(count) => i += count,
+                    Err(reason) => {
+                        return Err(Refusal {
+                            offset: before,
+                            reason,
+                        });
+                    }
                 }
-                Err(Reason::Memory) => {
-                    return Err(Refusal {
-                        offset: before,
-                        reason: Reason::Memory,
-                    });
+            } else {
+                // read here, since nothing is known of the machine behind an `Err`
+                let offset = self.used + 1;
+                match self.feed(piece[i]) {
+                    Ok(None) => i += 1,
+                    Ok(Some(value)) => {
+                        return Ok(Step {
+                            used: i + 1,
+                            value: Some(value),
+                        });
+                    }
+                    Err(Reason::Memory) => {
+                        return Err(Refusal {
+                            offset: before,
+                            reason: Reason::Memory,
+                        });
+                    }
+                    Err(reason) => return Err(Refusal { offset, reason }),
                 }
-                Err(reason) => return Err(Refusal { offset, reason }),
             }
         }
         Ok(Step {
@@ -94,16 +110,16 @@ impl Items for BinaryReader<'_> {
     ghost use Rattle.ion_binary.specs.Grammar.{Document, Whole, OpenRest};
     ghost use Rattle.ion_binary.specs.Run.{trace};
     ghost use Rattle.ion_binary.specs.Views.{Stands, body_so_far};
-    ghost use Rattle.ion_binary.specs.Laws.{exact, one_stream, refused, shown, unfinished, small, grows};
+    ghost use Rattle.ion_binary.specs.Laws.{exact, one_stream, refused, shown, unfinished, small, grows, no_tables};
     ghost use Rattle.ion_binary.specs.StandsLaws.{given_of, bounded};
 
     ghost catalog = { λ r. r.catalog.now };
 
     ghost limits = { λ r. r.limits };
 
-    ghost denotes = { λ g l. Document l };
+    ghost denotes = { Document };
 
-    ghost pieces = { λ g l front following s. Whole l front s };
+    ghost pieces = { λ g l front following s. Whole g l front s };
 
     ghost open_after = { λ l front rest. OpenRest l rest };
 
@@ -131,7 +147,7 @@ impl Items for BinaryReader<'_> {
 
     ghost exact = { exact };
 
-    ghost one_stream = { λ g l u s t. one_stream l u s t };
+    ghost one_stream = { one_stream };
 
     ghost refused = { refused };
 
@@ -140,6 +156,8 @@ impl Items for BinaryReader<'_> {
     ghost unfinished = { unfinished };
 
     ghost small = { small };
+
+    ghost no_tables = { no_tables };
 
     fn step(&mut self, piece: &[u8]) -> Result<Step, Refusal> {
         if let Some(refusal) = self.failed {

@@ -4,4 +4,4 @@ use Rattle.ion_docs.proofs.Verdicts.{verdicts_agree}
 use Rattle.ion_docs.proofs.laws.one_verdict.Goals as goal
 
 pub returns : goal.returns
-returns c = λ k. verdicts_agree (Denotes k) (Pieces k) (Denotes k) (Pieces k) (one_document k) (one_document k)
+returns c = λ g k. verdicts_agree (Denotes g k) (Pieces g k) (Denotes g k) (Pieces g k) (one_document g k) (one_document g k)

@@ -1,11 +1,11 @@
 use Rattle.std.proofs.Common.{◌≡◌, ◌++◌, [], inl, arith, refl, ap, sym, subst, ◌∙◌, ℕ, option_to_list}
 use Rattle.std.proofs.KnownBytes.{Appends-nil, Appends-trans, Appends-kept, Keeps-refl}
 use Rattle.ion_symtab.specs.Took.{TookFront}
-use Rattle.ion_docs.specs.Listing.{lines_of, accepted_line, at_start, in_reading, at_refusal, at_end}
+use Rattle.ion_docs.specs.Listing.{lines_of, accepted_line, in_reading, at_refusal, at_end}
 use Rattle.std.proofs.lemmas.Result.{err_from_is_err_and}
 use Rattle.ion_docs.proofs.Pieces.{between_nil}
 use Rattle.ion_docs.proofs.Steps.{reads_begun, ready_begun, within_begun, one_at_most, length_more, on_err}
-use Rattle.ion_docs.proofs.Fronts.{front_none, front_all, front_behind, front_next, wrote_next, so_far}
+use Rattle.ion_docs.proofs.Fronts.{front_all, front_behind, front_next, wrote_next, so_far}
 use Rattle.ion_docs.proofs.listing.show_items.Goals as goal
 
 pub loop-place-init : goal.loop-place-init

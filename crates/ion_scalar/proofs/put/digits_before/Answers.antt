@@ -4,6 +4,7 @@ use Rattle.std.proofs.lemmas.List.{drop-set}
 use Rattle.std.proofs.lemmas.Nat.{div_below}
 use Rattle.std.proofs.Math.Nat.{pow-suc, pow-zero}
 use Rattle.std.specs.Int.Digits.{digits_of}
+use Rattle.ion_scalar.proofs.Places.{few_places}
 use Rattle.ion_scalar.proofs.put.digits_before.Goals as goal
 
 -- a number that isn't 0 has a place, and one place fewer without its last digit
@@ -30,3 +31,11 @@ loop-rest-preserved c =
       size = length-set l.octets (l.start - 1) (l.rest % c.args.base) ∙ l.invariant.size;
       digits = written c.args.base l.rest l.start l.octets _ b c.loop-rest-test.true p.0 (omega arith) l.invariant.digits;
     }
+
+pub returns-clause-few : goal.returns-clause-few
+returns-clause-few c =
+    let l = c.loop-rest in
+    let b : 2 ≤ c.args.base = c.requires.base.0 in
+    let done : l.rest ≡ 0 = omega arith in
+    let digits : drop l.start l.octets ≡ digits_of c.args.base c.args.value ++ drop c.args.end c.args.octets.now = rw done at l.invariant.digits in
+    λ k small. few_places l.octets c.args.octets.now l.start c.args.end l.invariant.size c.requires.within l.invariant.within c.args.base c.args.value k b small digits

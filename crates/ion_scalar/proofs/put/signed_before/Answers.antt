@@ -1,21 +1,18 @@
-use Rattle.std.proofs.Common.{◌≡◌, ℕ, Bool, suc, ◌+◌, ◌-◌, ◌/◌, ◌^◌, ◌<◌, ◌≤◌, ◌⊎◌, List, [], ◌∷◌, ◌++◌, length, get_or, drop, set, arith, ap, sym, refl, ◌∙◌, inl, inr, length-append, length-drop}
+use Rattle.std.proofs.Common.{◌≡◌, ℕ, Bool, suc, ◌+◌, ◌-◌, ◌/◌, ◌^◌, ◌<◌, ◌≤◌, ◌⊎◌, List, [], ◌∷◌, ◌++◌, length, get_or, drop, set, arith, sym, refl, ◌∙◌, inl, inr}
 use Rattle.std.proofs.lemmas.Int.Digits.{length-digits_of-le}
 use Rattle.std.proofs.lemmas.Bool.{lt-ltb, le-ltb}
 use Rattle.std.proofs.lemmas.List.{drop-set}
 use Rattle.std.proofs.Math.Seq.{drop-cons}
 use Rattle.std.specs.Int.Digits.{digits_of}
 use Rattle.ion_scalar.specs.Spellings.{sign_bit, signed_digits}
+use Rattle.ion_scalar.proofs.Places.{filled}
 use Rattle.ion_scalar.proofs.put.signed_before.Goals as goal
 use Rattle.ion_scalar.proofs.put.signed_before.Goals.{else-start-end-via-then-start-end+else-octets-start, else-start-end-via-else-start-end}
 
 module _ (new old : List ℕ) (start end : ℕ) (same : length new ≡ length old) (within : end ≤ length old) (order : start ≤ end) where
-  -- the digits fill the places from `start` to `end`
-  filled : (ds : List ℕ) → drop start new ≡ ds ++ drop end old → end ≡ start + length ds
-  filled ds e = omega (arith, ap length e, length-append ds (drop end old), length-drop start new, length-drop end old)
-
   -- the sign in the first digit
   in_first : (bit sign : ℕ) (ds : List ℕ) (negative : Bool) → sign ≡ sign_bit bit negative → start < end → get_or new start 0 < bit → drop start new ≡ ds ++ drop end old → drop start (set new start (get_or new start 0 + sign)) ≡ signed_digits bit negative ds ++ drop end old
-  in_first bit sign [] negative s some free e = absurd (omega (arith, filled [] e))
+  in_first bit sign [] negative s some free e = absurd (omega (arith, filled new old start end same within order [] e))
   in_first bit sign (d ∷ ds) negative s some free e =
       let cut = sym (drop-cons new start 0 (omega arith)) ∙ e in
       let head : get_or new start 0 ≡ d = cc in
@@ -29,16 +26,16 @@ module _ (new old : List ℕ) (start end : ℕ) (same : length new ≡ length ol
   in_front bit sign [] negative s place why e =
       let next : start - 1 + 1 ≡ start = omega arith in
       rw (drop-set new (start - 1) sign (omega arith), next, e, s) refl
-  in_front bit sign (d ∷ ds) negative s place (inl past) e = absurd (omega (arith, filled (d ∷ ds) e))
+  in_front bit sign (d ∷ ds) negative s place (inl past) e = absurd (omega (arith, filled new old start end same within order (d ∷ ds) e))
   in_front bit sign (d ∷ ds) negative s place (inr taken) e =
       let next : start - 1 + 1 ≡ start = omega arith in
-      let cut = sym (drop-cons new start 0 (omega (arith, filled (d ∷ ds) e))) ∙ e in
+      let cut = sym (drop-cons new start 0 (omega (arith, filled new old start end same within order (d ∷ ds) e))) ∙ e in
       let head : get_or new start 0 ≡ d = cc in
       rw (drop-set new (start - 1) sign (omega arith), next, e, s, le-ltb d bit (omega arith)) refl
 
   -- one place is left in front
   place_left : (base value : ℕ) → 2 ≤ base → 1 ≤ end → value < base ^ (end - 1) → drop start new ≡ digits_of base value ++ drop end old → 1 ≤ start
-  place_left base value b some room e = omega (arith, filled (digits_of base value) e, length-digits_of-le base (end - 1) value b room)
+  place_left base value b some room e = omega (arith, filled new old start end same within order (digits_of base value) e, length-digits_of-le base (end - 1) value b room)
 
 two_or_more : (base : ℕ) → (base ≡ 128) ⊎ (base ≡ 256) → 2 ≤ base
 two_or_more base (inl e) = omega arith

@@ -1,0 +1,110 @@
+#!/usr/bin/env python3
+"""Writes two binary Ion documents to measure with: documents.py FOLDER [MEGABYTES].
+
+mixed.10n: structs of small values, as a log has them (a name from a local symbol table, ints, a decimal, a
+timestamp, a short string, a list of ints, an annotation here and there). blobs.10n: blobs of 1 MiB. Both are
+about MEGABYTES (usually 100) long. The octets are the same at each call.
+"""
+import random
+import sys
+
+MARKER = bytes([0xE0, 0x01, 0x00, 0xEA])
+NAMES = ["id", "level", "at", "message", "cost", "tags", "host", "service", "request", "retry"]
+FIRST_ID = 10
+
+
+def var_uint(number):
+    octets = [0x80 | number & 0x7F]
+    number >>= 7
+    while number:
+        octets.insert(0, number & 0x7F)
+        number >>= 7
+    return bytes(octets)
+
+
+def var_int(number):
+    sign = 0x40 if number < 0 else 0
+    magnitude = abs(number)
+    if magnitude < 64:
+        return bytes([0x80 | sign | magnitude])
+    octets = [0x80 | magnitude & 0x7F]
+    magnitude >>= 7
+    while magnitude >= 64:
+        octets.insert(0, magnitude & 0x7F)
+        magnitude >>= 7
+    return bytes([sign | magnitude] + octets)
+
+
+def uint(number):
+    return number.to_bytes((number.bit_length() + 7) // 8, "big")
+
+
+def framed(code, body):
+    if len(body) < 14:
+        return bytes([code << 4 | len(body)]) + body
+    return bytes([code << 4 | 14]) + var_uint(len(body)) + body
+
+
+def whole(number):
+    return framed(2 if number >= 0 else 3, uint(abs(number)))
+
+
+def text(value):
+    return framed(8, value.encode())
+
+
+def symbol(name):
+    return framed(7, uint(FIRST_ID + NAMES.index(name)))
+
+
+def field(name, value):
+    return var_uint(FIRST_ID + NAMES.index(name)) + value
+
+
+def annotated(name, value):
+    ids = var_uint(FIRST_ID + NAMES.index(name))
+    return framed(14, var_uint(len(ids)) + ids + value)
+
+
+def table():
+    names = framed(11, b"".join(text(name) for name in NAMES))
+    ids = var_uint(3)
+    return framed(14, var_uint(len(ids)) + ids + framed(13, var_uint(7) + names))
+
+
+def entry(source, number):
+    year = var_uint(2026) + var_uint(1 + number % 12) + var_uint(1 + number % 28)
+    at = framed(6, var_int(60) + year + var_uint(number % 24) + var_uint(number % 60) + var_uint(number % 59))
+    cost = framed(5, var_int(-2) + uint(source.randrange(1, 100000)))
+    tags = framed(11, b"".join(whole(source.randrange(-500, 70000)) for _ in range(source.randrange(0, 6))))
+    words = " ".join(source.choice(NAMES) for _ in range(source.randrange(1, 6)))
+    fields = [
+        field("id", whole(number)),
+        field("level", symbol(source.choice(NAMES))),
+        field("at", at),
+        field("message", text(words)),
+        field("cost", cost),
+        field("tags", tags),
+        field("retry", bytes([0x10 + number % 2])),
+    ]
+    value = framed(13, b"".join(fields))
+    return annotated("service", value) if number % 7 == 0 else value
+
+
+def main():
+    folder = sys.argv[1]
+    size = int(sys.argv[2] if len(sys.argv) > 2 else "100") * 1000 * 1000
+    source = random.Random(1)
+    with open(folder + "/mixed.10n", "wb") as out:
+        written = out.write(MARKER + table())
+        number = 0
+        while written < size:
+            written += out.write(entry(source, number))
+            number += 1
+    with open(folder + "/blobs.10n", "wb") as out:
+        written = out.write(MARKER)
+        while written < size:
+            written += out.write(framed(10, source.randbytes(1 << 20)))
+
+
+main()

@@ -1,0 +1,13 @@
+-- How many containers are open.
+use Rattle.std.proofs.Common.{◌≤◌, List, [], ◌∷◌, length, arith}
+use Rattle.ion_binary.specs.declared.state.Frame.{Frame}
+use Rattle.ion_binary.specs.declared.state.Frame.TheVariants as frames
+use Rattle.ion_binary.specs.Machine.{levels}
+
+-- there are at most as many as frames
+pub levels_few : (fs : List Frame) → levels fs ≤ length fs
+levels_few [] = omega arith
+levels_few (frames.Items end x vs ∷ fs) = let h = levels_few fs in omega arith
+levels_few (frames.Fields end ms ∷ fs) = let h = levels_few fs in omega arith
+levels_few (frames.Named end ms name ∷ fs) = let h = levels_few fs in omega arith
+levels_few (frames.Annotated end ss ∷ fs) = let h = levels_few fs in omega arith

@@ -1,0 +1,13 @@
+use Rattle.std.proofs.Common.{◌+◌, ◌-◌, ◌∙◌, ap, sym, arith}
+use Rattle.ion_binary.specs.Machine.{in_body}
+use Rattle.ion_binary.specs.Runs.{led}
+use Rattle.ion_binary.specs.Views.{open_frames}
+use Rattle.ion_binary.proofs.Insides.{body_led}
+use Rattle.ion_binary.proofs.reader.BinaryReader.take_body.Goals as goal
+
+pub returns-clause-led : goal.returns-clause-led
+returns-clause-led c =
+    let r = c.args.self.now in
+    let k = c.min-count.result in
+    body_led r.catalog.now r.limits r.used r.start r.context (open_frames r) r.body.items c.args.scalar c.args.missing k r.phase c.args.piece.now c.requires.phase (omega (arith, c.min-count.ensures)) (omega (arith, c.min-count.ensures))
+    ∙ ap (λ b. led (in_body (r.used + k) r.start r.context (open_frames r) c.args.scalar (c.args.missing - k) b)) (sym c.in_ok-extend_from_slice.ensures.items)

@@ -1,0 +1,184 @@
+-- The one binary document that is written for a stream of values (Ion 1.0, "Ion Binary Encoding" and "Symbols").
+use Rattle.std.specs.Prelude.{if◌then◌else◌, ℕ, ℤ, pos, int_lt, unsigned_abs, ◌+◌, ◌*◌, Bool, true, false, nat_lt, List, [], ◌∷◌, ◌++◌, length, drop, map, Option, None, Some, codes}
+use Rattle.std.specs.List.{list_any, position_or_len, flat_map, fold}
+use Rattle.ion_model.specs.declared.kind.Kind.{Kind}
+use Rattle.ion_model.specs.declared.kind.Kind.TheVariants as kinds
+use Rattle.ion_model.specs.declared.value.Value.{Value}
+use Rattle.ion_model.specs.declared.value.Payload.TheVariants as payloads
+use Rattle.ion_model.specs.declared.value.Payload.TheOpen.{Payload-F}
+use Rattle.ion_model.specs.declared.value.Payload.TheFolds.{fold-Value}
+use Rattle.ion_model.specs.Measures.{bare, annotated}
+use Rattle.ion_model.specs.Symbols.{symbol_same}
+use Rattle.ion_scalar.specs.Spellings.{var_uint_octets, uint_octets, decimal_octets}
+use Rattle.ion_binary.specs.Grammar.{the_marker, field_of}
+use Rattle.ion_scalar.specs.TimestampSpellings.{timestamp_octets}
+
+-- 1. Ids. A list of names has the symbol of each id at its place: first, of the id 0, the one of unknown text.
+
+abbrev pub Names : Type 0
+Names = List (Option (List ℕ))
+
+-- those that every document begins with ("System Symbols")
+unfoldable pub system_names : Names
+system_names =
+    None
+    ∷ Some (codes "$ion")
+    ∷ Some (codes "$ion_1_0")
+    ∷ Some (codes "$ion_symbol_table")
+    ∷ Some (codes "name")
+    ∷ Some (codes "version")
+    ∷ Some (codes "imports")
+    ∷ Some (codes "symbols")
+    ∷ Some (codes "max_id")
+    ∷ Some (codes "$ion_shared_symbol_table")
+    ∷ []
+
+-- the id of a symbol
+abbrev pub id_of : Names → Option (List ℕ) → ℕ
+id_of names s = position_or_len (symbol_same s) names
+
+-- the names with one at the end, unless it is there
+abbrev pub with_name : Names → Option (List ℕ) → Names
+with_name names s = if list_any (symbol_same s) names then names else names ++ s ∷ []
+
+abbrev pub with_names : Names → List (Option (List ℕ)) → Names
+with_names names ss = fold with_name names ss
+
+-- of one level, in which each value inside is its symbols already
+abbrev pub symbols_step : Payload-F Names Names Names → Names
+symbols_step (Payload-F.Symbol s) = s ∷ []
+symbols_step (Payload-F.List vs) = flat_map (λ ss. ss) vs
+symbols_step (Payload-F.Sexp vs) = flat_map (λ ss. ss) vs
+symbols_step (Payload-F.Fields fs) = flat_map (λ ss. ss) fs
+symbols_step _ = []
+
+-- the symbols of a value in the order of their use: its annotations, then its payload, a field's name before its value
+unfoldable pub symbols_of : Value → Names
+symbols_of v = fold-Value Names Names Names symbols_step (λ f. f.name ∷ f.value) (λ v. v.annotations ++ v.payload) v
+
+-- 2. Octets.
+
+-- a descriptor and a length: the type code, and the length in the fewest octets
+abbrev pub header : ℕ → ℕ → List ℕ
+header code n = if nat_lt n 14 then (16 * code + n) ∷ [] else (16 * code + 14) ∷ var_uint_octets n
+
+abbrev pub framed : ℕ → List ℕ → List ℕ
+framed code body = header code (length body) ++ body
+
+-- octets behind their number
+abbrev pub counted : List ℕ → List ℕ
+counted w = var_uint_octets (length w) ++ w
+
+abbrev pub null_octet : Kind → ℕ
+null_octet kinds.Null = 0x0F
+null_octet kinds.Bool = 0x1F
+null_octet kinds.Int = 0x2F
+null_octet kinds.Float = 0x4F
+null_octet kinds.Decimal = 0x5F
+null_octet kinds.Timestamp = 0x6F
+null_octet kinds.Symbol = 0x7F
+null_octet kinds.Str = 0x8F
+null_octet kinds.Clob = 0x9F
+null_octet kinds.Blob = 0xAF
+null_octet kinds.List = 0xBF
+null_octet kinds.Sexp = 0xCF
+null_octet kinds.Fields = 0xDF
+
+abbrev pub truth_octet : Bool → ℕ
+truth_octet false = 0x10
+truth_octet true = 0x11
+
+-- an int is its magnitude; the type code has the sign
+abbrev pub whole_octets : ℤ → List ℕ
+whole_octets z = framed (if int_lt z (pos 0) then 3 else 2) (uint_octets (unsigned_abs z))
+
+-- the ids of annotations
+abbrev pub ids_octets : Names → List (Option (List ℕ)) → List ℕ
+ids_octets names ss = flat_map (λ s. var_uint_octets (id_of names s)) ss
+
+-- annotations before the octets of a payload: a wrapper, or nothing where there are none
+abbrev pub wrapped : Names → List (Option (List ℕ)) → List ℕ → List ℕ
+wrapped names [] w = w
+wrapped names (s ∷ ss) w = framed 14 (counted (ids_octets names (s ∷ ss)) ++ w)
+
+-- the id of a field's name before the octets of its value
+abbrev pub named : Names → Option (List ℕ) → List ℕ → List ℕ
+named names s w = var_uint_octets (id_of names s) ++ w
+
+-- of one level, in which each value inside is its octets already
+abbrev pub octets_step : Names → Payload-F (List ℕ) (List ℕ) (List ℕ) → List ℕ
+octets_step names (Payload-F.Null k) = null_octet k ∷ []
+octets_step names (Payload-F.Truth b) = truth_octet b ∷ []
+octets_step names (Payload-F.Int z) = whole_octets z
+octets_step names (Payload-F.Decimal d) = framed 5 (decimal_octets d)
+octets_step names (Payload-F.Timestamp t) = framed 6 (timestamp_octets t)
+octets_step names (Payload-F.Symbol s) = framed 7 (uint_octets (id_of names s))
+octets_step names (Payload-F.Str text) = framed 8 text
+octets_step names (Payload-F.Clob body) = framed 9 body
+octets_step names (Payload-F.Blob body) = framed 10 body
+octets_step names (Payload-F.List vs) = framed 11 (flat_map (λ w. w) vs)
+octets_step names (Payload-F.Sexp vs) = framed 12 (flat_map (λ w. w) vs)
+octets_step names (Payload-F.Fields fs) = framed 13 (flat_map (λ w. w) fs)
+
+-- the octets of a value whose symbols have these ids
+unfoldable pub value_octets : Names → Value → List ℕ
+value_octets names v = fold-Value (List ℕ) (List ℕ) (List ℕ) (octets_step names) (λ f. named names f.name f.value) (λ v. wrapped names v.annotations v.payload) v
+
+-- 3. Tables ("Local Symbol Tables").
+
+-- a name as an element of `symbols`
+abbrev pub text_of : Option (List ℕ) → List ℕ
+text_of None = []
+text_of (Some t) = t
+
+abbrev pub string_value : Option (List ℕ) → Value
+string_value s = bare (payloads.Str (text_of s))
+
+-- the local symbol table that appends these names
+abbrev pub table_value : Names → Value
+table_value names =
+    annotated (Some (codes "$ion_symbol_table") ∷ []) (payloads.Fields (
+    field_of (Some (codes "imports")) (bare (payloads.Symbol (Some (codes "$ion_symbol_table"))))
+    ∷ field_of (Some (codes "symbols")) (bare (payloads.List (map string_value names)))
+    ∷ []))
+
+-- the table that makes the names old the names new; nothing where no name is new
+abbrev pub table_octets : Names → Names → List ℕ
+table_octets old new = if nat_lt (length old) (length new) then value_octets new (table_value (drop (length old) new)) else []
+
+-- 4. Streams.
+
+-- what the rest of a document depends on: the names, and whether the marker is out
+pub record Progress : Type 0 where
+  pub names : Names
+  pub begun : Bool
+
+-- a marker where none is out
+abbrev pub opening : Bool → List ℕ
+opening true = []
+opening false = the_marker
+
+-- the names behind a value
+abbrev pub names_after : Names → Value → Names
+names_after names v = with_names names (symbols_of v)
+
+-- what a value adds to the document
+abbrev pub adds : Progress → Value → List ℕ
+adds p v =
+    let names = names_after p.names v in
+    opening p.begun ++ (table_octets p.names names ++ value_octets names v)
+
+abbrev pub after : Progress → Value → Progress
+after p v = record { names = names_after p.names v; begun = true }
+
+-- what the values add, and the end
+abbrev pub bin_from : Progress → List Value → List ℕ
+bin_from p [] = opening p.begun
+bin_from p (v ∷ vs) = adds p v ++ bin_from (after p v) vs
+
+abbrev pub nothing_yet : Progress
+nothing_yet = record { names = system_names; begun = false }
+
+-- the document of the stream
+unfoldable pub bin_of : List Value → List ℕ
+bin_of s = bin_from nothing_yet s

@@ -1,0 +1,150 @@
+//! Octets with their descriptor and length in front, and the values that hold no others (Ion 1.0, "Ion
+//! Binary Encoding"). Each function appends to `out`, and its only fault is `Memory`, on which some of the
+//! octets may stand there.
+ghost use Rattle.std.specs.Prelude.{◌≡◌, ◌<◌, ◌≤◌, ◌*◌, ◌^◌, ◌++◌, ◌∷◌, [], OnOk, IsOkUnless};
+ghost use Rattle.ion_symtab.specs.declared.fault.Fault.TheVariants as faults;
+ghost use Rattle.ion_scalar.specs.Spellings.{var_uint_octets, uint_octets, decimal_octets};
+ghost use Rattle.ion_binary.specs.Output.{id_of, framed, counted, null_octet, truth_octet, whole_octets};
+ghost use Rattle.ion_scalar.specs.TimestampSpellings.{timestamp_octets};
+
+use crate::names::Names;
+use ion_model::{Decimal, Kind, Symbol, Timestamp, Whole};
+use ion_scalar::{put_decimal, put_timestamp, put_uint, put_var_uint};
+use ion_symtab::Fault;
+use std::alloc::Global;
+
+/// Appends a body behind the descriptor of its type code and length, which has the fewest octets.
+pub(crate) fn put_framed(code: u8, body: &[u8], out: &mut Vec<u8>) -> Result<(), Fault>
+    requires { code < 16 }
+    ensures ok { OnOk result (out.new.items ≡ out.old.items ++ framed code body.now) }
+    ensures memory { IsOkUnless result faults.Memory }
+{
+    if body.len() < 14 {
+        out.push(code * 16 + body.len() as u8)?;
+    } else {
+        out.push(code * 16 + 14)?;
+        put_length(body.len(), out)?;
+    }
+    out.extend_from_slice(body)?;
+    Ok(())
+}
+
+/// Appends octets behind their number.
+pub(crate) fn put_counted(octets: &[u8], out: &mut Vec<u8>) -> Result<(), Fault>
+    ensures ok { OnOk result (out.new.items ≡ out.old.items ++ counted octets.now) }
+    ensures memory { IsOkUnless result faults.Memory }
+{
+    put_length(octets.len(), out)?;
+    out.extend_from_slice(octets)?;
+    Ok(())
+}
+
+fn put_length(length: usize, out: &mut Vec<u8>) -> Result<(), Fault>
+    requires { length < 2 ^ 63 }
+    ensures ok { OnOk result (out.new.items ≡ out.old.items ++ var_uint_octets length) }
+    ensures memory { IsOkUnless result faults.Memory }
+{
+    put_var_uint(length as u64, out).map_err(|_| Fault::Memory)
+}
+
+/// Appends the id of a symbol as a VarUInt.
+pub(crate) fn put_id(names: &Names, symbol: &Symbol, out: &mut Vec<u8>) -> Result<(), Fault>
+    ensures ok { OnOk result (out.new.items ≡ out.old.items ++ var_uint_octets (id_of names.now symbol.now)) }
+    ensures memory { IsOkUnless result faults.Memory }
+{
+    let id = names.id_of(symbol)?;
+    put_var_uint(id, out).map_err(|_| Fault::Memory)
+}
+
+/// Appends the null of a kind.
+pub(crate) fn put_null(kind: Kind, out: &mut Vec<u8>) -> Result<(), Fault>
+    ensures ok { OnOk result (out.new.items ≡ out.old.items ++ null_octet kind ∷ []) }
+    ensures memory { IsOkUnless result faults.Memory }
+{
+    out.push(null_octet(kind))?;
+    Ok(())
+}
+
+fn null_octet(kind: Kind) -> u8
+    ensures { result ≡ null_octet kind }
+{
+    match kind {
+        Kind::Null => 0x0F,
+        Kind::Bool => 0x1F,
+        Kind::Int => 0x2F,
+        Kind::Float => 0x4F,
+        Kind::Decimal => 0x5F,
+        Kind::Timestamp => 0x6F,
+        Kind::Symbol => 0x7F,
+        Kind::Str => 0x8F,
+        Kind::Clob => 0x9F,
+        Kind::Blob => 0xAF,
+        Kind::List => 0xBF,
+        Kind::Sexp => 0xCF,
+        Kind::Fields => 0xDF,
+    }
+}
+
+/// Appends a bool.
+pub(crate) fn put_truth(truth: bool, out: &mut Vec<u8>) -> Result<(), Fault>
+    ensures ok { OnOk result (out.new.items ≡ out.old.items ++ truth_octet truth ∷ []) }
+    ensures memory { IsOkUnless result faults.Memory }
+{
+    out.push(if truth { 0x11 } else { 0x10 })?;
+    Ok(())
+}
+
+/// Appends an int, of which the type code has the sign.
+pub(crate) fn put_whole(alloc: Global, whole: Whole, out: &mut Vec<u8>) -> Result<(), Fault>
+    ensures ok { OnOk result (out.new.items ≡ out.old.items ++ whole_octets whole) }
+    ensures memory { IsOkUnless result faults.Memory }
+{
+    let value = whole.get();
+    let mut body = Vec::new(alloc);
+    put_uint(value.unsigned_abs(), &mut body).map_err(|_| Fault::Memory)?;
+    put_framed(if value < 0 { 3 } else { 2 }, &body, out)
+}
+
+/// Appends a decimal.
+pub(crate) fn put_decimal_value(
+    alloc: Global,
+    decimal: Decimal,
+    out: &mut Vec<u8>,
+) -> Result<(), Fault>
+    ensures ok { OnOk result (out.new.items ≡ out.old.items ++ framed 5 (decimal_octets decimal)) }
+    ensures memory { IsOkUnless result faults.Memory }
+{
+    let mut body = Vec::new(alloc);
+    put_decimal(decimal, &mut body).map_err(|_| Fault::Memory)?;
+    put_framed(5, &body, out)
+}
+
+/// Appends a timestamp.
+pub(crate) fn put_timestamp_value(
+    alloc: Global,
+    timestamp: Timestamp,
+    out: &mut Vec<u8>,
+) -> Result<(), Fault>
+    ensures ok { OnOk result (out.new.items ≡ out.old.items ++ framed 6 (timestamp_octets timestamp)) }
+    ensures memory { IsOkUnless result faults.Memory }
+{
+    let mut body = Vec::new(alloc);
+    put_timestamp(timestamp, &mut body).map_err(|_| Fault::Memory)?;
+    put_framed(6, &body, out)
+}
+
+/// Appends a symbol as a value.
+pub(crate) fn put_symbol(
+    alloc: Global,
+    names: &Names,
+    symbol: &Symbol,
+    out: &mut Vec<u8>,
+) -> Result<(), Fault>
+    ensures ok { OnOk result (out.new.items ≡ out.old.items ++ framed 7 (uint_octets (id_of names.now symbol.now))) }
+    ensures memory { IsOkUnless result faults.Memory }
+{
+    let id = names.id_of(symbol)?;
+    let mut body = Vec::new(alloc);
+    put_uint(id as u128, &mut body).map_err(|_| Fault::Memory)?;
+    put_framed(7, &body, out)
+}

@@ -1,0 +1,208 @@
+//! Containers that end.
+ghost use Rattle.std.specs.Prelude.{◌≡◌, [], ◌∷◌, IfOk, IfSome};
+ghost use Rattle.ion_model.specs.Measures.{bare};
+ghost use Rattle.ion_binary.specs.declared.state.Frame.TheVariants as frames;
+ghost use Rattle.ion_binary.specs.Grammar.{listed};
+ghost use Rattle.ion_binary.specs.Machine.{deliver, proceed};
+ghost use Rattle.ion_binary.specs.Views.{open_frames, Does, Puts, SameSetting};
+
+use super::BinaryReader;
+use crate::form::Listing;
+use crate::state::{Frame, Phase, Purpose};
+use ion_model::{Field, Payload, Reason, Sequence, Symbol, Value};
+
+/// A list or an s-expression of these items.
+fn listed(listing: Listing, items: Sequence<Value>) -> Payload
+    ensures { result ≡ listed listing items }
+{
+    match listing {
+        Listing::List => Payload::List(items),
+        Listing::Sexp => Payload::Sexp(items),
+    }
+}
+
+impl BinaryReader<'_> {
+    /// Hands a whole value to the innermost container, and closes the containers that are whole then.
+    pub(super) fn deliver(&mut self, value: Value) -> Result<Option<Value>, Reason>
+        ensures does { Does (deliver self.old.catalog.now self.old.used self.old.start self.old.context (open_frames self.old) value) result self.new }
+        ensures used { self.new.used ≡ self.old.used }
+        ensures setting { SameSetting self.old self.new }
+    {
+        let mut value = value;
+        while let Some(frame) = self.frames.pop() {
+            match self.put(frame, value) {
+                Err(reason) => return Err(reason),
+                Ok(None) => return Ok(None),
+                Ok(Some(whole)) => value = whole,
+            }
+        }
+        self.give(value)
+    }
+
+    /// Gives a value of the top level. A local symbol table isn't given: it changes the context (Ion
+    /// 1.0, "Symbols", "Local Symbol Tables").
+    fn give(&mut self, value: Value) -> Result<Option<Value>, Reason>
+        requires top { open_frames self.old ≡ [] }
+        ensures does { Does (deliver self.old.catalog.now self.old.used self.old.start self.old.context [] value) result self.new }
+        ensures used { self.new.used ≡ self.old.used }
+        ensures setting { SameSetting self.old self.new }
+    {
+        self.start = self.used;
+        self.phase = Phase::Ready;
+        if !value.is_table() {
+            return Ok(Some(value));
+        }
+        match self.context.apply(&value, self.catalog) {
+            Ok(()) => Ok(None),
+            Err(reason) => Err(reason),
+        }
+    }
+
+    /// Puts a value into a container that was the innermost one: the container as a value if it is
+    /// whole, else it is the innermost one again.
+    fn put(&mut self, frame: Frame, value: Value) -> Result<Option<Value>, Reason>
+        ensures does { Puts (deliver self.old.catalog.now self.old.used self.old.start self.old.context (frame ∷ open_frames self.old) value) result self.new }
+        ensures frames { IfOk result (λ whole. IfSome whole (λ _. self.new.frames.items ≡ self.old.frames.items)) }
+        ensures used { self.new.used ≡ self.old.used }
+        ensures setting { SameSetting self.old self.new }
+    {
+        match frame {
+            Frame::Items {
+                end,
+                listing,
+                items,
+            } => self.put_item(end, listing, items, value),
+            Frame::Fields { .. } => Err(Reason::Malformed),
+            Frame::Named { end, fields, name } => self.put_field(end, fields, name, value),
+            Frame::Annotated { annotations, .. } => Ok(Some(Value {
+                annotations,
+                payload: value.payload,
+            })),
+        }
+    }
+
+    /// Puts an item into a list or an s-expression.
+    fn put_item(
+        &mut self,
+        end: u64,
+        listing: Listing,
+        items: Sequence<Value>,
+        item: Value,
+    ) -> Result<Option<Value>, Reason>
+        ensures does { Puts (deliver self.old.catalog.now self.old.used self.old.start self.old.context (frames.Items end listing items ∷ open_frames self.old) item) result self.new }
+        ensures frames { IfOk result (λ whole. IfSome whole (λ _. self.new.frames.items ≡ self.old.frames.items)) }
+        ensures used { self.new.used ≡ self.old.used }
+        ensures setting { SameSetting self.old self.new }
+    {
+        let mut items = items;
+        items.push(item)?;
+        if self.used == end {
+            return Ok(Some(self.bare(listed(listing, items))));
+        }
+        self.phase = Phase::Ready;
+        self.frames.push(Frame::Items {
+            end,
+            listing,
+            items,
+        })?;
+        Ok(None)
+    }
+
+    /// Puts a value behind its name into a struct.
+    fn put_field(
+        &mut self,
+        end: u64,
+        fields: Sequence<Field>,
+        name: Result<Symbol, Reason>,
+        value: Value,
+    ) -> Result<Option<Value>, Reason>
+        ensures does { Puts (deliver self.old.catalog.now self.old.used self.old.start self.old.context (frames.Named end fields name ∷ open_frames self.old) value) result self.new }
+        ensures frames { IfOk result (λ whole. IfSome whole (λ _. self.new.frames.items ≡ self.old.frames.items)) }
+        ensures used { self.new.used ≡ self.old.used }
+        ensures setting { SameSetting self.old self.new }
+    {
+        let name = name?;
+        let mut fields = fields;
+        fields.push(Field { name, value })?;
+        if self.used == end {
+            return Ok(Some(self.bare(Payload::Fields(fields))));
+        }
+        self.phase = Phase::InNumber(Purpose::FieldName, 0);
+        self.frames.push(Frame::Fields { end, fields })?;
+        Ok(None)
+    }
+
+    /// Goes on behind a pad, or into a container that begins. The innermost container may be whole
+    /// here: where it is empty, or the pad was its last.
+    pub(super) fn proceed(&mut self) -> Result<Option<Value>, Reason>
+        ensures does { Does (proceed self.old.catalog.now self.old.used self.old.start self.old.context (open_frames self.old)) result self.new }
+        ensures used { self.new.used ≡ self.old.used }
+        ensures setting { SameSetting self.old self.new }
+    {
+        match self.frames.pop() {
+            None => {
+                self.phase = Phase::Ready;
+                self.start = self.used;
+                Ok(None)
+            }
+            Some(frame) => self.proceed_in(frame),
+        }
+    }
+
+    /// The same in a container that was the innermost one.
+    fn proceed_in(&mut self, frame: Frame) -> Result<Option<Value>, Reason>
+        ensures does { Does (proceed self.old.catalog.now self.old.used self.old.start self.old.context (frame ∷ open_frames self.old)) result self.new }
+        ensures used { self.new.used ≡ self.old.used }
+        ensures setting { SameSetting self.old self.new }
+    {
+        match frame {
+            Frame::Items {
+                end,
+                listing,
+                items,
+            } => self.next_item(end, listing, items),
+            Frame::Fields { end, fields } => self.next_field(end, fields),
+            Frame::Named { end, fields, .. } => self.next_field(end, fields),
+            Frame::Annotated { .. } => Err(Reason::Malformed),
+        }
+    }
+
+    /// Goes on with the next item of a list or an s-expression, or closes it.
+    fn next_item(
+        &mut self,
+        end: u64,
+        listing: Listing,
+        items: Sequence<Value>,
+    ) -> Result<Option<Value>, Reason>
+        ensures does { Does (proceed self.old.catalog.now self.old.used self.old.start self.old.context (frames.Items end listing items ∷ open_frames self.old)) result self.new }
+        ensures used { self.new.used ≡ self.old.used }
+        ensures setting { SameSetting self.old self.new }
+    {
+        if self.used == end {
+            let value = self.bare(listed(listing, items));
+            return self.deliver(value);
+        }
+        self.phase = Phase::Ready;
+        self.frames.push(Frame::Items {
+            end,
+            listing,
+            items,
+        })?;
+        Ok(None)
+    }
+
+    /// Goes on with the next field of a struct, or closes it.
+    fn next_field(&mut self, end: u64, fields: Sequence<Field>) -> Result<Option<Value>, Reason>
+        ensures does { Does (proceed self.old.catalog.now self.old.used self.old.start self.old.context (frames.Fields end fields ∷ open_frames self.old)) result self.new }
+        ensures used { self.new.used ≡ self.old.used }
+        ensures setting { SameSetting self.old self.new }
+    {
+        if self.used == end {
+            let value = self.bare(Payload::Fields(fields));
+            return self.deliver(value);
+        }
+        self.phase = Phase::InNumber(Purpose::FieldName, 0);
+        self.frames.push(Frame::Fields { end, fields })?;
+        Ok(None)
+    }
+}

@@ -1,0 +1,141 @@
+//! The writer of binary documents.
+ghost use Rattle.std.specs.Prelude.{◌≡◌, ◌++◌, Some, None, Ok, Err, true, false, MatchResult, OnOk, OnErr, IfErr, IfOk};
+ghost use Rattle.std.specs.Io.KnownBytes.{Appends};
+ghost use Rattle.ion_symtab.specs.declared.fault.Fault.{Fault as AnyFault};
+ghost use Rattle.ion_symtab.specs.declared.fault.Fault.TheVariants as faults;
+ghost use Rattle.ion_symtab.specs.Took.{TookFront};
+ghost use Rattle.ion_binary.specs.Output.{nothing_yet, adds, after, opening, names_after, system_names};
+ghost use Rattle.ion_binary.specs.Writing.{IsWritingFault, IsNumberingFault};
+
+use crate::encoding::put_value;
+use crate::names::Names;
+use crate::numbering::number_value;
+use crate::table::table_of;
+use ion_model::Value;
+use ion_symtab::{Fault, Outlet, flushed, write_whole};
+use std::alloc::Global;
+use std::marker::Model;
+
+/// The marker of Ion 1.0 (Ion 1.0, "Ion Binary Encoding", "Value Streams").
+const MARKER: [u8; 4] = [0xE0, 0x01, 0x00, 0xEA];
+
+/// Writes values, one after another, as one binary document (Ion 1.0, "Ion Binary Encoding"). Contracts
+/// see the symbols that have ids, whether the marker is out, and the fault that each call answers.
+///
+/// Every length and number has the fewest octets. Before a value with symbols whose texts have no ids yet
+/// stands one local symbol table, which appends them in the order of their first use.
+#[derive(Drop)]
+pub struct BinaryWriter {
+    alloc: Global,
+    names: Names,
+    /// Whether the marker is out.
+    begun: bool,
+    /// The fault that each call answers from now on.
+    failed: Option<Fault>,
+}
+
+impl Model for BinaryWriter {
+    ghost use Rattle.ion_binary.specs.Writing.{Writing};
+
+    ghost Value = { Writing };
+
+    ghost view = { λ w. record { progress = record { names = w.names; begun = w.begun }; failed = w.failed } };
+}
+
+impl BinaryWriter {
+    /// A writer of a document of which nothing is written yet. The only fault is `Memory`.
+    pub fn new(alloc: Global) -> Result<BinaryWriter, Fault>
+        ensures { MatchResult result (λ w. w ≡ record { progress = nothing_yet; failed = None }) (λ f. f ≡ faults.Memory) }
+    {
+        Ok(BinaryWriter {
+            alloc,
+            names: Names::system(alloc)?,
+            begun: false,
+            failed: None,
+        })
+    }
+
+    /// Writes a value; before the first one the version marker. A local symbol table isn't one: it would be
+    /// written as it stands and read as a table.
+    ///
+    /// `Memory`; `Write` where the device failed; `TooLarge` where a symbol would need an id above 2^31-1.
+    /// After a fault each later call answers the same.
+    pub fn put<W: Outlet>(&mut self, out: &mut W, value: &Value) -> Result<(), Fault>
+        ensures ok { OnOk result (Appends (W.took out.old) (W.took out.new) (adds self.old.progress value.now)) }
+        ensures after { OnOk result (self.new ≡ record { progress = after self.old.progress value.now; failed = None }) }
+        ensures front { OnErr result (TookFront W.took out.old out.new (adds self.old.progress value.now)) }
+        ensures cause { self.old.failed ≡ None → IfErr result (IsWritingFault (names_after self.old.progress.names value.now) (W.has_failed out.new)) }
+        ensures again { (fault : AnyFault) → self.old.failed ≡ Some fault → (result ≡ Err fault) × (out.new ≡ out.old) }
+        ensures failed { IfErr result (λ fault. self.new.failed ≡ Some fault) }
+    {
+        if let Some(fault) = self.failed {
+            return Err(fault);
+        }
+        let answer = self.put_next(out, value);
+        self.note(answer)
+    }
+
+    /// Writes the version marker where no value was put, and flushes.
+    ///
+    /// `Write` where the device failed; the fault of an earlier call, where there was one.
+    pub fn finish<W: Outlet>(self, out: &mut W) -> Result<(), Fault>
+        ensures ok { OnOk result (Appends (W.took out.old) (W.took out.new) (opening self.progress.begun)) }
+        ensures passed_on { OnOk result (W.has_failed out.new ≡ false) }
+        ensures front { OnErr result (TookFront W.took out.old out.new (opening self.progress.begun)) }
+        ensures cause { self.failed ≡ None → IfErr result (λ fault. (fault ≡ faults.Write) × (W.has_failed out.new ≡ true)) }
+        ensures again { (fault : AnyFault) → self.failed ≡ Some fault → (result ≡ Err fault) × (out.new ≡ out.old) }
+    {
+        if let Some(fault) = self.failed {
+            return Err(fault);
+        }
+        if self.begun {
+            return flushed(out);
+        }
+        write_whole(out, &MARKER)?;
+        flushed(out)
+    }
+
+    // Keeps a fault for the later calls.
+    fn note(&mut self, answer: Result<(), Fault>) -> Result<(), Fault>
+        ensures answer { result ≡ answer }
+        ensures failed { IfErr result (λ fault. self.new.failed ≡ Some fault) }
+        ensures kept { OnOk result (self.new ≡ self.old) }
+    {
+        if let Err(fault) = answer {
+            self.failed = Some(fault);
+        }
+        answer
+    }
+
+    // The same for a writer that has answered no fault.
+    fn put_next<W: Outlet>(&mut self, out: &mut W, value: &Value) -> Result<(), Fault>
+        ensures ok { OnOk result (Appends (W.took out.old) (W.took out.new) (adds self.old.progress value.now)) }
+        ensures after { OnOk result (self.new ≡ record { progress = after self.old.progress value.now; failed = self.old.failed }) }
+        ensures front { OnErr result (TookFront W.took out.old out.new (adds self.old.progress value.now)) }
+        ensures cause { IfErr result (IsWritingFault (names_after self.old.progress.names value.now) (W.has_failed out.new)) }
+    {
+        let octets = self.octets_of(value)?;
+        self.begun = true;
+        write_whole(out, &octets)
+    }
+
+    // What the value adds to the document.
+    fn octets_of(&mut self, value: &Value) -> Result<Vec<u8>, Fault>
+        ensures ok { IfOk result (λ octets. octets.items ≡ adds self.old.progress value.now) }
+        ensures after { OnOk result (self.new ≡ record { progress = record { names = names_after self.old.progress.names value.now; begun = self.old.progress.begun }; failed = self.old.failed }) }
+        ensures cause { IfErr result (IsNumberingFault (names_after self.old.progress.names value.now)) }
+    {
+        let mut octets = Vec::new(self.alloc);
+        if !self.begun {
+            octets.extend_from_slice(&MARKER)?;
+        }
+        let known = self.names.len();
+        number_value(&mut self.names, value)?;
+        if self.names.len() > known {
+            let table = table_of(self.alloc, &self.names, known)?;
+            put_value(self.alloc, &self.names, &table, &mut octets)?;
+        }
+        put_value(self.alloc, &self.names, value, &mut octets)?;
+        Ok(octets)
+    }
+}

@@ -1,0 +1,5 @@
+use Rattle.ion_scalar.specs.DecimalLaws.{decimal_answers}
+use Rattle.ion_scalar.proofs.laws.decimal_answers.Goals as goal
+
+pub returns : goal.returns
+returns c = decimal_answers

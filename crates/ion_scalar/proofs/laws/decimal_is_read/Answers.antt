@@ -1,0 +1,5 @@
+use Rattle.ion_scalar.specs.DecimalLaws.{decimal_read}
+use Rattle.ion_scalar.proofs.laws.decimal_is_read.Goals as goal
+
+pub returns : goal.returns
+returns c = decimal_read

@@ -1,0 +1,31 @@
+-- A minute of the day before, of the same day or of the day after, by how many minutes it lies later or earlier.
+use Rattle.std.specs.Prelude.{ℕ, ◌+◌, ◌-◌, ◌*◌, ◌/◌, ◌%◌, ℤ, pos, ◌+ℤ◌, nat_lt, unsigned_abs, if◌then◌else◌}
+use Rattle.ion_model.specs.declared.calendar.Date.{Date}
+use Rattle.ion_model.specs.declared.calendar.Minute.{Minute}
+use Rattle.ion_model.specs.Calendar.{month_length}
+
+abbrev pub day_of : ℕ → ℕ → ℕ → Date
+day_of year month day = record { year = year; month = month; day = day }
+
+abbrev pub previous_day : Date → Date
+previous_day d =
+    if nat_lt 1 d.day then day_of d.year d.month (d.day - 1)
+    else if nat_lt 1 d.month then day_of d.year (d.month - 1) (month_length d.year (d.month - 1))
+    else day_of (d.year - 1) 12 31
+
+abbrev pub next_day : Date → Date
+next_day d =
+    if nat_lt d.day (month_length d.year d.month) then day_of d.year d.month (d.day + 1)
+    else if nat_lt d.month 12 then day_of d.year (d.month + 1) 1
+    else day_of (d.year + 1) 1 1
+
+-- in which of the three days a minute comes that is counted from the beginning of the day before
+abbrev pub day_at : Date → ℕ → Date
+day_at d count = if nat_lt count 1440 then previous_day d else if nat_lt count 2880 then d else next_day d
+
+abbrev pub minute_at : Date → ℕ → Minute
+minute_at d count = record { date = day_at d count; hour = count % 1440 / 60; minute = count % 60 }
+
+-- the minute that lies so many minutes later, less than a day
+unfoldable pub moved : Minute → ℤ → Minute
+moved m by = minute_at m.date (unsigned_abs (pos (m.hour * 60 + m.minute + 1440) +ℤ by))
