@@ -208,6 +208,39 @@ fn rows(rt: HostRuntime) -> Result<(), Fail> {
     Ok(())
 }
 
+/// A document that is converted, the octets that go out, the line of the errors and the status.
+type Converted = (&'static str, &'static [u8], &'static str, u8);
+
+static CONVERTED: [Converted; 4] = [
+    ("-", b"\xE0\x01\x00\xEA", "", 0),
+    ("spelled", b"\xE0\x01\x00\xEA\xB3\x21\x05\x11", "", 0),
+    ("bad", b"\xE0\x01\x00\xEA", "refused 5 Malformed\n", 2),
+    ("absent", b"", "fault Open\n", 4),
+];
+
+#[test]
+fn converts(rt: HostRuntime) -> Result<(), Fail> {
+    let alloc = rt.alloc();
+    for row in &CONVERTED {
+        let mut shelf = Shelf {
+            files: FILES.as_slice(),
+        };
+        let mut out = Vec::new(alloc);
+        let mut err = Vec::new(alloc);
+        let status = run(
+            alloc,
+            &["convert", row.0, "--to", "binary"],
+            &mut shelf,
+            &mut ToWrite::new(&mut out),
+            &mut ToWrite::new(&mut err),
+        );
+        assert_eq!(rt; status, row.3, "{}", row.0);
+        assert_eq!(rt; out.as_slice(), row.1, "{}", row.0);
+        assert_eq!(rt; err.as_slice(), row.2.as_bytes(), "{}", row.0);
+    }
+    Ok(())
+}
+
 #[test]
 fn wrong_words(rt: HostRuntime) -> Result<(), Fail> {
     let alloc = rt.alloc();
