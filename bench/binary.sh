@@ -16,6 +16,6 @@ seconds = time.monotonic() - began
 used = resource.getrusage(resource.RUSAGE_CHILDREN)
 size = os.path.getsize(document) / 1e6
 print(f"{os.path.basename(document)}: {size:.0f} MB in {seconds:.2f} s, {size / seconds:.0f} MB/s, "
-      f"{size / (used.ru_utime + used.ru_stime):.0f} MB per second of processor time, peak {used.ru_maxrss / 1024:.1f} MiB")
+      f"{size / (used.ru_utime + used.ru_stime):.0f} MB per second of processor time, peak at most {used.ru_maxrss / 1024:.1f} MiB")
 TIMES
 done

@@ -1,17 +1,24 @@
 -- Octets of a piece that a body or a pad goes on behind.
-use Rattle.std.proofs.Common.{◌≡◌, ℕ, ◌+◌, ◌-◌, ◌≤◌, List, ◌++◌, length, take, ap, ◌∙◌, arith}
-use Rattle.std.proofs.lemmas.List.{length-take-le}
+use Rattle.std.proofs.Common.{◌≡◌, ℕ, ◌+◌, ◌-◌, ◌<◌, ◌≤◌, List, ◌++◌, length, take, drop, Option, Some, None, Ok, ap, sym, ◌∙◌, arith}
+use Rattle.std.proofs.lemmas.List.{length-take-le, take-append-drop}
+use Rattle.ion_model.specs.declared.refusal.Reason.{Reason}
+use Rattle.ion_model.specs.declared.value.Value.{Value}
 use Rattle.ion_symtab.specs.declared.limits.Limits.{Limits}
 use Rattle.ion_symtab.specs.declared.catalog.Catalog.{Catalog}
 use Rattle.ion_symtab.specs.Slots.{Slot}
 use Rattle.ion_binary.specs.declared.form.Scalar.{Scalar}
+use Rattle.ion_binary.specs.declared.reader.BinaryReader.{BinaryReader}
+use Rattle.ion_binary.specs.declared.state.Effect.{Effect}
+use Rattle.ion_binary.specs.declared.state.Effect.TheVariants.{Goes, Gives}
 use Rattle.ion_binary.specs.declared.state.Frame.{Frame}
 use Rattle.ion_binary.specs.declared.state.Phase.{Phase}
 use Rattle.ion_binary.specs.declared.state.Phase.TheVariants.{InBody, InPad}
-use Rattle.ion_binary.specs.Machine.{Machine, at, in_body}
-use Rattle.ion_binary.specs.Run.{run}
-use Rattle.ion_binary.specs.Runs.{led}
-use Rattle.ion_binary.specs.Views.{body_so_far}
+use Rattle.ion_binary.specs.Judge.{judge}
+use Rattle.ion_binary.specs.Machine.{Machine, Outcome, at, in_body, judged}
+use Rattle.ion_binary.specs.Complete.{body_run}
+use Rattle.ion_binary.specs.Run.{Run, run}
+use Rattle.ion_binary.specs.Runs.{led, after, then_run, run-append}
+use Rattle.ion_binary.specs.Views.{machine_of, body_so_far, Gave, GaveLast, Does, Reached}
 use Rattle.ion_binary.specs.Bulk.{body_goes, pad_goes}
 
 -- the machine of a reader with this phase and these octets in its memory
@@ -34,3 +41,30 @@ module _ (g : Catalog) (l : Limits) (used start : ℕ) (c : List Slot) (fs : Lis
       ap (λ p. run g l used (with_phase used start c fs kept p) (take k piece)) e
       ∙ (body_goes g l used start c fs t n kept (take k piece) (omega arith)
       ∙ ap (λ j. led (in_body (used + j) start c fs t (n - j) (kept ++ take k piece))) size)
+
+  -- the body ends with these octets
+  pub body_ends : (t : Scalar) (k : ℕ) (phase : Phase) (piece : List ℕ) → phase ≡ InBody t (k - 1) → 0 < k → k ≤ length piece →
+      run g l used (with_phase used start c fs kept phase) (take k piece) ≡ after (used + k) (judged g (used + k) start c fs (judge c t (kept ++ take k piece)))
+  body_ends t k phase piece e some within =
+      let size : length (take k piece) ≡ k = length-take-le k piece within in
+      ap (λ p. run g l used (with_phase used start c fs kept p) (take k piece)) e
+      ∙ body_run g l used start c fs t (k - 1) kept (take k piece) (used + k) (omega arith) (omega arith)
+
+-- a run that a method's outcome ends, where the method gave a value
+gave_last : (o : Outcome) (given : Option Value) (m : Machine) (ran : Run) (to : ℕ) → ran ≡ after to o → Gave o given m → GaveLast ran to given m
+gave_last o (Some v) m ran to e did = e ∙ ap (after to) did
+gave_last o None m ran to e did = absurd did
+
+-- a run that a method's outcome ends
+pub reached : (o : Outcome) (effect : Effect) (r : BinaryReader) (ran : Run) (to : ℕ) → ran ≡ after to o → Does o (Ok effect) r → Reached ran to effect r
+reached o Goes r ran to e did = e ∙ ap (after to) did
+reached o Gives r ran to e did = gave_last o r.given (machine_of r) ran to e did
+
+-- what is refused at the front of a piece is refused with what follows
+pub refused_whole : (g : Catalog) (l : Limits) (used : ℕ) (m : Machine) (piece : List ℕ) (k : ℕ) (reason : Reason) → k ≤ length piece →
+    run g l used m (take k piece) ≡ after (used + k) (Outcome.refuses reason) → run g l used m piece ≡ after (used + k) (Outcome.refuses reason)
+refused_whole g l used m piece k reason within e =
+    let size : length (take k piece) ≡ k = length-take-le k piece within in
+    ap (run g l used m) (sym (take-append-drop k piece))
+    ∙ (run-append g l used (used + k) (take k piece) (drop k piece) (omega arith) m
+    ∙ ap (λ r. then_run r (λ n. run g l (used + k) n (drop k piece))) e)

@@ -1,32 +1,21 @@
 -- How a run over a piece ends.
-use Rattle.std.proofs.Common.{◌≡◌, ℕ, ◌+◌, ◌<◌, ◌≤◌, List, [], ◌∷◌, ◌++◌, length, take, drop, get_or, ap, sym, ◌∙◌, arith, Ok, Err, add-one, drop-cons, append_assoc, subst, ◌-◌}
+use Rattle.std.proofs.Common.{◌≡◌, ℕ, ◌+◌, ◌<◌, ◌≤◌, List, [], ◌∷◌, ◌++◌, length, take, drop, Option, Some, None, ap, sym, ◌∙◌, arith, Ok, append_assoc, subst, ◌-◌, length-take, length-drop}
 use Rattle.std.proofs.lemmas.Grind.{common_steps}
-use Rattle.std.proofs.lemmas.List.{take-append-drop, length-take-le}
+use Rattle.std.proofs.lemmas.List.{length-take-le}
 use Rattle.std.proofs.Math.Seq.{take-add}
-use Rattle.ion_model.specs.declared.refusal.Reason.{Reason}
+use Rattle.ion_model.specs.declared.value.Value.{Value}
 use Rattle.ion_symtab.specs.declared.limits.Limits.{Limits}
 use Rattle.ion_symtab.specs.declared.catalog.Catalog.{Catalog}
-use Rattle.ion_binary.specs.Machine.{Machine, refuses, feed}
-use Rattle.ion_binary.specs.Run.{run, run_on}
+use Rattle.ion_binary.specs.Machine.{Machine}
+use Rattle.ion_binary.specs.Run.{run, Advances}
 use Rattle.ion_binary.specs.Runs.{led, then_run, run-append}
+use Rattle.ion_binary.specs.Views.{GaveLast}
 
 -- from `start`, the octets of the piece before i lead to m, whatever follows
 pub record Leads (g : Catalog) (l : Limits) (to : ℕ) (start : Machine) (piece : List ℕ) (i : ℕ) (m : Machine) : Type 0 where
   pub onward : (rest : List ℕ) → run g l to start (take i piece ++ rest) ≡ run g l (to + i) m rest
 
 module _ (g : Catalog) (l : Limits) (to : ℕ) where
-  -- at a refusal
-  pub leads_to_refusal : (start m : Machine) (piece : List ℕ) (i octet : ℕ) (reason : Reason) → i < length piece → get_or piece i 0 ≡ octet →
-      Leads g l to start piece i m → feed g l m octet ≡ refuses reason →
-      run g l to start piece ≡ record { given = []; now = Err (record { offset = to + i + 1; reason = reason }) }
-  leads_to_refusal start m piece i octet reason lt is before step =
-      let rest = drop (i + 1) piece in
-      let cut : piece ≡ take i piece ++ get_or piece i 0 ∷ rest = sym (take-append-drop i piece) ∙ ap (λ w. take i piece ++ w) (rw (add-one, drop-cons piece i 0)) in
-      ap (run g l to start) cut
-      ∙ before.onward (get_or piece i 0 ∷ rest)
-      ∙ ap (λ b. run_on (to + i + 1) (λ k. run g l (to + i + 1) k rest) (feed g l m b)) is
-      ∙ ap (run_on (to + i + 1) (λ k. run g l (to + i + 1) k rest)) step
-
   -- at the end of the piece
   pub leads_to_end : (start m : Machine) (piece : List ℕ) (i : ℕ) → length piece ≤ i → Leads g l to start piece i m →
       run g l to start piece ≡ record { given = []; now = Ok m }
@@ -55,16 +44,46 @@ module _ (g : Catalog) (l : Limits) (to : ℕ) where
         ∙ ap (λ p. run g l p n rest) place)));
   }
 
+-- as much as is behind an octet is all behind it
+whole_rest : (piece : List ℕ) (i : ℕ) → take (length piece - i) (drop i piece) ≡ drop i piece
+whole_rest piece i = grind (arith, common_steps)
+
 -- octets of the rest of the piece that were taken up at once lead on
 pub leads_by : (g : Catalog) (l : Limits) (to : ℕ) (start m n : Machine) (piece : List ℕ) (i k used : ℕ) (cat : Catalog) (lim : Limits) → cat ≡ g → lim ≡ l → used ≡ to + i →
     k ≤ length (take (length piece - i) (drop i piece)) → run cat lim used m (take k (take (length piece - i) (drop i piece))) ≡ led n →
     Leads g l to start piece i m → Leads g l to start piece (i + k) n
 leads_by g l to start m n piece i k used cat lim same_catalog same_limits place within e before =
     let part = take k (take (length piece - i) (drop i piece)) in
-    let rest : take (length piece - i) (drop i piece) ≡ drop i piece = grind (arith, common_steps) in
+    let rest = whole_rest piece i in
     leads_through g l to start m n piece i k before
     (led_leads g l (to + i) m n (drop i piece) k (subst (λ (w : List ℕ). k ≤ length w) rest within)
     (ap (λ w. run g l (to + i) m (take k w)) (sym rest)
     ∙ (ap (λ p. run g l p m part) (sym place)
     ∙ (ap (λ y. run g y used m part) (sym same_limits)
     ∙ (ap (λ x. run x lim used m part) (sym same_catalog) ∙ e)))))
+
+-- octets of the rest of the piece with whose last a value came
+leads_to_value : (g : Catalog) (l : Limits) (to : ℕ) (start m n : Machine) (piece : List ℕ) (i k used : ℕ) (cat : Catalog) (lim : Limits) (v : Value) → cat ≡ g → lim ≡ l → used ≡ to + i →
+    run cat lim used m (take k (take (length piece - i) (drop i piece))) ≡ record { given = (v, used + k) ∷ []; now = Ok n } →
+    Leads g l to start piece i m → run g l to start (take (i + k) piece) ≡ record { given = (v, to + (i + k)) ∷ []; now = Ok n }
+leads_to_value g l to start m n piece i k used cat lim v same_catalog same_limits place e before =
+    let part = take k (take (length piece - i) (drop i piece)) in
+    let behind : used + k ≡ to + (i + k) = omega arith in
+    ap (run g l to start) (take-add i k piece)
+    ∙ (before.onward (take k (drop i piece))
+    ∙ (ap (λ w. run g l (to + i) m (take k w)) (sym (whole_rest piece i))
+    ∙ (ap (λ p. run g l p m part) (sym place)
+    ∙ (ap (λ y. run g y used m part) (sym same_limits)
+    ∙ (ap (λ x. run x lim used m part) (sym same_catalog)
+    ∙ (e ∙ ap (λ j. record { given = (v, j) ∷ []; now = Ok n }) behind))))))
+
+within_rest : (piece : List ℕ) (i k : ℕ) → 0 < k → k ≤ length (take (length piece - i) (drop i piece)) → i + k ≤ length piece
+within_rest piece i k some within = omega (arith, length-take {A = ℕ}, length-drop {A = ℕ})
+
+-- a value that came so is what the step gives
+pub leads_to_given : (g : Catalog) (l : Limits) (to : ℕ) (start m n : Machine) (piece : List ℕ) (i k used : ℕ) (cat : Catalog) (lim : Limits) (given : Option Value) → cat ≡ g → lim ≡ l → used ≡ to + i →
+    0 < k → k ≤ length (take (length piece - i) (drop i piece)) → GaveLast (run cat lim used m (take k (take (length piece - i) (drop i piece)))) (used + k) given n →
+    Leads g l to start piece i m → Advances to (run g l to start) piece (Ok (record { used = i + k; value = given })) n
+leads_to_given g l to start m n piece i k used cat lim None same_catalog same_limits place some within e before = absurd e
+leads_to_given g l to start m n piece i k used cat lim (Some v) same_catalog same_limits place some within e before =
+    (within_rest piece i k some within, (omega arith, leads_to_value g l to start m n piece i k used cat lim v same_catalog same_limits place e before))

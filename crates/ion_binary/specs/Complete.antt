@@ -260,7 +260,7 @@ module _ (g : Catalog) (l : Limits) where
   begin_wrapper used start c fs n h = cond-false _ _ _ (ne_eqb n 0 (λ e. omega arith))
 
   -- the octets of a body, behind those that have come
-  body_run : (used start : ℕ) (c : List Slot) (fs : List Frame) (t : Scalar) (n : ℕ) (came body : List ℕ) (to : ℕ) → length body ≡ suc n → to ≡ used + length body
+  pub body_run : (used start : ℕ) (c : List Slot) (fs : List Frame) (t : Scalar) (n : ℕ) (came body : List ℕ) (to : ℕ) → length body ≡ suc n → to ≡ used + length body
       → run g l used (in_body used start c fs t n came) body ≡ after to (judged g to start c fs (judge c t (came ++ body)))
   body_run used start c fs t zero came [] to h e = absurd (omega arith)
   body_run used start c fs t zero came (b ∷ []) to h e = rw e refl

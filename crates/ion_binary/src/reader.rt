@@ -5,7 +5,7 @@ ghost use Rattle.ion_binary.specs.Machine.{marks, one_octet, on_descriptor, on_m
 ghost use Rattle.ion_binary.specs.Views.{machine_of, open_frames, Does, SameSetting};
 
 use crate::form::{Form, Opening, opening_of};
-use crate::state::{Frame, Mark, Phase};
+use crate::state::{Effect, Frame, Mark, Phase};
 use ion_model::{Payload, Reason, Refusal, Sequence, Value};
 use ion_scalar::Size;
 use ion_symtab::{Catalog, Context, Limits};
@@ -40,6 +40,8 @@ pub struct BinaryReader<'a> {
     body: Vec<u8>,
     /// The open containers, the innermost last.
     frames: Vec<Frame>,
+    /// The value of the top level that the last octet ended, until it is taken.
+    given: Option<Value>,
     /// The refusal that each call answers from now on.
     failed: Option<Refusal>,
 }
@@ -56,7 +58,7 @@ impl BinaryReader<'_> {
     }
 
     /// Delivers a value of one octet, for which there has to be room.
-    fn one_octet(&mut self, payload: Payload) -> Result<Option<Value>, Reason>
+    fn one_octet(&mut self, payload: Payload) -> Result<Effect, Reason>
         ensures does { Does (one_octet self.old.catalog.now self.old.limits.item self.old.used self.old.start self.old.context (open_frames self.old) payload) result self.new }
         ensures used { self.new.used ≡ self.old.used }
         ensures setting { SameSetting self.old self.new }
@@ -71,7 +73,7 @@ impl BinaryReader<'_> {
     }
 
     /// Begins a version marker behind its first octet; it stands at the top level alone.
-    fn marks(&mut self) -> Result<Option<Value>, Reason>
+    fn marks(&mut self) -> Result<Effect, Reason>
         ensures does { Does (marks self.old.used self.old.start self.old.context (open_frames self.old)) result self.new }
         ensures used { self.new.used ≡ self.old.used }
         ensures setting { SameSetting self.old self.new }
@@ -80,11 +82,11 @@ impl BinaryReader<'_> {
             return Err(Reason::Malformed);
         }
         self.phase = Phase::InMarker(Mark::Second, true);
-        Ok(None)
+        Ok(Effect::Goes)
     }
 
     /// Takes up a descriptor, by what it opens.
-    fn on_descriptor(&mut self, opening: Opening) -> Result<Option<Value>, Reason>
+    fn on_descriptor(&mut self, opening: Opening) -> Result<Effect, Reason>
         requires used { self.old.used < 2 ^ 63 }
         ensures does { Does (on_descriptor self.old.catalog.now self.old.limits.depth self.old.limits.item self.old.used self.old.start self.old.context (open_frames self.old) opening) result self.new }
         ensures used { self.new.used ≡ self.old.used }
@@ -103,7 +105,7 @@ impl BinaryReader<'_> {
     /// Takes up an octet of a version marker, E0 01 00 EA (Ion 1.0, "Ion Binary Encoding", "Value
     /// Streams"). Its fourth octet decides: a marker of another version is `Version`, and without EA
     /// it is none.
-    fn on_marker(&mut self, mark: Mark, good: bool, octet: u8) -> Result<Option<Value>, Reason>
+    fn on_marker(&mut self, mark: Mark, good: bool, octet: u8) -> Result<Effect, Reason>
         ensures does { Does (on_marker self.old.used self.old.start self.old.context (open_frames self.old) mark good octet) result self.new }
         ensures used { self.new.used ≡ self.old.used }
         ensures setting { SameSetting self.old self.new }
@@ -129,12 +131,12 @@ impl BinaryReader<'_> {
                 self.phase = Phase::Ready;
             }
         }
-        Ok(None)
+        Ok(Effect::Goes)
     }
 
-    /// Takes up one octet: the value that it ends at the top level, or why it is refused. Behind an
-    /// `Err` nothing is known of the machine.
-    fn feed(&mut self, octet: u8) -> Result<Option<Value>, Reason>
+    /// Takes up one octet: what it did, or why it is refused. Behind an `Err` nothing is known of the
+    /// machine.
+    fn feed(&mut self, octet: u8) -> Result<Effect, Reason>
         requires used { self.old.used < 2 ^ 63 - 1 }
         ensures does { Does (feed self.old.catalog.now self.old.limits (machine_of self.old) octet) result self.new }
         ensures used { self.new.used ≡ self.old.used + 1 }

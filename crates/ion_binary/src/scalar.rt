@@ -7,6 +7,7 @@ use crate::form::Scalar;
 use ion_model::{Bytes, Payload, Reason, Text, Whole};
 use ion_scalar::{decimal_of, timestamp_of, uint_of};
 use ion_symtab::Context;
+use std::alloc::Global;
 use std::mem;
 
 /// The scalar that a body is (Ion 1.0, "Ion Binary Encoding", typed value formats). The octets of a
@@ -20,20 +21,40 @@ pub fn judge(context: &Context, scalar: Scalar, body: &mut Vec<u8>) -> Result<Pa
     ensures { Gives (judge context.now scalar body.old.items) result }
 {
     match scalar {
-        Scalar::Int => int_of(false, uint_of(body.as_slice())),
-        Scalar::NegativeInt => int_of(true, uint_of(body.as_slice())),
-        Scalar::Decimal => match decimal_of(body.as_slice()) {
-            Ok(decimal) => Ok(Payload::Decimal(decimal)),
-            Err(reason) => Err(reason),
-        },
-        Scalar::Timestamp => match timestamp_of(body.as_slice()) {
-            Ok(timestamp) => Ok(Payload::Timestamp(timestamp)),
-            Err(reason) => Err(reason),
-        },
-        Scalar::Symbol => symbol_of(context, uint_of(body.as_slice())),
         Scalar::Str => text_of(taken(body)),
         Scalar::Clob => Ok(Payload::Clob(Bytes::from_vec(taken(body)))),
         Scalar::Blob => Ok(Payload::Blob(Bytes::from_vec(taken(body)))),
+        _ => judge_lent(*body.allocator(), context, scalar, body.as_slice()),
+    }
+}
+
+/// The same of octets that are lent: those of a string, clob or blob are copied.
+// inlined, since a call would copy its result
+#[tactic(auto, unfolding(crate::specs::Judge::judge))]
+#[inline(always)]
+pub fn judge_lent(
+    alloc: Global,
+    context: &Context,
+    scalar: Scalar,
+    body: &[u8],
+) -> Result<Payload, Reason>
+    ensures { Gives (judge context.now scalar body.now) result }
+{
+    match scalar {
+        Scalar::Int => int_of(false, uint_of(body)),
+        Scalar::NegativeInt => int_of(true, uint_of(body)),
+        Scalar::Decimal => match decimal_of(body) {
+            Ok(decimal) => Ok(Payload::Decimal(decimal)),
+            Err(reason) => Err(reason),
+        },
+        Scalar::Timestamp => match timestamp_of(body) {
+            Ok(timestamp) => Ok(Payload::Timestamp(timestamp)),
+            Err(reason) => Err(reason),
+        },
+        Scalar::Symbol => symbol_of(context, uint_of(body)),
+        Scalar::Str => text_of(Vec::from_slice(alloc, body)?),
+        Scalar::Clob => Ok(Payload::Clob(Bytes::from_vec(Vec::from_slice(alloc, body)?))),
+        Scalar::Blob => Ok(Payload::Blob(Bytes::from_vec(Vec::from_slice(alloc, body)?))),
     }
 }
 

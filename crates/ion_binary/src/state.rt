@@ -43,6 +43,15 @@ pub enum Phase {
     InPad(u64),
 }
 
+/// What an octet did that wasn't refused.
+#[derive(Clone, Copy, Debug, PartialEq, Eq)]
+pub enum Effect {
+    /// More octets are to come.
+    Goes,
+    /// It ended a value of the top level, which the reader holds until it is taken.
+    Gives,
+}
+
 /// A container that isn't whole yet: the octet at which it ends, and what has come of it.
 #[derive(Drop)]
 pub enum Frame {

@@ -10,12 +10,12 @@ ghost use Rattle.ion_binary.specs.Views.{open_frames, Does, SameSetting};
 use super::BinaryReader;
 use crate::form::{Form, Listing, Scalar};
 use crate::scalar::judge;
-use crate::state::{Frame, Phase, Purpose};
-use ion_model::{Payload, Reason, Sequence, Value};
+use crate::state::{Effect, Frame, Phase, Purpose};
+use ion_model::{Payload, Reason, Sequence};
 
 impl BinaryReader<'_> {
     /// Delivers the scalar that a body was judged to be.
-    fn judged(&mut self, answer: Result<Payload, Reason>) -> Result<Option<Value>, Reason>
+    pub(super) fn judged(&mut self, answer: Result<Payload, Reason>) -> Result<Effect, Reason>
         ensures does { (wanted : Result Payload Reason) → Gives wanted answer → Does (judged self.old.catalog.now self.old.used self.old.start self.old.context (open_frames self.old) wanted) result self.new }
         ensures used { self.new.used ≡ self.old.used }
         ensures setting { SameSetting self.old self.new }
@@ -30,7 +30,7 @@ impl BinaryReader<'_> {
     }
 
     /// Begins a body of this size, behind its header.
-    fn begin(&mut self, form: Form, size: u64) -> Result<Option<Value>, Reason>
+    fn begin(&mut self, form: Form, size: u64) -> Result<Effect, Reason>
         requires used { self.old.used < 2 ^ 63 }
         requires size { size < 2 ^ 63 }
         ensures does { Does (begin self.old.catalog.now self.old.limits.depth self.old.used self.old.start self.old.context (open_frames self.old) form size) result self.new }
@@ -52,7 +52,7 @@ impl BinaryReader<'_> {
         }
     }
 
-    fn begin_pad(&mut self, size: u64) -> Result<Option<Value>, Reason>
+    fn begin_pad(&mut self, size: u64) -> Result<Effect, Reason>
         ensures does { Does (begin self.old.catalog.now self.old.limits.depth self.old.used self.old.start self.old.context (open_frames self.old) forms.Pad size) result self.new }
         ensures used { self.new.used ≡ self.old.used }
         ensures setting { SameSetting self.old self.new }
@@ -61,10 +61,10 @@ impl BinaryReader<'_> {
             return self.proceed();
         }
         self.phase = Phase::InPad(size - 1);
-        Ok(None)
+        Ok(Effect::Goes)
     }
 
-    fn begin_scalar(&mut self, scalar: Scalar, size: u64) -> Result<Option<Value>, Reason>
+    fn begin_scalar(&mut self, scalar: Scalar, size: u64) -> Result<Effect, Reason>
         ensures does { Does (begin self.old.catalog.now self.old.limits.depth self.old.used self.old.start self.old.context (open_frames self.old) (forms.Scalar scalar) size) result self.new }
         ensures used { self.new.used ≡ self.old.used }
         ensures setting { SameSetting self.old self.new }
@@ -75,10 +75,10 @@ impl BinaryReader<'_> {
             return self.judged(answer);
         }
         self.phase = Phase::InBody(scalar, size - 1);
-        Ok(None)
+        Ok(Effect::Goes)
     }
 
-    fn begin_listing(&mut self, listing: Listing, size: u64) -> Result<Option<Value>, Reason>
+    fn begin_listing(&mut self, listing: Listing, size: u64) -> Result<Effect, Reason>
         requires used { self.old.used < 2 ^ 63 }
         requires size { size < 2 ^ 63 }
         ensures does { Does (begin self.old.catalog.now self.old.limits.depth self.old.used self.old.start self.old.context (open_frames self.old) (forms.Listing listing) size) result self.new }
@@ -96,7 +96,7 @@ impl BinaryReader<'_> {
         self.proceed()
     }
 
-    fn begin_struct(&mut self, size: u64) -> Result<Option<Value>, Reason>
+    fn begin_struct(&mut self, size: u64) -> Result<Effect, Reason>
         requires used { self.old.used < 2 ^ 63 }
         requires size { size < 2 ^ 63 }
         ensures does { Does (open_struct self.old.catalog.now self.old.limits.depth self.old.used self.old.start self.old.context (open_frames self.old) size) result self.new }
@@ -113,7 +113,7 @@ impl BinaryReader<'_> {
         self.proceed()
     }
 
-    fn begin_wrapper(&mut self, size: u64) -> Result<Option<Value>, Reason>
+    fn begin_wrapper(&mut self, size: u64) -> Result<Effect, Reason>
         requires used { self.old.used < 2 ^ 63 }
         requires size { size < 2 ^ 63 }
         ensures does { Does (begin self.old.catalog.now self.old.limits.depth self.old.used self.old.start self.old.context (open_frames self.old) forms.Wrapper size) result self.new }
@@ -128,11 +128,11 @@ impl BinaryReader<'_> {
             annotations: Sequence::new(self.alloc),
         })?;
         self.phase = Phase::InNumber(Purpose::AnnotationsLength, 0);
-        Ok(None)
+        Ok(Effect::Goes)
     }
 
     /// Begins a body of this size, if it may stand here.
-    pub(super) fn sized(&mut self, form: Form, size: u64) -> Result<Option<Value>, Reason>
+    pub(super) fn sized(&mut self, form: Form, size: u64) -> Result<Effect, Reason>
         requires used { self.old.used < 2 ^ 63 }
         requires size { size < 2 ^ 63 }
         ensures does { Does (sized self.old.catalog.now self.old.limits.depth self.old.limits.item self.old.used self.old.start self.old.context (open_frames self.old) form size) result self.new }
@@ -151,7 +151,7 @@ impl BinaryReader<'_> {
         scalar: Scalar,
         missing: u64,
         octet: u8,
-    ) -> Result<Option<Value>, Reason>
+    ) -> Result<Effect, Reason>
         ensures does { Does (on_body self.old.catalog.now self.old.used self.old.start self.old.context (open_frames self.old) scalar missing self.old.body.items octet) result self.new }
         ensures used { self.new.used ≡ self.old.used }
         ensures setting { SameSetting self.old self.new }
@@ -162,11 +162,11 @@ impl BinaryReader<'_> {
             return self.judged(answer);
         }
         self.phase = Phase::InBody(scalar, missing - 1);
-        Ok(None)
+        Ok(Effect::Goes)
     }
 
     /// Takes up an octet of a pad.
-    pub(super) fn on_pad(&mut self, missing: u64) -> Result<Option<Value>, Reason>
+    pub(super) fn on_pad(&mut self, missing: u64) -> Result<Effect, Reason>
         ensures does { Does (on_pad self.old.catalog.now self.old.used self.old.start self.old.context (open_frames self.old) missing) result self.new }
         ensures used { self.new.used ≡ self.old.used }
         ensures setting { SameSetting self.old self.new }
@@ -175,6 +175,6 @@ impl BinaryReader<'_> {
             return self.proceed();
         }
         self.phase = Phase::InPad(missing - 1);
-        Ok(None)
+        Ok(Effect::Goes)
     }
 }

@@ -8,7 +8,7 @@ ghost use Rattle.ion_binary.specs.Views.{open_frames, Does, Puts, SameSetting};
 
 use super::BinaryReader;
 use crate::form::Listing;
-use crate::state::{Frame, Phase, Purpose};
+use crate::state::{Effect, Frame, Phase, Purpose};
 use ion_model::{Field, Payload, Reason, Sequence, Symbol, Value};
 
 /// A list or an s-expression of these items.
@@ -23,7 +23,7 @@ fn listed(listing: Listing, items: Sequence<Value>) -> Payload
 
 impl BinaryReader<'_> {
     /// Hands a whole value to the innermost container, and closes the containers that are whole then.
-    pub(super) fn deliver(&mut self, value: Value) -> Result<Option<Value>, Reason>
+    pub(super) fn deliver(&mut self, value: Value) -> Result<Effect, Reason>
         ensures does { Does (deliver self.old.catalog.now self.old.used self.old.start self.old.context (open_frames self.old) value) result self.new }
         ensures used { self.new.used ≡ self.old.used }
         ensures setting { SameSetting self.old self.new }
@@ -32,7 +32,7 @@ impl BinaryReader<'_> {
         while let Some(frame) = self.frames.pop() {
             match self.put(frame, value) {
                 Err(reason) => return Err(reason),
-                Ok(None) => return Ok(None),
+                Ok(None) => return Ok(Effect::Goes),
                 Ok(Some(whole)) => value = whole,
             }
         }
@@ -41,7 +41,7 @@ impl BinaryReader<'_> {
 
     /// Gives a value of the top level. A local symbol table isn't given: it changes the context (Ion
     /// 1.0, "Symbols", "Local Symbol Tables").
-    fn give(&mut self, value: Value) -> Result<Option<Value>, Reason>
+    fn give(&mut self, value: Value) -> Result<Effect, Reason>
         requires top { open_frames self.old ≡ [] }
         ensures does { Does (deliver self.old.catalog.now self.old.used self.old.start self.old.context [] value) result self.new }
         ensures used { self.new.used ≡ self.old.used }
@@ -50,10 +50,11 @@ impl BinaryReader<'_> {
         self.start = self.used;
         self.phase = Phase::Ready;
         if !value.is_table() {
-            return Ok(Some(value));
+            self.given = Some(value);
+            return Ok(Effect::Gives);
         }
         match self.context.apply(&value, self.catalog) {
-            Ok(()) => Ok(None),
+            Ok(()) => Ok(Effect::Goes),
             Err(reason) => Err(reason),
         }
     }
@@ -134,7 +135,7 @@ impl BinaryReader<'_> {
 
     /// Goes on behind a pad, or into a container that begins. The innermost container may be whole
     /// here: where it is empty, or the pad was its last.
-    pub(super) fn proceed(&mut self) -> Result<Option<Value>, Reason>
+    pub(super) fn proceed(&mut self) -> Result<Effect, Reason>
         ensures does { Does (proceed self.old.catalog.now self.old.used self.old.start self.old.context (open_frames self.old)) result self.new }
         ensures used { self.new.used ≡ self.old.used }
         ensures setting { SameSetting self.old self.new }
@@ -143,14 +144,14 @@ impl BinaryReader<'_> {
             None => {
                 self.phase = Phase::Ready;
                 self.start = self.used;
-                Ok(None)
+                Ok(Effect::Goes)
             }
             Some(frame) => self.proceed_in(frame),
         }
     }
 
     /// The same in a container that was the innermost one.
-    fn proceed_in(&mut self, frame: Frame) -> Result<Option<Value>, Reason>
+    fn proceed_in(&mut self, frame: Frame) -> Result<Effect, Reason>
         ensures does { Does (proceed self.old.catalog.now self.old.used self.old.start self.old.context (frame ∷ open_frames self.old)) result self.new }
         ensures used { self.new.used ≡ self.old.used }
         ensures setting { SameSetting self.old self.new }
@@ -173,7 +174,7 @@ impl BinaryReader<'_> {
         end: u64,
         listing: Listing,
         items: Sequence<Value>,
-    ) -> Result<Option<Value>, Reason>
+    ) -> Result<Effect, Reason>
         ensures does { Does (proceed self.old.catalog.now self.old.used self.old.start self.old.context (frames.Items end listing items ∷ open_frames self.old)) result self.new }
         ensures used { self.new.used ≡ self.old.used }
         ensures setting { SameSetting self.old self.new }
@@ -188,11 +189,11 @@ impl BinaryReader<'_> {
             listing,
             items,
         })?;
-        Ok(None)
+        Ok(Effect::Goes)
     }
 
     /// Goes on with the next field of a struct, or closes it.
-    fn next_field(&mut self, end: u64, fields: Sequence<Field>) -> Result<Option<Value>, Reason>
+    fn next_field(&mut self, end: u64, fields: Sequence<Field>) -> Result<Effect, Reason>
         ensures does { Does (proceed self.old.catalog.now self.old.used self.old.start self.old.context (frames.Fields end fields ∷ open_frames self.old)) result self.new }
         ensures used { self.new.used ≡ self.old.used }
         ensures setting { SameSetting self.old self.new }
@@ -203,6 +204,6 @@ impl BinaryReader<'_> {
         }
         self.phase = Phase::InNumber(Purpose::FieldName, 0);
         self.frames.push(Frame::Fields { end, fields })?;
-        Ok(None)
+        Ok(Effect::Goes)
     }
 }

@@ -1,19 +1,22 @@
-//! Octets of a body or a pad that are taken up at once.
-ghost use Rattle.std.specs.Prelude.{◌≡◌, ◌+◌, ◌≤◌, ◌<◌, ◌^◌, true, length, take, IfOk, IfErr};
+//! Octets of a piece that are taken up at once: of a body or a pad, or else one.
+ghost use Rattle.std.specs.Prelude.{◌≡◌, ◌+◌, ◌-◌, ◌≤◌, ◌<◌, ◌^◌, ◌++◌, true, length, take, IfOk, IfErr, IfSome};
 ghost use Rattle.ion_model.specs.declared.refusal.Reason.TheVariants.{Memory};
+ghost use Rattle.ion_binary.specs.Judge.{judge};
+ghost use Rattle.ion_binary.specs.Machine.{judged};
 ghost use Rattle.ion_binary.specs.Run.{run};
 ghost use Rattle.ion_binary.specs.Runs.{led};
-ghost use Rattle.ion_binary.specs.Views.{machine_of, goes_on, SameSetting};
+ghost use Rattle.ion_binary.specs.Views.{machine_of, open_frames, goes_on, Does, Took, SameSetting};
 ghost use Rattle.ion_binary.specs.declared.state.Phase.TheVariants as phases;
 
 use super::BinaryReader;
 use crate::form::Scalar;
-use crate::state::Phase;
+use crate::scalar::{judge, judge_lent};
+use crate::state::{Effect, Phase};
 use ion_model::Reason;
 
 impl BinaryReader<'_> {
     /// Whether a body or a pad goes on behind the next octet.
-    pub(super) fn goes_on(&self) -> bool
+    fn goes_on(&self) -> bool
         ensures { result ≡ goes_on self.now.phase }
     {
         match self.phase {
@@ -23,9 +26,62 @@ impl BinaryReader<'_> {
         }
     }
 
+    /// Takes up octets at the front of a piece: how many, and what the last of them did. Where they are
+    /// refused, `used` counts the octet that decided, and nothing else is known of the machine.
+    pub(super) fn take_up(&mut self, piece: &[u8]) -> Result<(usize, Effect), Reason>
+        requires room { self.old.used + length piece.now < 2 ^ 63 }
+        requires some { 0 < length piece.now }
+        ensures does { Took self.old.used (run self.old.catalog.now self.old.limits self.old.used (machine_of self.old)) piece.now result self.new }
+        ensures used { IfOk result (λ took. self.new.used ≡ self.old.used + took.0) }
+        ensures setting { SameSetting self.old self.new }
+    {
+        if let Some((scalar, size)) = self.ending(piece) {
+            let effect = self.take_end(scalar, &piece[..size])?;
+            return Ok((size, effect));
+        }
+        if self.goes_on() {
+            let count = self.take_inside(piece)?;
+            return Ok((count, Effect::Goes));
+        }
+        let effect = self.feed(piece[0])?;
+        Ok((1, effect))
+    }
+
+    /// The scalar whose body ends in this piece, and how many octets of the piece it ends with.
+    fn ending(&self, piece: &[u8]) -> Option<(Scalar, usize)>
+        ensures phase { IfSome result (λ end. self.now.phase ≡ phases.InBody end.0 (end.1 - 1)) }
+        ensures some { IfSome result (λ end. 0 < end.1) }
+        ensures within { IfSome result (λ end. end.1 ≤ length piece.now) }
+    {
+        match self.phase {
+            Phase::InBody(scalar, missing) if missing < piece.len() as u64 => {
+                Some((scalar, missing as usize + 1))
+            }
+            _ => None,
+        }
+    }
+
+    /// Takes up the last octets of a scalar's body. A body without earlier octets is judged where it
+    /// stands.
+    fn take_end(&mut self, scalar: Scalar, octets: &[u8]) -> Result<Effect, Reason>
+        requires room { self.old.used + length octets.now < 2 ^ 63 }
+        ensures does { Does (judged self.old.catalog.now (self.old.used + length octets.now) self.old.start self.old.context (open_frames self.old) (judge self.old.context scalar (self.old.body.items ++ octets.now))) result self.new }
+        ensures used { self.new.used ≡ self.old.used + length octets.now }
+        ensures setting { SameSetting self.old self.new }
+    {
+        self.used += octets.len() as u64;
+        if self.body.is_empty() {
+            let answer = judge_lent(self.alloc, &self.context, scalar, octets);
+            return self.judged(answer);
+        }
+        self.body.extend_from_slice(octets)?;
+        let answer = judge(&self.context, scalar, &mut self.body);
+        self.judged(answer)
+    }
+
     /// Takes up the octets at the front of a piece behind which a body or a pad goes on: how many.
     /// The only refusal is `Memory`.
-    pub(super) fn take_inside(&mut self, piece: &[u8]) -> Result<usize, Reason>
+    fn take_inside(&mut self, piece: &[u8]) -> Result<usize, Reason>
         requires room { self.old.used + length piece.now < 2 ^ 63 }
         requires some { 0 < length piece.now }
         requires inside { goes_on self.old.phase ≡ true }

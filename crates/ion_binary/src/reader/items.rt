@@ -5,7 +5,7 @@ ghost use Rattle.ion_binary.specs.Run.{run, whole, Advances};
 ghost use Rattle.ion_binary.specs.Views.{machine_of, open_frames, SameSetting};
 
 use super::BinaryReader;
-use crate::state::{Mark, Phase};
+use crate::state::{Effect, Mark, Phase};
 use ion_model::{Reason, Refusal, Value};
 use ion_symtab::{Catalog, Context, Items, Limits, Step};
 use std::alloc::Global;
@@ -38,6 +38,7 @@ impl<'a> BinaryReader<'a> {
             phase: Phase::InMarker(Mark::First, true),
             body: Vec::new(alloc),
             frames: Vec::new(alloc),
+            given: None,
             failed: None,
         })
     }
@@ -66,34 +67,23 @@ impl BinaryReader<'_> {
         let before = self.used;
         let mut i = 0;
         while i < piece.len() {
-            if self.goes_on() {
-                match self.take_inside(&piece[i..]) {
-                    Ok(count) => i += count,
-                    Err(reason) => {
-                        return Err(Refusal {
-                            offset: before,
-                            reason,
-                        });
-                    }
+            match self.take_up(&piece[i..]) {
+                Ok((count, Effect::Goes)) => i += count,
+                Ok((count, Effect::Gives)) => {
+                    return Ok(Step {
+                        used: i + count,
+                        value: self.given.take(),
+                    });
                 }
-            } else {
-                // read here, since nothing is known of the machine behind an `Err`
-                let offset = self.used + 1;
-                match self.feed(piece[i]) {
-                    Ok(None) => i += 1,
-                    Ok(Some(value)) => {
-                        return Ok(Step {
-                            used: i + 1,
-                            value: Some(value),
-                        });
-                    }
-                    Err(Reason::Memory) => {
-                        return Err(Refusal {
-                            offset: before,
-                            reason: Reason::Memory,
-                        });
-                    }
-                    Err(reason) => return Err(Refusal { offset, reason }),
+                Err(Reason::Memory) => {
+                    return Err(Refusal {
+                        offset: before,
+                        reason: Reason::Memory,
+                    });
+                }
+                Err(reason) => {
+                    let offset = self.used;
+                    return Err(Refusal { offset, reason });
                 }
             }
         }

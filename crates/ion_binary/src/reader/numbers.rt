@@ -6,12 +6,12 @@ ghost use Rattle.ion_binary.specs.Views.{open_frames, Does, SameSetting};
 
 use super::BinaryReader;
 use crate::form::Form;
-use crate::state::{Frame, Phase, Purpose};
-use ion_model::{Reason, Sequence, Symbol, Value};
+use crate::state::{Effect, Frame, Phase, Purpose};
+use ion_model::{Reason, Sequence, Symbol};
 
 impl BinaryReader<'_> {
     /// Goes on in a VarUInt, whose octets make `so_far` up to here.
-    fn longer(&mut self, purpose: Purpose, so_far: u64) -> Result<Option<Value>, Reason>
+    fn longer(&mut self, purpose: Purpose, so_far: u64) -> Result<Effect, Reason>
         ensures does { Does (longer self.old.limits.item self.old.used self.old.start self.old.context (open_frames self.old) purpose so_far) result self.new }
         ensures used { self.new.used ≡ self.old.used }
         ensures setting { SameSetting self.old self.new }
@@ -20,13 +20,13 @@ impl BinaryReader<'_> {
             Some(reason) => Err(reason),
             None => {
                 self.phase = Phase::InNumber(purpose, so_far);
-                Ok(None)
+                Ok(Effect::Goes)
             }
         }
     }
 
     /// Begins the length of a form, if the form may stand here.
-    pub(super) fn length_follows(&mut self, form: Form) -> Result<Option<Value>, Reason>
+    pub(super) fn length_follows(&mut self, form: Form) -> Result<Effect, Reason>
         ensures does { Does (unsized self.old.limits.item self.old.used self.old.start self.old.context (open_frames self.old) form) result self.new }
         ensures used { self.new.used ≡ self.old.used }
         ensures setting { SameSetting self.old self.new }
@@ -41,7 +41,7 @@ impl BinaryReader<'_> {
             return Err(reason);
         }
         self.phase = Phase::InNumber(Purpose::Length(form), 0);
-        Ok(None)
+        Ok(Effect::Goes)
     }
 
     /// Takes up an octet of a VarUInt (Ion 1.0, "Ion Binary Encoding", "VarUInt and VarInt Fields");
@@ -51,7 +51,7 @@ impl BinaryReader<'_> {
         purpose: Purpose,
         so_far: u64,
         octet: u8,
-    ) -> Result<Option<Value>, Reason>
+    ) -> Result<Effect, Reason>
         requires used { self.old.used < 2 ^ 63 }
         ensures does { Does (on_number self.old.catalog.now self.old.limits.depth self.old.limits.item self.old.used self.old.start self.old.context (open_frames self.old) purpose so_far octet) result self.new }
         ensures used { self.new.used ≡ self.old.used }
@@ -67,7 +67,7 @@ impl BinaryReader<'_> {
     }
 
     /// Does what a VarUInt that has ended is for.
-    fn number_came(&mut self, purpose: Purpose, number: u64) -> Result<Option<Value>, Reason>
+    fn number_came(&mut self, purpose: Purpose, number: u64) -> Result<Effect, Reason>
         requires used { self.old.used < 2 ^ 63 }
         requires number { number < 2 ^ 63 }
         ensures does { Does (number_came self.old.catalog.now self.old.limits.depth self.old.limits.item self.old.used self.old.start self.old.context (open_frames self.old) purpose number) result self.new }
@@ -84,7 +84,7 @@ impl BinaryReader<'_> {
 
     /// Takes the id of a field name, behind which an octet has to be left of the struct. Whether the id
     /// has a symbol counts only if a value follows.
-    fn name_came(&mut self, id: u64) -> Result<Option<Value>, Reason>
+    fn name_came(&mut self, id: u64) -> Result<Effect, Reason>
         ensures does { Does (name_came self.old.used self.old.start self.old.context (open_frames self.old) id) result self.new }
         ensures used { self.new.used ≡ self.old.used }
         ensures setting { SameSetting self.old self.new }
@@ -96,7 +96,7 @@ impl BinaryReader<'_> {
     }
 
     /// The same in a container that was the innermost one.
-    fn name_in(&mut self, frame: Frame, id: u64) -> Result<Option<Value>, Reason>
+    fn name_in(&mut self, frame: Frame, id: u64) -> Result<Effect, Reason>
         ensures does { Does (name_came self.old.used self.old.start self.old.context (frame ∷ open_frames self.old) id) result self.new }
         ensures used { self.new.used ≡ self.old.used }
         ensures setting { SameSetting self.old self.new }
@@ -113,12 +113,12 @@ impl BinaryReader<'_> {
         }
         self.frames.push(Frame::Named { end, fields, name })?;
         self.phase = Phase::Ready;
-        Ok(None)
+        Ok(Effect::Goes)
     }
 
     /// Takes the number of the octets of a wrapper's annotations: there is one at least, and one behind
     /// them.
-    fn count_came(&mut self, count: u64) -> Result<Option<Value>, Reason>
+    fn count_came(&mut self, count: u64) -> Result<Effect, Reason>
         requires used { self.old.used < 2 ^ 63 }
         requires count { count < 2 ^ 63 }
         ensures does { Does (count_came self.old.used self.old.start self.old.context (open_frames self.old) count) result self.new }
@@ -135,11 +135,11 @@ impl BinaryReader<'_> {
             _ => return Err(Reason::Malformed),
         }
         self.phase = Phase::InNumber(Purpose::Annotation(stop), 0);
-        Ok(None)
+        Ok(Effect::Goes)
     }
 
     /// Takes the id of an annotation; the annotations end at the octet `stop`.
-    fn annotation_came(&mut self, stop: u64, id: u64) -> Result<Option<Value>, Reason>
+    fn annotation_came(&mut self, stop: u64, id: u64) -> Result<Effect, Reason>
         ensures does { Does (annotation_came self.old.used self.old.start self.old.context (open_frames self.old) stop (resolve self.old.context id)) result self.new }
         ensures used { self.new.used ≡ self.old.used }
         ensures setting { SameSetting self.old self.new }
@@ -151,7 +151,7 @@ impl BinaryReader<'_> {
     }
 
     /// The same in a container that was the innermost one.
-    fn annotation_in(&mut self, frame: Frame, stop: u64, id: u64) -> Result<Option<Value>, Reason>
+    fn annotation_in(&mut self, frame: Frame, stop: u64, id: u64) -> Result<Effect, Reason>
         ensures does { Does (annotation_came self.old.used self.old.start self.old.context (frame ∷ open_frames self.old) stop (resolve self.old.context id)) result self.new }
         ensures used { self.new.used ≡ self.old.used }
         ensures setting { SameSetting self.old self.new }
@@ -173,6 +173,6 @@ impl BinaryReader<'_> {
         } else {
             Phase::InNumber(Purpose::Annotation(stop), 0)
         };
-        Ok(None)
+        Ok(Effect::Goes)
     }
 }
