@@ -1,0 +1,30 @@
+-- How much of its piece a step used.
+use Rattle.std.proofs.Common.{◌≡◌, ℕ, ◌≤◌, ap, arith, IfOk, None, Result, Ok, Err, Option, Some}
+use Rattle.ion_model.specs.declared.refusal.Refusal.{Refusal}
+use Rattle.ion_tokens.specs.declared.token.Scan.{Scan}
+use Rattle.ion_tokens.specs.declared.token.Token.{Token}
+use Rattle.ion_tokens.specs.Scanning.{Known, Lexeme, Outcome, Next, Given, Left, Refused}
+use Rattle.ion_tokens.specs.Steps.{Answers, GivesToken}
+use Rattle.ion_tokens.proofs.Runs.{Between}
+
+pub used_within : (x : Outcome) (r : Result Scan Refusal) (before n : ℕ) (now : Known) → Between x before n → Answers before x r now
+    → IfOk r (λ scan. scan.used ≤ n)
+unfolding Between
+used_within (Next s) (Ok scan) before n now h a = let e = ap (λ (t : Known). t.used) a.0.known in let k = a.0.counted in omega arith
+used_within (Given l s) (Ok scan) before n now h a = let e = ap (λ (t : Known). t.used) a.0.known in let k = a.0.counted in omega arith
+used_within (Left l s) (Ok scan) before n now h a = let e = ap (λ (t : Known). t.used) a.0.known in let k = a.0.counted in omega arith
+used_within (Refused at reason) (Ok scan) before n now h a = absurd a
+used_within x (Err r) before n now h a = tt
+
+gives_some : (l : Lexeme) (t : Option Token) → GivesToken l t → t ≡ None → ⊥
+gives_some l None g e = g
+gives_some l (Some t) g e = cc
+
+pub used_whole : (x : Outcome) (r : Result Scan Refusal) (before n : ℕ) (now : Known) → Between x before n → Answers before x r now
+    → IfOk r (λ scan. scan.token ≡ None → scan.used ≡ n)
+unfolding Between
+used_whole (Next s) (Ok scan) before n now h a = let e = ap (λ (t : Known). t.used) a.0.known in let k = a.0.counted in λ _. omega arith
+used_whole (Given l s) (Ok scan) before n now h a = λ none. absurd (gives_some l scan.token a.1 none)
+used_whole (Left l s) (Ok scan) before n now h a = λ none. absurd (gives_some l scan.token a.1 none)
+used_whole (Refused at reason) (Ok scan) before n now h a = absurd a
+used_whole x (Err r) before n now h a = tt

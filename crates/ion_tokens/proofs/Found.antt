@@ -1,0 +1,22 @@
+-- What the scanner finds in octets.
+use Rattle.std.specs.Prelude.{◌≡◌, ℕ, ◌-◌, List, [], ◌∷◌, drop, Some, None, Ok, Err}
+use Rattle.ion_model.specs.declared.refusal.Reason.TheVariants.{Incomplete}
+use Rattle.ion_tokens.specs.declared.mode.Place.{Place}
+use Rattle.ion_tokens.specs.declared.mode.TokenKind.TheVariants as kinds
+use Rattle.ion_tokens.specs.Scanning.{Known, Next, Given, Left, run, at_end}
+use Rattle.ion_tokens.specs.Lexed.{Placed}
+
+-- What a scanner that knows this finds in octets: token by token, in the places handed in. `Rests` says what it comes to where no
+-- token is left, and an s-expression that ends behind a sign and the front of `inf` isn't closed: `Bare` says that no token follows there.
+pub data FindsUpTo (Rests : Known → List ℕ → Type 0) (Bare : Type 0) : Known → List ℕ → List Placed → Type 0 where
+  Nothing : (s : Known) (octets : List ℕ) → Rests s octets → FindsUpTo Rests Bare s octets []
+  Last : (s : Known) (octets : List ℕ) (t : Placed) (s' : Known) → run t.place octets s ≡ Next s' → at_end t.place s' ≡ Ok (Some t.lexeme) → FindsUpTo Rests Bare s octets (t ∷ [])
+  Gives : (s : Known) (octets : List ℕ) (t : Placed) (ts : List Placed) (s' : Known) → run t.place octets s ≡ Given t.lexeme s' → FindsUpTo Rests Bare s' (drop (s'.used - s.used) octets) ts → FindsUpTo Rests Bare s octets (t ∷ ts)
+  Leaves : (s : Known) (octets : List ℕ) (t : Placed) (ts : List Placed) (s' : Known) → run t.place octets s ≡ Left t.lexeme s' → FindsUpTo Rests Bare s' (drop (s'.used - s.used) octets) ts → FindsUpTo Rests Bare s octets (t ∷ ts)
+  Unclosed : (s : Known) (octets : List ℕ) (t : Placed) (ts : List Placed) (s' : Known) → (ts ≡ [] → Bare) → run t.place octets s ≡ Next s'
+      → at_end t.place s' ≡ Err Incomplete → t.lexeme.start ≡ s'.start → t.lexeme.kind ≡ kinds.Operator
+      → FindsUpTo Rests Bare s octets (t ∷ ts)
+
+-- the octets up to the end of the input, where it ends in no token
+abbrev pub Finds : Known → List ℕ → List Placed → Type 0
+Finds = FindsUpTo (λ s octets. (p : Place) → (s' : Known) × (run p octets s ≡ Next s') × (at_end p s' ≡ Ok None)) ⊥

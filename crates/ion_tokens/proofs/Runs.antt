@@ -1,0 +1,100 @@
+-- What one octet does to a run.
+use Rattle.std.proofs.Common.{◌≡◌, ℕ, ◌+◌, ◌<◌, ◌≤◌, refl, subst, arith, Bool, true, false, cond, List, [], ◌∷◌, length, drop, get_or, sym, ap, suc, drop-cons, add-one, Option}
+use Rattle.std.specs.Prelude.{◌==◌, ◌&&◌, bytes_eq, codes, Some, None}
+use Rattle.ion_tokens.specs.declared.mode.Place.{Place}
+use Rattle.ion_tokens.specs.declared.mode.Action.{Action}
+use Rattle.ion_tokens.specs.declared.mode.Action.TheVariants as actions
+use Rattle.ion_tokens.specs.declared.mode.TokenKind.TheVariants as kinds
+use Rattle.ion_tokens.specs.declared.mode.Mode.TheVariants as modes
+use Rattle.ion_tokens.specs.Table.{next}
+use Rattle.ion_tokens.specs.Blobs.{blob_of}
+use Rattle.ion_tokens.specs.Scanning.{Known, Lexeme, Outcome, Next, Given, Left, Refused, go_to, cut, past, blob_ends, acts, feed, follow, run}
+
+-- how many octets were used, where all were
+used_in : Outcome → ℕ → ℕ
+used_in (Next s) n = s.used
+used_in _ n = n
+
+blob_used : (s s' : Known) (b : Option (List ℕ)) → blob_ends s b ≡ Next s' → s'.used ≡ s.used + 1
+unfolding used_in
+blob_used s s' None e = cc
+blob_used s s' (Some b) e = sym (ap (λ x. used_in x 0) e)
+
+acts_used : (p : Place) (s s' : Known) (o : ℕ) (a : Action) → acts p s o a ≡ Next s' → s'.used ≡ s.used + 1
+unfolding used_in
+acts_used p s s' o (actions.Go m k) e = sym (ap (λ x. used_in x 0) e)
+acts_used p s s' o (actions.Give _ _) e = cc
+acts_used p s s' o (actions.Before _ _ _) e = cc
+acts_used p s s' o actions.EndWord e = sym (one ((o == 46) && bytes_eq s.kept (codes "null")) e) where
+  one : (b : Bool) → cond b (Next (go_to s modes.KindName [])) (Left (cut s kinds.Word s.kept s.used) (past p kinds.Word modes.Blank [] s.used s.used)) ≡ Next s' → s.used + 1 ≡ s'.used
+  one true h = ap (λ x. used_in x 0) h
+  one false h = cc
+acts_used p s s' o (actions.Split _) e = cc
+acts_used p s s' o actions.EndBlob e = blob_used s s' (blob_of s.kept) e
+acts_used p s s' o (actions.Refuse _) e = cc
+
+-- where an octet was used, it is one more
+pub feed_used : (p : Place) (s s' : Known) (o : ℕ) → feed p s o ≡ Next s' → s'.used ≡ s.used + 1
+feed_used p s s' o e = acts_used p s s' o (next p s.colon s.mode o) e
+
+-- one more octet of the piece
+pub run_more : (p : Place) (piece : List ℕ) (i : ℕ) (s s' : Known) → i < length piece → feed p s (get_or piece i 0) ≡ Next s'
+    → run p (drop (i + 1) piece) s' ≡ run p (drop i piece) s
+run_more p piece i s s' h e = rw (add-one, drop-cons piece i 0) (sym (ap (λ x. follow x (λ t. run p (drop (suc i) piece) t)) e))
+
+-- how many octets were used behind these, of so many: all; some; fewer than all; or some decided
+unfoldable pub Between : Outcome → ℕ → ℕ → Type 0
+Between (Next s) before n = s.used ≡ before + n
+Between (Given l s) before n = (before < s.used) × (s.used ≤ before + n)
+Between (Left l s) before n = (before ≤ s.used) × (s.used < before + n)
+Between (Refused at r) before n = (before < at) × (at ≤ before + n)
+
+blob_between : (s : Known) (b : Option (List ℕ)) → Between (blob_ends s b) s.used 1
+unfolding Between
+blob_between s None = (omega arith, omega arith)
+blob_between s (Some b) = refl
+
+pub acts_between : (p : Place) (s : Known) (o : ℕ) (a : Action) → Between (acts p s o a) s.used 1
+unfolding Between
+acts_between p s o (actions.Go m k) = refl
+acts_between p s o (actions.Give _ _) = (omega arith, omega arith)
+acts_between p s o (actions.Before _ _ _) = (omega arith, omega arith)
+acts_between p s o actions.EndWord = one ((o == 46) && bytes_eq s.kept (codes "null")) where
+  one : (b : Bool) → Between (cond b (Next (go_to s modes.KindName [])) (Left (cut s kinds.Word s.kept s.used) (past p kinds.Word modes.Blank [] s.used s.used))) s.used 1
+  one true = refl
+  one false = (omega arith, omega arith)
+acts_between p s o (actions.Split _) = (omega arith, omega arith)
+acts_between p s o actions.EndBlob = blob_between s (blob_of s.kept)
+acts_between p s o (actions.Refuse _) = (omega arith, omega arith)
+
+-- behind one octet more
+between_next : (x : Outcome) (before n : ℕ) → Between x (before + 1) n → Between x before (suc n)
+unfolding Between
+between_next (Next s) before n h = omega arith
+between_next (Given l s) before n h = (omega arith, omega arith)
+between_next (Left l s) before n h = (omega arith, omega arith)
+between_next (Refused at r) before n h = (omega arith, omega arith)
+
+between_follow : (x : Outcome) (f : Known → Outcome) (before n : ℕ) → Between x before 1 → ((t : Known) → Between (f t) t.used n) → Between (follow x f) before (suc n)
+unfolding Between
+between_follow (Next s) f before n h k = between_next (f s) before n (subst (λ u. Between (f s) u n) h (k s))
+between_follow (Given l s) f before n h k = (omega arith, omega arith)
+between_follow (Left l s) f before n h k = (omega arith, omega arith)
+between_follow (Refused at r) f before n h k = (omega arith, omega arith)
+
+pub run_between : (p : Place) (os : List ℕ) (s : Known) → Between (run p os s) s.used (length os)
+unfolding Between
+run_between p [] s = omega arith
+run_between p (o ∷ os) s = between_follow (feed p s o) _ s.used (length os) (acts_between p s o (next p s.colon s.mode o)) (λ t. run_between p os t)
+
+pub next_used : (p : Place) (os : List ℕ) (s t : Known) → Next t ≡ run p os s → t.used ≡ s.used + length os
+unfolding Between
+next_used p os s t e = subst (λ x. Between x s.used (length os)) (sym e) (run_between p os s)
+
+pub given_used : (p : Place) (os : List ℕ) (s t : Known) (l : Lexeme) → Given l t ≡ run p os s → (s.used < t.used) × (t.used ≤ s.used + length os)
+unfolding Between
+given_used p os s t l e = subst (λ x. Between x s.used (length os)) (sym e) (run_between p os s)
+
+pub left_used : (p : Place) (os : List ℕ) (s t : Known) (l : Lexeme) → Left l t ≡ run p os s → (s.used ≤ t.used) × (t.used < s.used + length os)
+unfolding Between
+left_used p os s t l e = subst (λ x. Between x s.used (length os)) (sym e) (run_between p os s)

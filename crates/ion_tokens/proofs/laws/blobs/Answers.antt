@@ -1,0 +1,5 @@
+use Rattle.ion_tokens.proofs.Cutting.{blob_text}
+use Rattle.ion_tokens.proofs.laws.blobs.Goals as goal
+
+pub returns : goal.returns
+returns c = blob_text

@@ -1,0 +1,5 @@
+use Rattle.ion_tokens.proofs.Cutting.{one_body}
+use Rattle.ion_tokens.proofs.laws.one_body.Goals as goal
+
+pub returns : goal.returns
+returns c = one_body

@@ -1,0 +1,5 @@
+use Rattle.ion_tokens.proofs.Stepped.{all_told}
+use Rattle.ion_tokens.proofs.laws.told_all.Goals as goal
+
+pub returns : goal.returns
+returns c = all_told

@@ -1,0 +1,26 @@
+use Rattle.std.proofs.Common.{ℕ, List, [], ◌≢◌, refl, IfOk, IfErr}
+use Rattle.std.specs.Prelude.{Option, Result, Ok, Err}
+use Rattle.ion_model.specs.declared.refusal.Refusal.{Refusal}
+use Rattle.ion_model.specs.declared.refusal.Reason.TheVariants.{Memory}
+use Rattle.ion_tokens.specs.declared.token.Token.{Token}
+use Rattle.ion_tokens.specs.Scanning.{at_end}
+use Rattle.ion_tokens.specs.Lexed.{Placed}
+use Rattle.ion_tokens.specs.Scanned.{Scanned, EndsSo, NoEnd}
+use Rattle.ion_tokens.specs.Steps.{Ends}
+use Rattle.ion_tokens.specs.Views.{known}
+use Rattle.ion_tokens.proofs.Stepped.{end_goes, end_refuses}
+use Rattle.ion_tokens.proofs.scanner.Scanner.finish.Goals as goal
+
+pub returns-clause-whole : goal.returns-clause-whole
+returns-clause-whole c = λ none. by c.finish.result c.finish.ensures.ends where
+  by : (r : Result (Option Token) Refusal) → Ends c.args.self.machine.used (at_end c.args.place (known c.args.self.machine)) r
+      → IfOk r (λ token. (u : List ℕ) (ts : List Placed) → Scanned c.args.place (known c.args.self.machine) u ts [] → EndsSo c.args.place u ts token)
+  by (Ok token) a = λ u ts h. end_goes c.args.place (known c.args.self.machine) u ts h _ token refl a
+  by (Err r) a = tt
+
+pub returns-clause-refuses : goal.returns-clause-refuses
+returns-clause-refuses c = λ none. by c.finish.result c.finish.ensures.ends where
+  by : (r : Result (Option Token) Refusal) → Ends c.args.self.machine.used (at_end c.args.place (known c.args.self.machine)) r
+      → IfErr r (λ refusal. refusal.reason ≢ Memory → (u : List ℕ) (ts : List Placed) → Scanned c.args.place (known c.args.self.machine) u ts [] → NoEnd c.args.place u ts)
+  by (Ok token) a = tt
+  by (Err r) a = λ other u ts h. end_refuses c.args.place (known c.args.self.machine) u ts h _ r other refl a

@@ -1,0 +1,15 @@
+pub mod Blanks
+pub mod Blobs
+pub mod Bodies
+pub mod Bounds
+pub mod Fronts
+pub mod Lexed
+pub mod Lexemes
+pub mod Octets
+pub mod Quoted
+pub mod Scanned
+pub mod Scanning
+pub mod Steps
+pub mod Table
+pub mod Views
+pub mod TokenLaws

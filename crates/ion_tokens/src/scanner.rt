@@ -1,0 +1,318 @@
+//! The scanner, to which the octets come in pieces.
+ghost use Rattle.std.specs.Prelude.{◌≡◌, ◌≢◌, ◌+◌, ◌-◌, ◌*◌, ◌≤◌, ◌<◌, ◌^◌, length, ◌++◌, [], IfOk, IfErr, IfSome, IfNone, IsNone, None, List, ℕ, true};
+ghost use Rattle.ion_model.specs.declared.refusal.Reason.TheVariants.{Memory};
+ghost use Rattle.ion_tokens.specs.Scanning.{run, at_end, initial, cut};
+ghost use Rattle.ion_tokens.specs.Bounds.{is_idle, IsSteady, StaysSteady};
+ghost use Rattle.ion_tokens.specs.Bodies.{content, IsBody};
+ghost use Rattle.ion_tokens.specs.Views.{known, lexeme_in, scanned, failure, looks, behind, form_of, begun_in, held_in, open_in};
+ghost use Rattle.ion_tokens.specs.Lexed.{Placed};
+ghost use Rattle.ion_tokens.specs.Scanned.{Scanned, Continues, Goes, NoDocument, EndsSo, NoEnd, ShowsBegun};
+ghost use Rattle.ion_tokens.specs.Steps.{Answers, Ends, IsToken, GivesToken, RefusesToken, is_step_reason};
+
+use crate::body::body_of;
+use crate::machine::{Lexeme, Machine, Taken};
+use crate::mode::{Mode, Place, Style, TokenKind};
+use crate::token::{Begun, Body, Form, Scan, Token};
+use ion_model::{Reason, Refusal};
+use std::alloc::Global;
+
+/// A scanner of Ion text, to which the octets come in pieces of any size (Ion 1.0, "Ion Text Encoding").
+///
+/// Its tokens, its refusal and the totals of octets used at which the tokens come depend on the octets and the places
+/// alone, and not on how the octets are cut.
+#[derive(Drop)]
+pub struct Scanner {
+    machine: Machine,
+    /// The refusal that each call answers from now on.
+    failed: Option<Refusal>,
+}
+
+// Where a token's octets stand in the piece behind `before` octets, if they stand there.
+fn lent<'p>(piece: &'p [u8], before: u64, lexeme: Lexeme) -> &'p [u8] {
+    match (
+        lexeme.start.checked_sub(before),
+        lexeme.end.checked_sub(before),
+    ) {
+        (Some(start), Some(end)) => piece.get(start as usize..end as usize).unwrap_or(&[]),
+        _ => &[],
+    }
+}
+
+impl Machine {
+    // Judges the token that ended last, at the octet `decided`. It needs much room, for which marks are not to pay.
+    #[inline(never)]
+    fn judged<'p>(
+        &mut self,
+        lexeme: Lexeme,
+        before: u64,
+        decided: u64,
+        piece: &'p [u8],
+    ) -> Result<Token<'p>, Refusal>
+        ensures ok { IfOk result (λ token. IsToken (lexeme_in lexeme self.old) token) }
+        ensures err { IfErr result (λ refusal. refusal.reason ≢ Memory → RefusesToken (lexeme_in lexeme self.old) decided refusal) }
+        ensures memory { IfErr result (λ refusal. refusal.reason ≡ Memory → refusal.offset ≡ before) }
+        ensures known { known self.new ≡ known self.old }
+        ensures looked { self.new.looked ≡ self.old.looked }
+    {
+        let Lexeme { start, end, kind } = lexeme;
+        let lent = lent(piece, before, lexeme);
+        match body_of(self.alloc, kind, &mut self.ended, lent) {
+            Ok(body) => Ok(Token { start, end, body }),
+            Err(Reason::Memory) => Err(Refusal {
+                offset: before,
+                reason: Reason::Memory,
+            }),
+            Err(reason) => Err(Refusal {
+                offset: decided,
+                reason,
+            }),
+        }
+    }
+
+    // Judges the token to which a step led.
+    fn given<'p>(
+        &mut self,
+        lexeme: Lexeme,
+        before: u64,
+        decided: u64,
+        piece: &'p [u8],
+    ) -> Result<Scan<'p>, Refusal>
+        requires { before ≤ self.old.used }
+        ensures ok { IfOk result (λ scan. GivesToken (lexeme_in lexeme self.old) scan.token × (self.old.used ≡ before + scan.used)) }
+        ensures err { IfErr result (λ refusal. refusal.reason ≢ Memory → RefusesToken (lexeme_in lexeme self.old) decided refusal) }
+        ensures memory { IfErr result (λ refusal. refusal.reason ≡ Memory → refusal.offset ≡ before) }
+        ensures known { known self.new ≡ known self.old }
+        ensures looked { self.new.looked ≡ self.old.looked }
+    {
+        let used = (self.used - before) as usize;
+        if let TokenKind::Mark(mark) = lexeme.kind {
+            let token = Token {
+                start: lexeme.start,
+                end: lexeme.end,
+                body: Body::Mark(mark),
+            };
+            return Ok(Scan {
+                used,
+                token: Some(token),
+            });
+        }
+        let token = self.judged(lexeme, before, decided, piece)?;
+        Ok(Scan {
+            used,
+            token: Some(token),
+        })
+    }
+
+    // Takes up octets of a piece up to the first token, and judges it.
+    fn scan<'p>(&mut self, piece: &'p [u8], place: Place) -> Result<Scan<'p>, Refusal>
+        requires { self.old.used + length piece.now < 2 ^ 63 }
+        ensures answers { Answers self.old.used (run place piece.now (known self.old)) result (known self.new) }
+        ensures steady { IfOk result (λ _. IsSteady (known self.old) self.old.looked → IsSteady (known self.new) self.new.looked) }
+        ensures memory { IfErr result (λ refusal. refusal.reason ≡ Memory → refusal.offset ≡ self.old.used) }
+    {
+        let before = self.used;
+        match self.run(place, piece) {
+            Err(_) => Err(Refusal {
+                offset: before,
+                reason: Reason::Memory,
+            }),
+            Ok(Taken::Next) => Ok(Scan {
+                used: piece.len(),
+                token: None,
+            }),
+            Ok(Taken::Given(lexeme)) => {
+                let decided = self.used;
+                self.given(lexeme, before, decided, piece)
+            }
+            Ok(Taken::Left(lexeme)) => {
+                let decided = self.used + 1;
+                self.given(lexeme, before, decided, piece)
+            }
+            Ok(Taken::Refused(refusal)) => Err(refusal),
+        }
+    }
+}
+
+impl Machine {
+    // The token that has begun.
+    fn begun(&self) -> Option<Begun>
+        ensures { result ≡ begun_in (known self.now) }
+    {
+        if is_idle(self.mode) {
+            return None;
+        }
+        Some(Begun {
+            start: self.start,
+            end: self.used.saturating_sub(behind(self.mode)),
+            form: form_of(self.mode),
+        })
+    }
+
+    // Judges the token that the end of the octets shows to be whole, if one is open.
+    fn finish<'p>(&mut self, place: Place) -> Result<Option<Token<'p>>, Refusal>
+        ensures ends { Ends self.old.used (at_end place (known self.old)) result }
+        ensures memory { IfErr result (λ refusal. refusal.reason ≡ Memory → refusal.offset ≡ self.old.used) }
+    {
+        let used = self.used;
+        match self.end(place) {
+            Ok(None) => Ok(None),
+            Ok(Some(lexeme)) => Ok(Some(self.judged(lexeme, used, used, &[])?)),
+            Err(reason) => Err(Refusal {
+                offset: used,
+                reason,
+            }),
+        }
+    }
+}
+
+impl Scanner {
+    /// A scanner of no octets yet. It takes no memory.
+    pub fn new(alloc: Global) -> Scanner
+        ensures known { scanned result ≡ initial }
+        ensures failed { failure result ≡ None }
+        ensures looked { looks result ≡ 0 }
+        ensures steady { IsSteady (scanned result) (looks result) }
+        ensures begins { (place : Place) → Scanned place (scanned result) [] [] [] }
+    {
+        Scanner {
+            machine: Machine::new(alloc),
+            failed: None,
+        }
+    }
+
+    /// Takes up octets of the piece, up to the next token; without a token it used the whole piece. `place` is where that
+    /// token stands, which changes only after a token.
+    ///
+    /// A token may be given before the octet that showed its end, where that octet isn't part of it: then `used` doesn't
+    /// count the octet, and the next piece has to begin with it.
+    ///
+    /// A refusal's offset counts the octets of the document up to the one that decides. `Malformed`, `TooLarge` and
+    /// `Float` come from numbers as in `number_of`, `Malformed` from `null.` without the name of a kind and `Float` from a
+    /// sign with `inf`; `BadEscape`, `BadUtf8` and `BadBase64` from quoted texts and blobs; `Ambiguous` from a run of two or more operator
+    /// characters that ends in `-` before a digit; `Unexpected` from an octet that can't stand there. `Memory` says
+    /// nothing of the octets; its offset is the number of octets that earlier steps used. After a refusal each later call
+    /// answers that refusal.
+    pub fn step<'p>(&mut self, piece: &'p [u8], place: Place) -> Result<Scan<'p>, Refusal>
+        requires { (scanned self.old).used + length piece.now < 2 ^ 63 }
+        ensures answers { IsNone (failure self.old) →
+            Answers (scanned self.old).used (run place piece.now (scanned self.old)) result (scanned self.new) }
+        ensures used { IfOk result (λ scan. scan.used ≤ length piece.now) }
+        ensures all { IfOk result (λ scan. scan.token ≡ None → scan.used ≡ length piece.now) }
+        ensures counts { IfOk result (λ scan. (scanned self.new).used ≡ (scanned self.old).used + scan.used) }
+        ensures steady { IfOk result (λ _. IsSteady (scanned self.old) (looks self.old) → IsSteady (scanned self.new) (looks self.new)) }
+        ensures memory { IfErr result (λ refusal. refusal.reason ≡ Memory → IsNone (failure self.old) →
+            refusal.offset ≡ (scanned self.old).used) }
+        ensures reasons { IsNone (failure self.old) → IfErr result (λ refusal. is_step_reason refusal.reason ≡ true) }
+        ensures goes { IsNone (failure self.old) → IfOk result (λ scan. (u : List ℕ) (ts : List Placed) (ahead : List ℕ) → Scanned place (scanned self.old) u ts ahead → Continues piece.now ahead →
+            Goes place u piece.now ts scan.used scan.token (scanned self.new)) }
+        ensures refuses { IsNone (failure self.old) → IfErr result (λ refusal. refusal.reason ≢ Memory → (u : List ℕ) (ts : List Placed) (ahead : List ℕ) → Scanned place (scanned self.old) u ts ahead → Continues piece.now ahead →
+            NoDocument place (u ++ piece.now) ts) }
+        ensures fails { IfErr result (λ refusal. failure self.new ≡ Some refusal) }
+        ensures goes_on { IfOk result (λ _. failure self.new ≡ None) }
+        ensures again { IfSome (failure self.old) (λ refusal. result ≡ Err refusal) }
+    {
+        if let Some(refusal) = self.failed {
+            return Err(refusal);
+        }
+        let result = self.machine.scan(piece, place);
+        if let Err(refusal) = &result {
+            self.failed = Some(*refusal);
+        }
+        result
+    }
+
+    /// Ends the octets: the token that the end shows to be whole, if one is open.
+    ///
+    /// A refusal's offset is the number of octets used, or that of the step that refused before. `Incomplete` comes where
+    /// the open octets are no token and no blank.
+    pub fn finish<'p>(self, place: Place) -> Result<Option<Token<'p>>, Refusal>
+        ensures ends { IsNone (failure self) → Ends (scanned self).used (at_end place (scanned self)) result }
+        ensures whole { IsNone (failure self) → IfOk result (λ token. (u : List ℕ) (ts : List Placed) → Scanned place (scanned self) u ts [] → EndsSo place u ts token) }
+        ensures refuses { IsNone (failure self) → IfErr result (λ refusal. refusal.reason ≢ Memory → (u : List ℕ) (ts : List Placed) → Scanned place (scanned self) u ts [] → NoEnd place u ts) }
+        ensures memory { IfErr result (λ refusal. refusal.reason ≡ Memory → IsNone (failure self) →
+            refusal.offset ≡ (scanned self).used) }
+        ensures again { IfSome (failure self) (λ refusal. result ≡ Err refusal) }
+    {
+        if let Some(refusal) = self.failed {
+            return Err(refusal);
+        }
+        let mut machine = self.machine;
+        machine.finish(place)
+    }
+
+    /// How many octets were taken up, each as often as it was: at least as many as were used, and at most twice as many.
+    pub fn looked(&self) -> u64
+        ensures looks { result ≡ looks self.now }
+        ensures each { IsSteady (scanned self.now) (looks self.now) → (scanned self.now).used ≤ result }
+        ensures twice { IsSteady (scanned self.now) (looks self.now) → result ≤ 2 * (scanned self.now).used }
+    {
+        self.machine.looked
+    }
+
+    /// How many octets are kept of the open token.
+    pub fn held(&self) -> usize
+        ensures held { result ≡ held_in (scanned self.now) }
+        ensures open { IsSteady (scanned self.now) (looks self.now) → result ≤ open_in (scanned self.now) }
+    {
+        if is_idle(self.machine.mode) {
+            0
+        } else {
+            self.machine.kept.len()
+        }
+    }
+
+    /// The token that has begun and not ended: none in a blank, behind a `/` that may open a comment, and behind one colon.
+    pub fn begun(&self) -> Option<Begun>
+        ensures begun { result ≡ begun_in (scanned self.now) }
+        ensures shows { (place : Place) (u : List ℕ) (ts : List Placed) → Scanned place (scanned self.now) u ts [] → ShowsBegun place u ts result }
+    {
+        self.machine.begun()
+    }
+}
+
+// No token has begun that surely is one.
+fn is_idle(mode: Mode) -> bool
+    ensures { result ≡ is_idle mode }
+{
+    matches!(
+        mode,
+        Mode::Blank
+            | Mode::Slash
+            | Mode::LineComment
+            | Mode::BlockComment
+            | Mode::BlockCommentStar
+            | Mode::Colon
+    )
+}
+
+// A `/` behind the open token, which may open a comment.
+fn behind(mode: Mode) -> u64
+    ensures { result ≡ behind mode }
+{
+    if matches!(mode, Mode::NumberSlash | Mode::OperatorSlash) {
+        1
+    } else {
+        0
+    }
+}
+
+// What is known of the open token.
+fn form_of(mode: Mode) -> Form
+    ensures { result ≡ form_of mode }
+{
+    match mode {
+        Mode::Quote | Mode::Quotes => Form::Quote,
+        Mode::Text(Style::LongString, _) => Form::Long,
+        _ => Form::Other,
+    }
+}
+
+#[cfg(test)]
+impl Scanner {
+    /// How many octets were used.
+    pub fn used(&self) -> u64
+        ensures { result ≡ (scanned self.now).used }
+    {
+        self.machine.used
+    }
+}

@@ -1,0 +1,64 @@
+//! Tokens, and what a step of the scanner answers.
+use crate::mode::Mark;
+use ion_model::{Bytes, Kind, Text};
+use ion_scalar::Number;
+use std::borrow::CowStr;
+
+/// A token, with its span: how many octets of the document stand before it and up to its end.
+#[derive(Drop)]
+pub struct Token<'p> {
+    pub start: u64,
+    pub end: u64,
+    pub body: Body<'p>,
+}
+
+/// What a token says.
+#[derive(Drop)]
+pub enum Body<'p> {
+    /// A word that is no symbol id; `null`, `true`, `false` and `nan` are words too.
+    Word(CowStr<'p>),
+    /// A symbol id, `$` and digits; 2^64-1 stands for every larger one.
+    Id(u64),
+    /// A quoted symbol.
+    Quoted(Text),
+    /// A short string.
+    Short(Text),
+    /// One segment of a long string.
+    Long(Text),
+    Number(Number),
+    /// `null.` and the name of a kind.
+    TypedNull(Kind),
+    Operator(CowStr<'p>),
+    Clob(Bytes),
+    Blob(Bytes),
+    Mark(Mark),
+}
+
+/// What a step used of its piece, and the token that it gave.
+#[derive(Drop)]
+pub struct Scan<'p> {
+    /// How many octets of the piece were used, all of them where no token is given.
+    pub used: usize,
+    /// The next token, if the octets used, or the one behind them, end it.
+    pub token: Option<Token<'p>>,
+}
+
+/// The token that has begun and not ended.
+#[derive(Clone, Copy)]
+pub struct Begun {
+    /// How many octets of the document stand before it.
+    pub start: u64,
+    /// How many octets stand before and in it that are part of a token whatever follows.
+    pub end: u64,
+    pub form: Form,
+}
+
+/// What is known of the token that has begun.
+#[derive(Clone, Copy)]
+pub enum Form {
+    /// `'` or `''`: a quoted symbol or a long string.
+    Quote,
+    /// A segment of a long string, from its third quote on.
+    Long,
+    Other,
+}
