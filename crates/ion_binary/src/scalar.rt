@@ -29,9 +29,7 @@ pub fn judge(context: &Context, scalar: Scalar, body: &mut Vec<u8>) -> Result<Pa
 }
 
 /// The same of octets that are lent: those of a string, clob or blob are copied.
-// inlined, since a call would copy its result
 #[tactic(auto, unfolding(crate::specs::Judge::judge))]
-#[inline(always)]
 pub fn judge_lent(
     alloc: Global,
     context: &Context,

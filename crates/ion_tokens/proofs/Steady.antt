@@ -67,11 +67,6 @@ within_fresh modes.Blank r u f h k = omega arith
 within_fresh modes.Slash r u f h k = omega arith
 within_fresh _ r u f h k = cc f
 
-idle_fresh : (m : Mode) → is_fresh m ≡ true → is_idle m ≡ true
-idle_fresh modes.Blank f = refl
-idle_fresh modes.Slash f = refl
-idle_fresh _ f = cc f
-
 went_well : (a b c d : ℕ) (x : Bool) → (nat_le a b && nat_le c d && x) ≡ true → (a ≤ b) × (c ≤ d) × (x ≡ true)
 went_well a b c d true h = (grind (arith, nat_tests), grind (arith, nat_tests), refl)
 went_well a b c d false h = (grind (arith, nat_tests), grind (arith, nat_tests), grind (arith, nat_tests))

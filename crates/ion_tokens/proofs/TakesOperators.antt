@@ -19,15 +19,6 @@ use Rattle.ion_tokens.proofs.Moves.{at, Moves, moves_none, moves_one, moves_then
 use Rattle.ion_tokens.proofs.TakesWords.{takes_before_slash}
 use Rattle.ion_tokens.proofs.TextsComplete.{eq_or, bool_cases}
 
-sexp : Place
-sexp = places.Sexp
-
-is_minus : ℕ → Bool
-is_minus o = o == 45
-
-is_sign : ℕ → Bool
-is_sign o = (o == 43) || (o == 45)
-
 -- what the ending says of the run
 abbrev EndsAs : Ending → List ℕ → Type 0
 EndsAs endings.LoneMinus w = (ends (λ o. o == 45) w ≡ true) × (ends (λ o. (o == 43) || (o == 45)) w ≡ true)
@@ -49,9 +40,6 @@ run_ends xs o = by (o == 43) (o == 45) refl refl where
 
 op_step : (e : Ending) (c : ℕ) → is_operator_octet c ≡ true → c ≢ 47 → in_operator places.Sexp e c ≡ actions.Go (modes.Operator (run_ending c)) (keeps.One c)
 op_step e c h n = grind (arith, nat_tests)
-
-op_slash : (e : Ending) → in_operator places.Sexp e 47 ≡ actions.Go modes.OperatorSlash keeps.Nothing
-op_slash e = refl
 
 op_after_slash : (c : ℕ) → is_operator_octet c ≡ true → c ≢ 47 → c ≢ 42 → in_operator_slash c ≡ actions.Go (modes.Operator (run_ending c)) (keeps.Two 47 c)
 op_after_slash c h n m = grind (arith, nat_tests)

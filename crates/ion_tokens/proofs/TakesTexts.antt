@@ -119,13 +119,6 @@ takes_empty : (p : Place) (colon : Bool) (r : List ℕ) → begins (λ o. o == 3
 takes_empty p colon [] h = takes_end p colon (39 ∷ 39 ∷ []) kinds.QuotedSymbol modes.Quotes [] [] (opens_quotes p colon) (λ start used. refl)
 takes_empty p colon (x ∷ r) h = takes_left p colon (39 ∷ 39 ∷ []) x r kinds.QuotedSymbol modes.Quotes [] keeps.Nothing (λ s u. refl) (opens_quotes p colon) (λ c. quotes_end x h c p)
 
--- of no octets there is no text but the empty one
-raw_some : (c : ℕ) → Shape c → encode c ≢ []
-raw_some c (of1 l e) = rw e (λ f. cc)
-raw_some c (of2 x y l u f t e) = rw e (λ f. cc)
-raw_some c (of3 x y z l u f g t e) = rw e (λ f. cc)
-raw_some c (of4 x y z v l u f g h t e) = rw e (λ f. cc)
-
 no_octets : (octets : List ℕ) → IsQuoted styles.QuotedSymbol [] octets → octets ≡ []
 no_octets octets q = by q.elements q.each q.spelled q.means where
   front : (e : Element) (es : List Element) → spelling e ≢ [] → [] ≡ spelling e ++ flat_map spelling es → ⊥

@@ -1,5 +1,5 @@
 -- Elements one behind the other: where a CR or raw quotes stand last.
-use Rattle.std.proofs.Common.{◌≡◌, ◌≢◌, ℕ, ◌+◌, ◌<◌, Bool, true, false, List, [], ◌∷◌, ◌++◌, refl, sym, ap, ◌∙◌, subst, arith, append_assoc, append-nil, cond}
+use Rattle.std.proofs.Common.{◌≡◌, ℕ, ◌+◌, ◌<◌, Bool, true, false, List, [], ◌∷◌, ◌++◌, refl, sym, ap, ◌∙◌, subst, arith, append_assoc, append-nil, cond}
 use Rattle.std.specs.List.{flat_map, AllByRecursion}
 use Rattle.ion_tokens.specs.declared.mode.Style.{Style}
 use Rattle.ion_tokens.specs.Table.{is_long}
@@ -37,10 +37,6 @@ few_more (x ∷ es) e h f = (subst (λ (n : ℕ). cond (is_raw_quote x) (1 + n) 
 run_front : (e : Element) (es more : List Element) → last_is is_raw_quote (e ∷ es) ≡ false → run_of (e ∷ es ++ more) ≡ run_of (e ∷ es)
 run_front e [] more h = ap (λ b. cond b (1 + run_of more) 0) h ∙ sym (ap (λ b. cond b 1 0) h)
 run_front e (f ∷ es) more h = ap (λ (n : ℕ). cond (is_raw_quote e) (1 + n) 0) (run_front f es more h)
-
-last_behind : (f : Element → Bool) (e : Element) (es : List Element) → es ≢ [] → last_is f (e ∷ es) ≡ last_is f es
-last_behind f e [] n = absurd (n refl)
-last_behind f e (x ∷ es) n = refl
 
 -- behind an element that is no raw quote
 pub few_append : (es more : List Element) → last_is is_raw_quote es ≡ false → Few es → Few more → Few (es ++ more)

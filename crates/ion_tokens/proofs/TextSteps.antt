@@ -77,9 +77,6 @@ raw_cr styles.ShortString h = cc
 raw_cr styles.ShortClob h = cc
 raw_cr styles.QuotedSymbol h = cc
 
-pub raw_slash : (s : Style) → raw s 92 ≡ actions.Go (modes.Text s within.Escape) keeps.Nothing
-raw_slash s = refl
-
 pub quote_low : (s : Style) → (quote_of s ≡ 34) ⊎ (quote_of s ≡ 39)
 quote_low styles.ShortString = inl refl
 quote_low styles.ShortClob = inl refl
@@ -105,17 +102,6 @@ Between within.AfterReturn = Unit {0}
 Between within.OneQuote = Unit {0}
 Between within.TwoQuotes = Unit {0}
 Between _ = ⊥
-
-pub admits : (w : Within) (o : ℕ) → Between w → o ≢ 10 → o ≢ 39 → Admits w o
-admits within.Plain o b n q = tt
-admits within.AfterReturn o b n q = n
-admits within.OneQuote o b n q = q
-admits within.TwoQuotes o b n q = q
-admits (within.Utf8 _ _ _) o b n q = b
-admits within.Escape o b n q = b
-admits (within.Hexadecimal _ _ _) o b n q = b
-admits (within.HighSurrogate _) o b n q = b
-admits (within.HighSurrogateEscape _) o b n q = b
 
 pub as_raw : (s : Style) (w : Within) (o : ℕ) → Admits w o → in_text s w o ≡ raw s o
 as_raw s within.Plain o a = refl

@@ -296,10 +296,6 @@ raw_leads s es o b =
     ⊎_elim (λ c. by_action s es (o ∷ []) [] (raw_clob s o c (quote_small s) h) tt) (λ t. high_leads s es o b.base t h) (bool_cases (is_clob s)))
     (order o 128)) (order o 32)) (eq_or o (quote_of s))) (eq_or o 92)
 
--- behind one element more
-abbrev Shifted : Style → List Element → Element → Mode → Keep → List ℕ → List ℕ → Type 0
-Shifted s es f m k p q = LeadsTo s m (flat_map spelling (es ++ f ∷ []) ++ p) (flat_map (meaning s) (es ++ f ∷ []) ++ kept_after k q) → LeadsTo s m (flat_map spelling es ++ (spelling f ++ p)) (flat_map (meaning s) es ++ kept_after k (meaning s f ++ q))
-
 no_drop : (k : List ℕ) → ((front : List ℕ) × ([] ≡ front ++ 39 ∷ 39 ∷ [])) → ⊥
 no_drop k (front, e) = by front e where
   by : (front : List ℕ) → [] ≡ front ++ 39 ∷ 39 ∷ [] → ⊥

@@ -23,10 +23,6 @@ use Rattle.ion_tokens.proofs.TextsSound.{Closes, EndsText}
 use Rattle.ion_tokens.proofs.TextsRead.{LeadsText, text_step, reads_none, keeps_behind}
 use Rattle.ion_tokens.proofs.TurnsWords.{empty_symbol}
 
--- an action of a style of text
-abbrev IsTextOf : Style → Style → Type 0
-IsTextOf s t = s ≡ t
-
 in_style : (p : Place) (s t : Style) (v : Within) (w kept : List ℕ) → s ≡ t → InText p t v w kept → InText p s v w kept
 in_style p s t v w kept e h = subst (λ x. InText p x v w kept) (sym e) h
 

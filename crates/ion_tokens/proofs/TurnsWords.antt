@@ -6,7 +6,6 @@ use Rattle.std.proofs.lemmas.Bool.{false≢true, true≢false}
 use Rattle.std.proofs.lemmas.Bool.Decides.{nat_tests}
 use Rattle.ion_tokens.specs.Octets.{is_digit, begins_word, is_word_octet, is_stop}
 use Rattle.ion_tokens.specs.declared.mode.Place.{Place}
-use Rattle.ion_tokens.specs.declared.mode.Action.{Action}
 use Rattle.ion_tokens.specs.declared.mode.Mark.TheVariants as marks
 use Rattle.ion_tokens.specs.declared.mode.Style.TheVariants as styles
 use Rattle.ion_tokens.specs.declared.mode.Mode.TheVariants as modes
@@ -18,9 +17,6 @@ use Rattle.ion_tokens.specs.Table.{in_word, in_kind_name, in_number, in_number_s
 use Rattle.ion_tokens.specs.Quoted.{IsQuoted}
 use Rattle.ion_tokens.specs.Lexemes.{Each, begins, begins_number, begins_comment}
 use Rattle.ion_tokens.proofs.Opens.{IsOpen, IsOpenNumber, Turns, IsFound}
-
-pub by_turn : (p : Place) (colon : Bool) (w kept : List ℕ) (o : ℕ) {a b : Action} → a ≡ b → Turns p colon w kept o b → Turns p colon w kept o a
-by_turn p colon w kept o e h = subst (λ a. Turns p colon w kept o a) (sym e) h
 
 pub each_last : (class : ℕ → Bool) (os : List ℕ) (o : ℕ) → Each class os → class o ≡ true → Each class (os ++ o ∷ [])
 each_last class [] o h e = (e, tt)
