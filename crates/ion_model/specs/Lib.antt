@@ -1,4 +1,5 @@
 pub mod formers
+pub mod Octets
 pub mod Ranges
 pub mod Reasons
 pub mod Decimals
@@ -7,6 +8,8 @@ pub mod Timestamps
 pub mod Symbols
 pub mod Measures
 pub mod Kinds
+pub mod Kept
+pub mod KeptLaws
 pub mod Same
 pub mod Order
 pub mod Normal

@@ -18,6 +18,10 @@ bare p = record { annotations = []; payload = p }
 abbrev pub annotated : List (Option (List ℕ)) → Payload → Value
 annotated a p = record { annotations = a; payload = p }
 
+-- a field of this name
+abbrev pub field_of : Option (List ℕ) → Value → Field
+field_of s v = record { name = s; value = v }
+
 -- the greatest of a list
 abbrev pub greatest : List ℕ → ℕ
 greatest [] = 0

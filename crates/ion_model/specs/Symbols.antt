@@ -1,10 +1,19 @@
--- Texts and symbols: when two are the same, and their order.
-use Rattle.std.specs.Prelude.{ℕ, List, Bool, Option, nat_eq}
+-- Texts and symbols: which the types keep, when two are the same, and their order.
+use Rattle.std.specs.Prelude.{ℕ, List, [], ◌∷◌, Bool, Option, IfSome, nat_eq}
+use Rattle.std.specs.Str.{IsUtf8}
 use Rattle.std.specs.Ordering.{nat_cmp}
 use Rattle.std.specs.Option.{option_eq, option_cmp}
 use Rattle.std.specs.Cmp.Lexicographic.{slice_cmp}
 use Rattle.std.specs.declared.cmp.Ordering.{Ordering}
 use lib.Pointwise.{pointwise}
+
+-- the text of a symbol, where it is known, is UTF-8
+abbrev pub IsText : Option (List ℕ) → Type 0
+IsText s = IfSome s IsUtf8
+
+abbrev pub AreTexts : List (Option (List ℕ)) → Type 0
+AreTexts [] = Unit {0}
+AreTexts (s ∷ ss) = IsText s × AreTexts ss
 
 -- octet by octet
 abbrev pub text_same : List ℕ → List ℕ → Bool

@@ -9,7 +9,7 @@ ghost use Rattle.ion_model.specs.Same.{same, fields_same, layer_same};
 ghost use Rattle.ion_model.specs.Order.{order, field_cmp};
 ghost use Rattle.ion_model.specs.Normal.{AreNormalOf};
 
-use crate::compare::order_fields;
+use crate::compare::{order, order_fields};
 use crate::copy::copy_fields;
 use crate::normal::tidy_fields;
 use crate::refusal::Reason;
@@ -18,12 +18,16 @@ use crate::sequence::Sequence;
 use crate::value::{Field, Payload, Value};
 use std::alloc::Global;
 
-/// Whether two values are equivalent, as `same_slow` says. The only refusal is `Memory`. Values are
-/// compared as they stand down to their structs; two structs of n fields each are copied, their fields
-/// sorted, inner levels first, and then compared, which costs some n log n comparisons of fields.
+/// Whether two values are equivalent, as `same_slow` says. The only refusal is `Memory`. Values that
+/// agree part by part, fields as they stand, take no memory. Others are compared as they stand down to
+/// their structs; two structs of n fields each are copied, their fields sorted, inner levels first, and
+/// then compared, which costs some n log n comparisons of fields.
 pub fn equivalent(alloc: Global, a: &Value, b: &Value) -> Result<bool, Reason>
     ensures { MatchResult result (λ r. r ≡ same a.now b.now) (λ e. e ≡ reasons.Memory) }
 {
+    if order(a, b).is_eq() {
+        return Ok(true);
+    }
     equivalent_value(alloc, a, b)
 }
 

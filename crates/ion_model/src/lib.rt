@@ -7,6 +7,7 @@ mod compare;
 mod copy;
 mod decimal;
 mod equivalence;
+mod kept;
 mod kind;
 pub mod laws;
 mod measures;

@@ -1,7 +1,7 @@
 //! Symbols: texts that name things, of which some are unknown.
 ghost use Rattle.std.specs.Prelude.{◌≡◌, Some, None, MatchResult, option_map};
 ghost use Rattle.ion_model.specs.declared.refusal.Reason.TheVariants as reasons;
-ghost use Rattle.ion_model.specs.Symbols.{symbol_same, symbol_cmp};
+ghost use Rattle.ion_model.specs.Symbols.{IsText, symbol_same, symbol_cmp};
 
 use crate::refusal::Reason;
 use std::alloc::Global;
@@ -23,6 +23,10 @@ impl Model for Symbol {
     ghost Value = { Option (List ℕ) };
 
     ghost view = { λ s. option_map rc_str_bytes s.text };
+
+    ghost use Rattle.ion_model.specs.Symbols.{IsText};
+
+    ghost invariant = { λ s. IsText (option_map rc_str_bytes s.text) };
 }
 
 impl Symbol {
@@ -39,6 +43,13 @@ impl Symbol {
     {
         let text = RcStr::from_str(alloc, text)?;
         Ok(Symbol { text: Some(text) })
+    }
+
+    /// What a symbol keeps about itself: its text, where it is known, is UTF-8. Does nothing.
+    pub fn kept(&self)
+        ensures { IsText self.now }
+    {
+        let _text = &self.text;
     }
 
     /// The text, `None` where it is unknown. Takes no memory.

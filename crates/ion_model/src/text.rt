@@ -1,6 +1,10 @@
 //! Texts and octets that contracts see as lists of octets, whatever their capacities.
-ghost use Rattle.std.specs.Prelude.{◌≡◌, MatchResult, string_bytes};
+ghost use Rattle.std.specs.Prelude.{◌≡◌, MatchResult, string_bytes, nat_eq};
+ghost use Rattle.std.specs.Cmp.{partial_equiv_from_equiv};
+ghost use Rattle.std.specs.Cmp.Lexicographic.{pointwise, nat_list_eq_equiv};
+ghost use Rattle.std.specs.Str.{IsUtf8};
 ghost use Rattle.ion_model.specs.declared.refusal.Reason.TheVariants as reasons;
+ghost use Rattle.ion_model.specs.Octets.{AreOctets};
 
 use crate::refusal::Reason;
 use std::marker::Model;
@@ -19,6 +23,20 @@ impl Model for Text {
     ghost view = { λ t. string_bytes t.text };
 }
 
+impl PartialEq for Text {
+    ghost eq = { pointwise nat_eq };
+
+    ghost laws = { partial_equiv_from_equiv nat_list_eq_equiv };
+
+    fn eq(&self, other: &Text) -> bool {
+        self.as_str() == other.as_str()
+    }
+}
+
+impl Eq for Text {
+    ghost laws = { nat_list_eq_equiv };
+}
+
 impl Text {
     /// The text of a `String`, taken over without a copy.
     pub fn from_string(text: String) -> Text
@@ -33,6 +51,13 @@ impl Text {
     {
         let Text { text } = self;
         text
+    }
+
+    /// What a `Text` keeps about itself: its octets are UTF-8. Does nothing.
+    pub fn kept(&self)
+        ensures { IsUtf8 self.now }
+    {
+        let _text = self.as_str();
     }
 
     /// The text.
@@ -63,6 +88,24 @@ impl Model for Bytes {
     ghost Value = { List ℕ };
 
     ghost view = { λ b. b.bytes.items };
+
+    ghost use Rattle.ion_model.specs.Octets.{AreOctets};
+
+    ghost invariant = { λ b. AreOctets b.bytes.items };
+}
+
+impl PartialEq for Bytes {
+    ghost eq = { pointwise nat_eq };
+
+    ghost laws = { partial_equiv_from_equiv nat_list_eq_equiv };
+
+    fn eq(&self, other: &Bytes) -> bool {
+        self.as_slice() == other.as_slice()
+    }
+}
+
+impl Eq for Bytes {
+    ghost laws = { nat_list_eq_equiv };
 }
 
 impl Bytes {
@@ -70,6 +113,10 @@ impl Bytes {
     pub fn from_vec(bytes: Vec<u8>) -> Bytes
         ensures { result ≡ bytes.items }
     {
+        // a proof knows an octet to be one once it is read; the compiled loop is empty
+        for octet in &bytes {
+            let _octet = *octet;
+        }
         Self { bytes }
     }
 
@@ -79,6 +126,13 @@ impl Bytes {
     {
         let Bytes { bytes } = self;
         bytes
+    }
+
+    /// What a `Bytes` keeps about itself: its octets are whole numbers below 256. Does nothing.
+    pub fn kept(&self)
+        ensures { AreOctets self.now }
+    {
+        let _bytes = &self.bytes;
     }
 
     /// The octets.

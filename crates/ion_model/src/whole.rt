@@ -1,5 +1,7 @@
 //! Ints.
 ghost use Rattle.std.specs.Prelude.{◌≡◌, SomeIff};
+ghost use Rattle.std.specs.Ordering.{int_eq};
+ghost use Rattle.std.specs.Cmp.{int_eq_equiv, partial_equiv_from_equiv};
 ghost use Rattle.ion_model.specs.Ranges.{IsWhole};
 
 use std::marker::Model;
@@ -21,6 +23,20 @@ impl Model for Whole {
     ghost invariant = { λ w. IsWhole w.value };
 
     ghost inverse = { λ z. record { value = z } };
+}
+
+impl PartialEq for Whole {
+    ghost eq = { int_eq };
+
+    ghost laws = { partial_equiv_from_equiv int_eq_equiv };
+
+    fn eq(&self, other: &Whole) -> bool {
+        self.get() == other.get()
+    }
+}
+
+impl Eq for Whole {
+    ghost laws = { int_eq_equiv };
 }
 
 impl Whole {

@@ -1,0 +1,75 @@
+-- Values that are kept, behind values that are; and by levels.
+use Rattle.std.proofs.Common.{◌≡◌, ℕ, ◌+◌, ◌<◌, List, [], ◌∷◌, ◌++◌, length, drop, get_or, Option, sym, subst, arith}
+use Rattle.std.proofs.lemmas.List.{drop_more}
+use Rattle.ion_model.specs.declared.value.Value.{Value}
+use Rattle.ion_model.specs.declared.value.Field.{Field}
+use Rattle.ion_model.specs.declared.value.Payload.TheOpen.{Payload-F}
+use Rattle.ion_model.specs.declared.value.Payload.TheViews.{out-Payload, roll-Payload, roll-out-Payload}
+use Rattle.ion_model.specs.Measures.{Layer, field_of}
+use Rattle.ion_model.specs.Kept.{IsText, AreTexts, IsKept, kept, KeptPayload, kept_null, kept_truth, kept_int, kept_decimal, kept_timestamp, kept_symbol, kept_string, kept_clob, kept_blob, kept_list, kept_sexp, kept_fields, KeptItems, no_items, an_item, KeptFields, no_fields, a_field, AreKept, KeptLayer}
+
+pub texts_both : (ss ts : List (Option (List ℕ))) → AreTexts ss → AreTexts ts → AreTexts (ss ++ ts)
+texts_both [] ts h k = k
+texts_both (s ∷ ss) ts h k = (h.0, texts_both ss ts h.1 k)
+
+pub texts_last : (ss : List (Option (List ℕ))) (s : Option (List ℕ)) → AreTexts ss → IsText s → AreTexts (ss ++ s ∷ [])
+texts_last ss s h k = texts_both ss (s ∷ []) h (k, tt)
+
+pub items_both : (vs ws : List Value) → KeptItems vs → KeptItems ws → KeptItems (vs ++ ws)
+items_both _ ws no_items k = k
+items_both _ ws (an_item v vs h hs) k = an_item v (vs ++ ws) h (items_both vs ws hs k)
+
+pub items_last : (vs : List Value) (v : Value) → KeptItems vs → IsKept v → KeptItems (vs ++ v ∷ [])
+items_last vs v h k = items_both vs (v ∷ []) h (an_item v [] k no_items)
+
+pub fields_both : (ms ns : List Field) → KeptFields ms → KeptFields ns → KeptFields (ms ++ ns)
+fields_both _ ns no_fields k = k
+fields_both _ ns (a_field s v ms t h hs) k = a_field s v (ms ++ ns) t h (fields_both ms ns hs k)
+
+pub fields_last : (ms : List Field) (s : Option (List ℕ)) (v : Value) → KeptFields ms → IsText s → IsKept v → KeptFields (ms ++ field_of s v ∷ [])
+fields_last ms s v h t k = fields_both ms (field_of s v ∷ []) h (a_field s v [] t k no_fields)
+
+pub kept_both : (s t : List Value) → AreKept s → AreKept t → AreKept (s ++ t)
+kept_both [] t h k = k
+kept_both (v ∷ s) t h k = (h.0, kept_both s t h.1 k)
+
+pub kept_last : (s : List Value) (v : Value) → AreKept s → IsKept v → AreKept (s ++ v ∷ [])
+kept_last s v h k = kept_both s (v ∷ []) h (k, tt)
+
+-- Lists gone over from the front: what is left of a list being kept makes all of it kept.
+
+pub texts_at : (ss : List (Option (List ℕ))) (i : ℕ) (s : Option (List ℕ)) → i < length ss → s ≡ get_or ss i s → IsText s → (AreTexts (drop i ss) → AreTexts ss) → AreTexts (drop (i + 1) ss) → AreTexts ss
+texts_at ss i s small is k so_far rest = so_far (subst AreTexts (sym (drop_more ss i s small)) (subst IsText is k, rest))
+
+pub items_at : (vs : List Value) (i : ℕ) (v : Value) → i < length vs → v ≡ get_or vs i v → IsKept v → (KeptItems (drop i vs) → KeptItems vs) → KeptItems (drop (i + 1) vs) → KeptItems vs
+items_at vs i v small is k so_far rest = so_far (subst KeptItems (sym (drop_more vs i v small)) (an_item _ _ (subst IsKept is k) rest))
+
+pub fields_at : (ms : List Field) (i : ℕ) (m : Field) → i < length ms → m ≡ get_or ms i m → IsText m.name → IsKept m.value → (KeptFields (drop i ms) → KeptFields ms) → KeptFields (drop (i + 1) ms) → KeptFields ms
+fields_at ms i m small is t k so_far rest =
+    so_far (subst KeptFields (sym (drop_more ms i m small)) (a_field _ _ _ (subst (λ (n : Field). IsText n.name) is t) (subst (λ (n : Field). IsKept n.value) is k) rest))
+
+-- none are kept
+pub no_texts : (ss : List (Option (List ℕ))) → length ss ≡ 0 → AreTexts ss
+no_texts [] e = tt
+no_texts (s ∷ ss) e = absurd (omega (arith, e))
+
+-- By levels.
+
+rolled_kept : (d : Layer) → KeptLayer d → KeptPayload (roll-Payload d)
+unfolding roll-Payload denote.Hole.Carrier.roll
+rolled_kept (Payload-F.Null k) h = kept_null k
+rolled_kept (Payload-F.Truth b) h = kept_truth b
+rolled_kept (Payload-F.Int z) h = kept_int z h
+rolled_kept (Payload-F.Decimal d) h = kept_decimal d h
+rolled_kept (Payload-F.Timestamp t) h = kept_timestamp t h
+rolled_kept (Payload-F.Symbol s) h = kept_symbol s h
+rolled_kept (Payload-F.Str text) h = kept_string text h
+rolled_kept (Payload-F.Clob body) h = kept_clob body h
+rolled_kept (Payload-F.Blob body) h = kept_blob body h
+rolled_kept (Payload-F.List vs) h = kept_list vs h
+rolled_kept (Payload-F.Sexp vs) h = kept_sexp vs h
+rolled_kept (Payload-F.Fields ms) h = kept_fields ms h
+
+-- a value of annotations and of a level that are kept is kept
+pub value_kept : (v : Value) → AreTexts v.annotations → KeptLayer (out-Payload v.payload) → IsKept v
+value_kept v h k = kept v.annotations v.payload h (subst KeptPayload (roll-out-Payload v.payload) (rolled_kept (out-Payload v.payload) k))

@@ -1,0 +1,21 @@
+-- What octets are.
+use Rattle.std.specs.Prelude.{ℕ, ◌<◌, List, [], ◌∷◌, ◌++◌}
+use Rattle.std.specs.List.{AllByRecursion}
+
+-- whole numbers from 0 to 255
+abbrev pub AreOctets : List ℕ → Type 0
+AreOctets octets = AllByRecursion (λ o. o < 256) octets
+
+-- octets behind octets are octets
+pub octets_both : (u w : List ℕ) → AreOctets u → AreOctets w → AreOctets (u ++ w)
+octets_both [] w h k = k
+octets_both (o ∷ u) w h k = (h.0, octets_both u w h.1 k)
+
+-- and so is each part of octets
+pub octets_front : (u w : List ℕ) → AreOctets (u ++ w) → AreOctets u
+octets_front [] w h = tt
+octets_front (o ∷ u) w h = (h.0, octets_front u w h.1)
+
+pub octets_rest : (u w : List ℕ) → AreOctets (u ++ w) → AreOctets w
+octets_rest [] w h = h
+octets_rest (o ∷ u) w h = octets_rest u w h.1
