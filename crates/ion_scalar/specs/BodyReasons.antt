@@ -1,5 +1,5 @@
 -- A body is refused as too large or as malformed, and for no other reason.
-use Rattle.std.proofs.Common.{ℕ, ℤ, ◌^◌, ◌<◌, List, [], ◌∷◌, drop, Bool, true, false, cond, ◌&&◌, nat_le, nat_lt, not, Option, Result, Ok, Err}
+use Rattle.std.proofs.Common.{ℕ, ℤ, ◌^◌, List, [], ◌∷◌, drop, Bool, true, false, cond, ◌&&◌, nat_le, nat_lt, not, Option, Result, Ok, Err}
 use Rattle.ion_model.specs.declared.calendar.Date.{Date}
 use Rattle.ion_model.specs.declared.calendar.Minute.{Minute}
 use Rattle.ion_model.specs.declared.refusal.Reason.{Reason}

@@ -38,3 +38,7 @@ pub mod OneNumber
 pub mod TextLaws
 pub mod TimeTextLaws
 pub mod BodyReasons
+pub mod Deciding
+pub mod DecidedNumbers
+pub mod DecidedTimestamps
+pub mod Reading

@@ -1,5 +1,5 @@
 -- What is written as text spells the number.
-use Rattle.std.proofs.Common.{◌≡◌, ◌≢◌, ℕ, suc, ◌+◌, ◌-◌, ◌/◌, ◌%◌, ◌^◌, ◌<◌, ◌≤◌, inl, inr, List, [], ◌∷◌, ◌++◌, length, drop, set, get_or, Bool, true, false, ℤ, pos, negsuc, ◌-ℤ◌, to_z, of_z, refl, sym, ap, ◌∙◌, arith, length-append, append-nil}
+use Rattle.std.proofs.Common.{◌≡◌, ◌≢◌, ℕ, suc, ◌+◌, ◌-◌, ◌/◌, ◌%◌, ◌^◌, ◌<◌, ◌≤◌, inl, inr, List, [], ◌∷◌, ◌++◌, length, drop, set, get_or, Bool, true, false, ℤ, pos, negsuc, ◌-ℤ◌, to_z, of_z, refl, sym, ap, ◌∙◌, arith, length-append, append-nil, Ok}
 use lib.Signed.{mag}
 use Rattle.std.specs.Char.{digit_value}
 use Rattle.std.specs.Fmt.{decimal, signed_decimal}
@@ -11,14 +11,14 @@ use Rattle.std.proofs.lemmas.Fmt.{decimal_by_steps_wide, decimal_digit}
 use Rattle.std.proofs.lemmas.Str.{digit_value_digit}
 use Rattle.std.proofs.lemmas.List.{drop-set}
 use Rattle.ion_model.specs.Ranges.{IsWhole as IsKeptWhole}
-use Rattle.ion_model.specs.Decimals.{DecimalParts}
+use Rattle.ion_model.specs.Decimals.{DecimalParts, IsDecimal}
 use Rattle.ion_scalar.specs.declared.number.Number.TheVariants as numbers
 use Rattle.ion_scalar.specs.Fields.{positional}
 use Rattle.ion_scalar.specs.Positional.{positional_push}
 use Rattle.ion_scalar.specs.Tokens.{IsDigits, digits_in, number, IsWhole, minus}
 use Rattle.ion_scalar.specs.Decimals.{signed, IsSigned, IsPower}
-use Rattle.ion_scalar.specs.Numbers.{IsNumber}
-use Rattle.ion_scalar.specs.Texts.{decimal_text}
+use Rattle.ion_scalar.specs.Numbers.{IsNumber, ReadsNumber}
+use Rattle.ion_scalar.specs.Texts.{decimal_text, number_text}
 use Rattle.ion_scalar.specs.Runs.{digits_push, digits_in_push, digits_in_one}
 
 -- digits as they are written: plain, without a leading zero, and of that number
@@ -148,3 +148,15 @@ power_parts z y sign digits h e t =
 pub decimal_end : (negative : Bool) (m r s : ℕ) (one two text : List ℕ) → 0 < r → r ≤ length one → drop r one ≡ text
     → drop s two ≡ minus negative ++ (decimal m ++ drop (r - 1) (set one (r - 1) 100)) → drop s two ≡ minus negative ++ (decimal m ++ 100 ∷ text)
 decimal_end negative m r s one two text some within e t = t ∙ ap (λ (x : List ℕ). minus negative ++ (decimal m ++ x)) (letter_text r one text some within e)
+
+-- the texts of an int and of a decimal that are kept are read as them
+pub int_reads : (z : ℤ) → IsKeptWhole z → ReadsNumber (number_text (numbers.Int z)) (Ok (numbers.Int z))
+int_reads z h = (int_text z h, h, tt)
+
+-- an exponent that is kept is an int that is kept
+power_is : (e : ℤ) → IsPower e → IsKeptWhole e
+power_is (pos n) h = omega (arith, ints, h.1)
+power_is (negsuc n) h = omega (arith, ints, h.0)
+
+pub decimal_reads : (d : DecimalParts) → IsDecimal d → ReadsNumber (number_text (numbers.Decimal d)) (Ok (numbers.Decimal d))
+decimal_reads d h = (decimal_is d h.0 (power_is d.exponent (h.1, h.2)), h, tt)

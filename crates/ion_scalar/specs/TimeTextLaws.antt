@@ -1,5 +1,5 @@
 -- What is written of a timestamp spells it.
-use Rattle.std.proofs.Common.{◌≡◌, ℕ, zero, suc, ◌+◌, ◌/◌, ◌%◌, ◌^◌, ◌<◌, ◌≤◌, inl, inr, List, [], ◌∷◌, ◌++◌, length, get_or, Bool, true, false, cond, ℤ, pos, negsuc, to_z, of_z, refl, sym, ap, subst, ◌∙◌, arith, length-append, append_assoc, Option, Some, None, IfSome}
+use Rattle.std.proofs.Common.{◌≡◌, ℕ, zero, suc, ◌+◌, ◌/◌, ◌%◌, ◌^◌, ◌<◌, ◌≤◌, inl, inr, List, [], ◌∷◌, ◌++◌, length, get_or, Bool, true, false, cond, ℤ, pos, negsuc, to_z, of_z, refl, sym, ap, subst, ◌∙◌, arith, length-append, append_assoc, Option, Some, None, IfSome, Ok}
 use lib.Signed.{lt_z}
 use lib.IntN.{nat_abs}
 use Rattle.std.specs.Int.{w16}
@@ -18,7 +18,10 @@ use Rattle.ion_scalar.specs.Fields.{positional}
 use Rattle.ion_scalar.specs.Positional.{positional_push}
 use Rattle.ion_scalar.specs.Tokens.{IsDigits, digits_in, number}
 use Rattle.ion_scalar.specs.Timestamps.{IsAt, AreTwoAt, two, AreFourAt, four, BeginsWithMonth, BeginsWithDay, BeginsWithMinute, BeginsWithSecond, minute_read, dated, timed, IsOffsetToken, offset_read, offset_minutes, IsTimestampToken, year, month, day, minute, second, fraction}
-use Rattle.ion_scalar.specs.Texts.{two_digits, four_digits, padded, month_text, day_text, minute_text, second_text, clock_text, offset_text, cut_text, timestamp_text}
+use Rattle.ion_scalar.specs.Texts.{two_digits, four_digits, padded, month_text, day_text, minute_text, second_text, clock_text, offset_text, cut_text, timestamp_text, number_text}
+use Rattle.ion_scalar.specs.declared.number.Number.TheVariants as numbers
+use Rattle.ion_scalar.specs.Numbers.{ReadsNumber}
+use Rattle.ion_scalar.specs.Stamps.{there_short}
 use Rattle.ion_scalar.specs.Runs.{digits_push, digits_in_push, digits_in_one}
 use Rattle.ion_scalar.specs.TextLaws.{digit_of}
 
@@ -223,3 +226,7 @@ cut_again l (precisions.Fraction (suc d)) o s c h =
 
 pub timestamp_again : (t : TimestampParts) → IsTimestamp t → IsTimestampToken (timestamp_text t) t
 timestamp_again t h = cut_again t.local t.precision t.offset (small_fields t h) h.cut h.offset
+
+-- the text of a timestamp is read as it
+pub timestamp_reads : (t : TimestampParts) → IsTimestamp t → ReadsNumber (number_text (numbers.Timestamp t)) (Ok (numbers.Timestamp t))
+timestamp_reads t h = (timestamp_again t h, there_short t h, h)

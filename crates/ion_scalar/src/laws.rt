@@ -1,17 +1,22 @@
 //! What the definitions that this crate's contracts name have to do with the specification. A law is called for its clause alone.
-ghost use Rattle.std.specs.Prelude.{◌≡◌, ◌≤◌, ◌++◌, ◌+ℤ◌, ℕ, ℤ, pos, Bool, List, Ok, length};
+ghost use Rattle.std.specs.Prelude.{◌≡◌, ◌↔◌, ◌≤◌, ◌++◌, ◌+ℤ◌, ℕ, ℤ, pos, Bool, List, Result, Ok, length};
 ghost use Rattle.ion_scalar.specs.Fields.{positional, int_negative, int_magnitude, VarUInt, VarInt, var_uint, var_int, signed_of};
 ghost use Rattle.ion_scalar.specs.Reads.{ReadsVarUInt, ReadsVarInt, ReadsDecimal};
 ghost use Rattle.ion_scalar.specs.Spellings.{AreBelow, var_uint_octets, var_int_octets, uint_octets, int_octets};
+ghost use Rattle.ion_model.specs.Ranges.{IsWhole};
 ghost use Rattle.ion_model.specs.Decimals.{DecimalParts, IsDecimal};
+ghost use Rattle.ion_model.specs.declared.refusal.Reason.{Reason};
 ghost use Rattle.ion_scalar.specs.DecimalField.{IsDecimalField, decimal_of_body};
 ghost use Rattle.ion_scalar.specs.declared.number.Number.{Number};
-ghost use Rattle.ion_scalar.specs.Numbers.{IsNumber, IsFloat};
+ghost use Rattle.ion_scalar.specs.declared.number.Number.TheVariants as numbers;
+ghost use Rattle.ion_scalar.specs.Numbers.{IsNumber, IsFloat, ReadsNumber};
+ghost use Rattle.ion_scalar.specs.Reading.{number_read};
+ghost use Rattle.ion_scalar.specs.Texts.{number_text};
 ghost use Rattle.ion_scalar.specs.Rows.{IsTable};
 ghost use Rattle.ion_scalar.specs.Shifted.{moved};
 ghost use Rattle.ion_model.specs.declared.calendar.Minute.{Minute};
 ghost use Rattle.ion_model.specs.Calendar.{IsMinute, InYears, minute_number};
-ghost use Rattle.ion_model.specs.Timestamps.{TimestampParts, IsOffset};
+ghost use Rattle.ion_model.specs.Timestamps.{TimestampParts, IsTimestamp, IsOffset};
 ghost use Rattle.ion_scalar.specs.TimestampReasons.{ReadsTimestampBody};
 ghost use Rattle.ion_scalar.specs.TimestampField.{IsTimestampBody, timestamp_of_body};
 
@@ -86,4 +91,20 @@ pub fn descriptor_table()
 pub fn one_number()
     ensures one { (token : List ℕ) (x y : Number) → IsNumber token x → IsNumber token y → x ≡ y }
     ensures float { (token : List ℕ) (x : Number) → IsNumber token x → IsFloat token → ⊥ }
+{}
+
+/// Reading a token has one answer, which `number_read` gives as a function of its octets.
+pub fn number_answers()
+    ensures { (token : List ℕ) (answer : Result Number Reason)
+        → ReadsNumber token answer ↔ (answer ≡ number_read token) }
+{}
+
+/// The text of a number that is kept is read as that number.
+pub fn text_is_read()
+    ensures int { (z : ℤ) → IsWhole z
+        → ReadsNumber (number_text (numbers.Int z)) (Ok (numbers.Int z)) }
+    ensures decimal { (d : DecimalParts) → IsDecimal d
+        → ReadsNumber (number_text (numbers.Decimal d)) (Ok (numbers.Decimal d)) }
+    ensures timestamp { (t : TimestampParts) → IsTimestamp t
+        → ReadsNumber (number_text (numbers.Timestamp t)) (Ok (numbers.Timestamp t)) }
 {}

@@ -16,7 +16,7 @@ use crate::timestamps::stamp_of;
 use ion_model::{Decimal, Precision, Reason, Timestamp, Whole};
 
 /// A number, as a token spells it.
-#[derive(Clone, Copy, Debug)]
+#[derive(Clone, Copy, Debug, PartialEq, Eq)]
 pub enum Number {
     Int(Whole),
     Decimal(Decimal),

@@ -88,6 +88,37 @@ fn digits_before(octets: &mut [u8], end: usize, value: u128) -> usize
     ensures size { length octets.new ≡ length octets.old }
     ensures text { drop result octets.new ≡ decimal value ++ drop end octets.old }
 {
+    if value < 1 << 64 {
+        return short_digits_before(octets, end, value as u64);
+    }
+    long_digits_before(octets, end, value)
+}
+
+// Nearly all numbers are so short, and a division of 64 bits takes a tenth of the time of one of 128.
+fn short_digits_before(octets: &mut [u8], end: usize, value: u64) -> usize
+    requires within { (39 ≤ end) × (end ≤ length octets.old) }
+    ensures start { (result ≤ end) × (end ≤ result + 39) }
+    ensures size { length octets.new ≡ length octets.old }
+    ensures text { drop result octets.new ≡ decimal value ++ drop end octets.old }
+{
+    let mut start = end;
+    let mut rest = value;
+    while rest >= 10 {
+        start -= 1;
+        octets[start] = b'0' + (rest % 10) as u8;
+        rest /= 10;
+    }
+    start -= 1;
+    octets[start] = b'0' + rest as u8;
+    start
+}
+
+fn long_digits_before(octets: &mut [u8], end: usize, value: u128) -> usize
+    requires within { (39 ≤ end) × (end ≤ length octets.old) }
+    ensures start { (result ≤ end) × (end ≤ result + 39) }
+    ensures size { length octets.new ≡ length octets.old }
+    ensures text { drop result octets.new ≡ decimal value ++ drop end octets.old }
+{
     let mut start = end;
     let mut rest = value;
     while rest >= 10 {

@@ -2,7 +2,7 @@ use Rattle.std.proofs.Common.{◌≡◌, ◌++◌, drop, arith}
 use Rattle.std.specs.Fmt.{decimal, signed_decimal}
 use Rattle.std.proofs.lemmas.List.{drop_all}
 use Rattle.ion_scalar.specs.Tokens.{minus}
-use Rattle.ion_scalar.specs.TextLaws.{decimal_is, signed_end, decimal_end, power_parts, power_kept}
+use Rattle.ion_scalar.specs.TextLaws.{decimal_reads, signed_end, decimal_end, power_parts}
 use Rattle.ion_scalar.proofs.text.decimal_before.Goals as goal
 
 pub returns-clause-text : goal.returns-clause-text
@@ -18,7 +18,4 @@ returns-clause-text c =
     (omega (arith, first.ensures.start)) (omega (arith, first.ensures.start, first.ensures.size)) end c.signed_before.ensures.text)
 
 pub returns-clause-again : goal.returns-clause-again
-returns-clause-again c =
-    let d = c.magnitude.ensures.kept in
-    let kept = rw (c.exponent.ensures) at (power_kept c.exponent.result c.exponent.type_inv) in
-    (decimal_is c.args.value d.0 kept.0, d, tt)
+returns-clause-again c = decimal_reads c.args.value c.magnitude.ensures.kept

@@ -3,7 +3,7 @@ use Rattle.std.specs.Fmt.{decimal, signed_decimal}
 use Rattle.std.proofs.lemmas.List.{drop_all}
 use Rattle.ion_model.specs.Ranges.{IsWhole}
 use Rattle.ion_scalar.specs.Tokens.{minus}
-use Rattle.ion_scalar.specs.TextLaws.{int_text, signed_end, back_kept}
+use Rattle.ion_scalar.specs.TextLaws.{int_reads, signed_end, back_kept}
 use Rattle.ion_scalar.proofs.text.int_before.Goals as goal
 
 pub returns-clause-text : goal.returns-clause-text
@@ -15,4 +15,4 @@ returns-clause-text c =
 pub returns-clause-again : goal.returns-clause-again
 returns-clause-again c =
     let kept : IsWhole c.args.whole = rw (← c.get.ensures.same) c.get.ensures.range in
-    (int_text c.args.whole kept, kept, tt)
+    int_reads c.args.whole kept

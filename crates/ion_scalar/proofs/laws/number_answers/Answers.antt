@@ -1,0 +1,5 @@
+use Rattle.ion_scalar.specs.Reading.{reads_number}
+use Rattle.ion_scalar.proofs.laws.number_answers.Goals as goal
+
+pub returns : goal.returns
+returns c = reads_number
