@@ -1,5 +1,5 @@
 -- The parts of a device over a reader of std.
-use Rattle.std.specs.Prelude.{ℕ, Bool}
+use Rattle.std.specs.Prelude.{ℕ, Bool, List}
 use Rattle.ion_symtab.specs.declared.inlet.FromRead.{FromRead}
 
 -- the reader that it asks
@@ -14,6 +14,10 @@ calls_of device = device.calls
 abbrev pub failed_of : {R : Type 0} → FromRead R → Bool
 failed_of device = device.failed
 
--- whether a read has answered the end
-abbrev pub ended_of : {R : Type 0} → FromRead R → Bool
-ended_of device = device.ended
+-- all octets that it has handed over
+abbrev pub handed_of : {R : Type 0} → FromRead R → List ℕ
+handed_of device = device.handed
+
+-- how many those were at each end that it answered
+abbrev pub ends_of : {R : Type 0} → FromRead R → List ℕ
+ends_of device = device.ends

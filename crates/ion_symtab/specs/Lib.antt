@@ -1,5 +1,6 @@
 pub mod Limits
 pub mod Told
+pub mod Heard
 pub mod Took
 pub mod FromRead
 pub mod ToWrite
@@ -15,7 +16,11 @@ pub mod Seen
 pub mod Trace
 pub mod Promises
 pub mod ToldLaws
+pub mod HeardLaws
 pub mod TookLaws
 pub mod CauseLaws
+pub mod PromiseLaws
 pub mod TableLaws
 pub mod ContextLaws
+pub mod Decided
+pub mod ContextTexts

@@ -1,19 +1,21 @@
 -- What a reader's trace promises over the documents of its format.
 use Rattle.std.specs.Prelude.{◌≡◌, ◌≢◌, ◌+◌, ◌≤◌, ℕ, List, [], ◌∷◌, ◌++◌, length, take, Some, Ok, Err, false}
+use Rattle.ion_model.specs.Octets.{AreOctets}
 use Rattle.ion_model.specs.declared.value.Value.{Value}
 use Rattle.ion_model.specs.Kinds.{is_table}
 use Rattle.ion_model.specs.Measures.{nodes}
 use Rattle.ion_model.specs.declared.refusal.Refusal.{Refusal}
-use Rattle.ion_model.specs.declared.refusal.Reason.TheVariants.{Memory, Incomplete}
+use Rattle.ion_model.specs.declared.refusal.Reason.{Reason}
+use Rattle.ion_model.specs.declared.refusal.Reason.TheVariants.{Memory, Incomplete, DuplicateTable, BadTable}
 use Rattle.ion_symtab.specs.Trace.{Trace, plain}
 
--- no document begins with these octets
+-- no document begins with these octets, whichever numbers follow them
 abbrev pub BeginsNone : (List ℕ → List Value → Type 0) → List ℕ → Type 0
 BeginsNone denotes u = (rest : List ℕ) (s : List Value) → denotes (u ++ rest) s → ⊥
 
 -- whole pieces of a document with these values, whatever octets follow them, where `open_rest` comes first
 abbrev pub ArePieces : (List ℕ → List ℕ → List Value → Type 0) → List ℕ → List ℕ → List Value → Type 0
-ArePieces pieces front open_rest s = (following : List ℕ) → pieces front (open_rest ++ following) s
+ArePieces pieces front open_rest s = (following : List ℕ) → AreOctets following → pieces front (open_rest ++ following) s
 
 -- s are the values of the longest list of whole pieces at the front of u that remain pieces whatever octets follow u
 pub record Shown (pieces : List ℕ → List ℕ → List Value → Type 0) (u : List ℕ) (s : List Value) : Type 0 where
@@ -39,15 +41,36 @@ pub record Refuses (denotes : List ℕ → List Value → Type 0) (pieces : List
   pub whole_memory : r.reason ≢ Memory
   pub before_end : r.reason ≢ Incomplete
 
--- behind `from` octets, up to `to`, each value came after at least as many octets as it has nodes
-abbrev pub Spaced : ℕ → List (Value × ℕ) → ℕ → Type 0
-Spaced from [] to = from ≤ to
-Spaced from ((v, at) ∷ given) to = (from + nodes v ≤ at) × Spaced at given to
+-- The octets of a value's own item: a span behind the first `from` octets and within the first `at`.
+-- It has at most `item` octets, and at least as many as the value has nodes; pads, tables and markers before it aren't in it.
+pub record HasItem (item from at : ℕ) (v : Value) : Type 0 where
+  pub start : ℕ
+  pub end : ℕ
+  pub behind : from ≤ start
+  pub within : end ≤ at
+  pub fits : end ≤ start + item
+  pub holds : start + nodes v ≤ end
 
--- a value has at most as many nodes as octets were used for it
-pub record IsSmall (u : List ℕ) (t : Trace) : Type 0 where
-  pub given : Spaced 0 t.given (length u)
-  pub last : (v : Value) → t.ends ≡ Ok (Some v) → Spaced 0 (t.given ++ (v, length u) ∷ []) (length u)
+-- each value's item stands behind the octets used for the values before it, the first `from` octets, and within those used when it came; `to` octets are used in all
+abbrev pub Spaced : ℕ → ℕ → List (Value × ℕ) → ℕ → Type 0
+Spaced item from [] to = from ≤ to
+Spaced item from ((v, at) ∷ given) to = HasItem item from at v × Spaced item at given to
+
+-- a value has at most as many nodes as its item has octets, and its item at most `item` octets
+pub record IsSmall (item : ℕ) (u : List ℕ) (t : Trace) : Type 0 where
+  pub given : Spaced item 0 t.given (length u)
+  pub last : (v : Value) → t.ends ≡ Ok (Some v) → Spaced item 0 (t.given ++ (v, length u) ∷ []) (length u)
+
+-- a reason for which octets can be no document: neither want of memory nor one for which a catalog is refused
+pub record IsReadersReason (reason : Reason) : Type 0 where
+  pub whole_memory : reason ≢ Memory
+  pub no_duplicate : reason ≢ DuplicateTable
+  pub no_bad_table : reason ≢ BadTable
+
+-- a step and the end refuse for such reasons alone
+pub record HasReasons (t : Trace) : Type 0 where
+  pub step : (r : Refusal) → t.refused ≡ Some r → IsReadersReason r.reason
+  pub end : (r : Refusal) → t.ends ≡ Err r → IsReadersReason r.reason
 
 -- none of these is a local symbol table
 abbrev pub NoTables : List Value → Type 0

@@ -1,6 +1,7 @@
 //! The shared symbol tables that documents may import (Ion 1.0, "Symbols", "Shared Symbol Tables").
 ghost use Rattle.std.specs.Prelude.{◌≡◌, ◌⊎◌, [], ◌∷◌, ◌++◌, IfErr, OnOk, OnErr, IsSome, is_some, Option, option_copied};
 ghost use Rattle.ion_model.specs.declared.refusal.Reason.TheVariants as reasons;
+ghost use Rattle.ion_symtab.specs.ContextTexts.{AreTextTables};
 ghost use Rattle.ion_symtab.specs.Tables.{find, find_best, newest, newer};
 
 use crate::shared_table::SharedTable;
@@ -49,6 +50,15 @@ impl Catalog {
         match self.tables.push(table) {
             Ok(()) => Ok(()),
             Err(failed) => Err((failed.value, Reason::Memory)),
+        }
+    }
+
+    /// What a catalog keeps about itself: its tables' texts are UTF-8. Does nothing.
+    pub fn kept(&self)
+        ensures { AreTextTables self.now }
+    {
+        for table in &self.tables {
+            table.kept();
         }
     }
 

@@ -1,26 +1,29 @@
 //! What every reader of documents promises.
-ghost use Rattle.std.specs.Prelude.{◌≡◌, ℕ, ◌+◌, ◌*◌, ◌≤◌, ◌<◌, ◌^◌, List, ◌∷◌, ◌++◌, length, take, drop, Option, Result, IfOk, IfErr, IfSome, IsNone, IsSome, ◌↔◌};
+ghost use Rattle.std.specs.Prelude.{◌≡◌, ℕ, ◌+◌, ◌*◌, ◌≤◌, ◌<◌, ◌^◌, List, [], ◌∷◌, ◌++◌, length, take, drop, Option, Result, IfOk, IfErr, IfSome, IsNone, IsSome, ◌↔◌};
 ghost use Rattle.ion_model.specs.declared.value.Value.{Value};
 ghost use Rattle.ion_model.specs.declared.refusal.Reason.TheVariants.{Memory};
-ghost use Rattle.ion_symtab.specs.Trace.{Trace, Answers, Finishes, UsesAll, Grows, Streams, plain, given_at};
-ghost use Rattle.ion_symtab.specs.Promises.{Refuses, Shows, IsSmall, GivesNoTable};
+ghost use Rattle.ion_symtab.specs.Trace.{Trace, Answers, Finishes, UsesAll, Grows, Streams, IsFront, plain, given_at};
+ghost use Rattle.ion_symtab.specs.Promises.{Refuses, Shown, Shows, IsSmall, HasReasons, GivesNoTable};
 
 use ion_model::{Refusal, Value};
 
 /// What one step used of its piece, and the value that it gave.
 #[derive(Drop, Debug)]
 pub struct Step {
-    /// How many octets of the piece were used, all of them where no value is given.
+    /// How many octets of the piece were used, from its first on: all of them where no value is
+    /// given.
     pub used: usize,
-    /// The next value of the document, if the octets used, or the one behind them, end it.
+    /// The next value of the document, if the last octet used ends it, or if the one behind that
+    /// shows that it has ended.
     pub value: Option<Value>,
 }
 
 /// A reader of documents, to which the octets come in pieces of any size.
 ///
 /// Its values, its refusal and the totals of octets used at which the values come depend on the
-/// octets alone, and not on how they are cut. Below, u are the octets used so far, s the values that
-/// they gave, and a total or an offset counts octets from the document's first.
+/// octets alone, and not on how they are cut. Below, g is a catalog, l are limits, u are the octets
+/// used so far, and s the values that they gave. A total or an offset counts octets from the
+/// document's first. Octets that may follow are any numbers from 0 to 255.
 pub trait Items: Sized {
     ghost use Rattle.ion_model.specs.declared.refusal.Refusal.{Refusal};
     ghost use Rattle.ion_symtab.specs.declared.catalog.Catalog.{Catalog};
@@ -41,65 +44,76 @@ pub trait Items: Sized {
     /// them. These values are their stream.
     ghost pieces: { Catalog → Limits → List ℕ → List ℕ → List Value → Type 0 };
 
-    /// Behind these whole pieces, which come first, these octets may stand open: begun, not ended,
-    /// and not too long for the limits.
+    /// Within these limits and behind whole pieces, which come first, these octets may stand open:
+    /// begun, not ended, and not longer than the format lets an open rest be.
     ghost open_after: { Limits → List ℕ → List ℕ → Type 0 };
 
-    /// What the reader says of these octets, however they are cut: the values with their totals,
-    /// the refusal of a step, and what the end answers.
+    /// What the reader says of these octets under this catalog and within these limits, however
+    /// they are cut: the values with their totals, the refusal of a step, and what the end answers.
     ghost trace: { Catalog → Limits → List ℕ → Trace };
 
     /// What the reader holds now is what it comes to hold by these octets, and these are the values
     /// that it gave with them, each with the total of octets used when it came.
     ghost stands: { Self → List ℕ → List (Value × ℕ) → Type 0 };
 
-    /// How many octets were used so far.
+    /// How many octets were used so far, by all steps together.
     ghost taken: { Self → ℕ };
 
-    /// The refusal that it answered, and answers in each call from then on.
+    /// The refusal that it answered, if it answered one: each call answers it from then on.
     ghost failed: { Self → Option Refusal };
 
-    /// The octet that showed the end of the value last given and wasn't used: the next piece begins
-    /// with it.
+    /// The octet that showed the end of the value last given and wasn't used, if there is one: the
+    /// next call is a step over a piece that begins with it.
     ghost awaits: { Self → Option ℕ };
 
-    /// How many values may still come before another octet is used.
+    /// How many values may still come before another octet is used. An octet used adds 2 at most,
+    /// so that a caller's calls end.
     ghost pending: { Self → ℕ };
 
-    /// How many octets of the unfinished item are kept.
+    /// How many octets of the unfinished item are kept in memory.
     ghost kept: { Self → ℕ };
 
     /// Takes up octets of the piece, at most up to the end of the next value; without a value it
     /// used the whole piece.
     ///
-    /// Where it refuses at offset n, no document within the limits and under the catalog begins with
-    /// the first n octets of all that were handed in, and the values given are those that these n
-    /// octets show. `Memory` alone says nothing of the octets; its offset is the number of octets
-    /// that earlier steps used. `Incomplete` is no refusal of a step. After a refusal each later call
-    /// answers that refusal.
+    /// Where it answers `Ok`, with a value or without, the octets used so far aren't refused: they
+    /// are whole pieces of a document and an open rest (`stands`, `not_refused`, `shown`).
     ///
-    /// A value may be given before the octet that showed its end, where that octet isn't part of it:
-    /// then `used` doesn't count the octet, and the next piece has to begin with it.
+    /// Where it refuses at offset n, no document within the limits and under the catalog begins
+    /// with the first n octets of all that were handed in, and the values given are those that these
+    /// n octets show. `Memory` alone says nothing of the octets; its offset is the number of octets
+    /// that earlier steps used. `Incomplete`, `DuplicateTable` and `BadTable` are no refusals of a
+    /// step. After a refusal each later call answers that refusal.
+    ///
+    /// A value may be given before the octet that showed its end, where that octet isn't part of
+    /// it: then `used` doesn't count the octet, and the next piece has to begin with it. The step
+    /// over that piece uses one octet at least, or refuses.
+    ///
+    /// The octets of all pieces together have to be fewer than 2^63.
     fn step(&mut self, piece: &[u8]) -> Result<Step, Refusal>
         requires room { taken self.old + length piece.now < 2 ^ 63 }
-        requires begins { IfSome (awaits self.old) (λ octet. (rest : List ℕ) × (piece.now ≡ octet ∷ rest)) }
+        requires begins { IfSome (awaits self.old) (λ octet.
+            (rest : List ℕ) × (piece.now ≡ octet ∷ rest)) }
         ensures catalog { catalog self.new ≡ catalog self.old }
         ensures limits { limits self.new ≡ limits self.old }
         ensures used { IfOk result (λ step. step.used ≤ length piece.now) }
-        ensures all { IfOk result (UsesAll piece.now) }
+        ensures uses_all { IfOk result (UsesAll piece.now) }
         ensures counts { IfOk result (λ step. taken self.new ≡ taken self.old + step.used) }
         ensures progress { IfOk result (λ step. IsSome step.value →
             pending self.new < pending self.old + 2 * step.used) }
-        ensures still { IfOk result (λ step. pending self.new ≤ pending self.old + 2 * step.used) }
-        ensures far { IfOk result (λ step. (u : List ℕ) (s : List (Value × ℕ)) → stands self.old u s →
-            stands self.new (u ++ take step.used piece.now)
+        ensures few_pending { IfOk result (λ step.
+            pending self.new ≤ pending self.old + 2 * step.used) }
+        ensures onward { IfOk result (λ step. IsSome (awaits self.old) → 0 < step.used) }
+        ensures stands { IfOk result (λ step. (u : List ℕ) (s : List (Value × ℕ)) →
+            stands self.old u s → stands self.new (u ++ take step.used piece.now)
             (s ++ given_at step.value (length u + step.used))) }
         ensures answers { (u : List ℕ) (s : List (Value × ℕ)) → stands self.old u s →
             Answers (trace (catalog self.old) (limits self.old)) u s piece.now result }
+        ensures not_failed { IfOk result (λ step. failed self.new ≡ Option.None) }
         ensures awaited { IfOk result (λ step. IfSome (awaits self.new) (λ octet.
             (rest : List ℕ) × (drop step.used piece.now ≡ octet ∷ rest))) }
-        ensures memory { IfErr result (λ refusal. refusal.reason ≡ Memory → IsNone (failed self.old) →
-            refusal.offset ≡ taken self.old) }
+        ensures memory { IfErr result (λ refusal. refusal.reason ≡ Memory →
+            IsNone (failed self.old) → refusal.offset ≡ taken self.old) }
         ensures fails { IfErr result (λ refusal. failed self.new ≡ Option.Some refusal) }
         ensures again { IfSome (failed self.old) (λ refusal. result ≡ Result.Err refusal) };
 
@@ -107,7 +121,8 @@ pub trait Items: Sized {
     /// refusal of octets that are no document.
     ///
     /// A refusal's offset is the number of octets used, or that of the step that refused before.
-    /// `Memory` alone doesn't say that the octets are no document.
+    /// `Memory` alone doesn't say that the octets are no document. An octet that the reader awaits
+    /// has to be handed in before.
     fn finish(self) -> Result<Option<Value>, Refusal>
         requires { IsNone (awaits self) }
         ensures ends { (u : List ℕ) (s : List (Value × ℕ)) → stands self u s →
@@ -122,11 +137,27 @@ pub trait Items: Sized {
         ensures { result ≡ kept self.now };
 
     /// As many octets were used as the reader stands for.
-    ghost counted: { (r : Self) (u : List ℕ) (s : List (Value × ℕ)) → stands r u s → taken r ≡ length u };
+    ghost counted: { (r : Self) (u : List ℕ) (s : List (Value × ℕ)) → stands r u s →
+        taken r ≡ length u };
+
+    /// A reader that stands for octets has refused nothing.
+    ghost not_failed: { (r : Self) (u : List ℕ) (s : List (Value × ℕ)) → stands r u s →
+        failed r ≡ Option.None };
+
+    /// No step over these octets refuses: so they are whole pieces and an open rest (`shown`), also
+    /// behind a step that gave a value.
+    ghost not_refused: { (r : Self) (u : List ℕ) (s : List (Value × ℕ)) → stands r u s →
+        (trace (catalog r) (limits r) u).refused ≡ Option.None };
 
     /// Unless it awaits an octet, it gave all the values that the trace gives.
     ghost given_so_far: { (r : Self) (u : List ℕ) (s : List (Value × ℕ)) → stands r u s →
         IsNone (awaits r) → (trace (catalog r) (limits r) u).given ≡ s };
+
+    /// Where it awaits an octet, the values that it gave are the first that the trace gives once
+    /// that octet is there.
+    ghost given_with_next: { (r : Self) (u : List ℕ) (s : List (Value × ℕ)) → stands r u s →
+        IfSome (awaits r) (λ octet.
+        IsFront s (trace (catalog r) (limits r) (u ++ octet ∷ [])).given) };
 
     /// No more octets are kept than an item may have.
     ghost bounded: { (r : Self) (u : List ℕ) (s : List (Value × ℕ)) → stands r u s →
@@ -134,7 +165,8 @@ pub trait Items: Sized {
 
     /// Octets that follow take nothing back: what was given stays given, and behind a refusal
     /// nothing changes.
-    ghost settled: { (g : Catalog) (l : Limits) (u w : List ℕ) → Grows (trace g l u) (trace g l (u ++ w)) };
+    ghost settled: { (g : Catalog) (l : Limits) (u w : List ℕ) →
+        Grows (trace g l u) (trace g l (u ++ w)) };
 
     /// The end accepts octets exactly where they are a document, and its stream is the values given
     /// with the one that the end gave.
@@ -145,22 +177,35 @@ pub trait Items: Sized {
     ghost one_stream: { (g : Catalog) (l : Limits) (u : List ℕ) (s t : List Value) →
         denotes g l u s → denotes g l u t → s ≡ t };
 
-    /// Where a step refuses at offset n, no document begins with the first n octets, the values given
-    /// are those that these n octets show, and the end repeats the refusal.
+    /// Where a step refuses at offset n, no document begins with the first n octets, the values
+    /// given are those that these n octets show, and the end repeats the refusal.
     ghost refused: { (g : Catalog) (l : Limits) (u : List ℕ) (r : Refusal) →
-        (trace g l u).refused ≡ Option.Some r → Refuses (denotes g l) (pieces g l) u (trace g l u) r };
+        (trace g l u).refused ≡ Option.Some r →
+        Refuses (denotes g l) (pieces g l) u (trace g l u) r };
+
+    /// Octets show one stream.
+    ghost one_shown: { (g : Catalog) (l : Limits) (u : List ℕ) (s t : List Value) →
+        Shown (pieces g l) u s → Shown (pieces g l) u t → s ≡ t };
 
     /// Where no step refuses, the values given are those that the octets show: the values of the
-    /// longest whole pieces at their front that stay such whatever follows. What is left stands open.
+    /// longest whole pieces at their front that stay such whatever octets follow. What is left
+    /// stands open.
     ghost shown: { (g : Catalog) (l : Limits) (u : List ℕ) →
-        (trace g l u).refused ≡ Option.None → Shows (pieces g l) (open_after l) u (plain (trace g l u).given) };
+        (trace g l u).refused ≡ Option.None →
+        Shows (pieces g l) (open_after l) u (plain (trace g l u).given) };
 
     /// Where no step refuses and the end does, its offset is the number of all octets.
     ghost unfinished: { (g : Catalog) (l : Limits) (u : List ℕ) (r : Refusal) →
-        (trace g l u).refused ≡ Option.None → (trace g l u).ends ≡ Result.Err r → r.offset ≡ length u };
+        (trace g l u).refused ≡ Option.None → (trace g l u).ends ≡ Result.Err r →
+        r.offset ≡ length u };
 
-    /// A value has at most as many nodes as octets were used for it.
-    ghost small: { (g : Catalog) (l : Limits) (u : List ℕ) → IsSmall u (trace g l u) };
+    /// No step and no end refuses with `DuplicateTable` or `BadTable`, nor octets with `Memory`.
+    /// `Incomplete` comes from the end alone (`refused`).
+    ghost reasons: { (g : Catalog) (l : Limits) (u : List ℕ) → HasReasons (trace g l u) };
+
+    /// A value has at most as many nodes as its item has octets, and its item at most as many
+    /// octets as the limit on items allows.
+    ghost small: { (g : Catalog) (l : Limits) (u : List ℕ) → IsSmall l.item u (trace g l u) };
 
     /// A local symbol table where one may stand is no value: it changes what symbol ids stand for.
     ghost no_tables: { (g : Catalog) (l : Limits) (u : List ℕ) → GivesNoTable (trace g l u) };

@@ -1,11 +1,14 @@
 //! Laws of catalogs and contexts. Each stands on an empty function: its contract is the law.
-ghost use Rattle.std.specs.Prelude.{◌≡◌, ◌≤◌, ◌⊎◌, ℕ, List, length, Some, IsSome, Ok, Contains};
+ghost use Rattle.std.specs.Prelude.{◌≡◌, ◌≤◌, ◌⊎◌, ℕ, List, length, Option, Some, IsSome, Ok, Contains};
 ghost use Rattle.ion_model.specs.declared.value.Value.{Value};
+ghost use Rattle.ion_model.specs.Kept.{IsText, IsKept};
 ghost use Rattle.ion_symtab.specs.Slots.{Slot, greatest_id, system_slots, resolve};
 ghost use Rattle.ion_symtab.specs.Tables.{Table, find, newest};
 ghost use Rattle.ion_symtab.specs.TableLaws.{IsAtLeast};
 ghost use Rattle.ion_symtab.specs.Next.{next};
 ghost use Rattle.ion_symtab.specs.ContextLaws.{Begins};
+ghost use Rattle.ion_symtab.specs.Decided.{Decides};
+ghost use Rattle.ion_symtab.specs.ContextTexts.{AreTextSlots, AreTextTables};
 
 /// A table that is found by name and version is one of the catalog, under both; and where there is one,
 /// one is found.
@@ -37,4 +40,21 @@ pub fn behind_a_table()
 /// An id keeps its symbol where slots are added.
 pub fn ids_stay()
     ensures { (c d : List Slot) (id : ℕ) → Begins c d → id ≤ length c → resolve d id ≡ resolve c id }
+{}
+
+/// Ids and local symbol tables are refused only for reasons that octets decide.
+pub fn decided()
+    ensures ids { (c : List Slot) (id : ℕ) → Decides (resolve c id) }
+    ensures tables { (c : List Slot) (v : Value) (g : List Table) → Decides (next c v g) }
+{}
+
+/// The texts of the system slots are UTF-8, and so are those behind a local symbol table where they
+/// were before it, those of the catalog are, and the table is a value that the types keep. The symbols
+/// of such a context have UTF-8 texts.
+pub fn texts_stay()
+    ensures system { AreTextSlots system_slots }
+    ensures behind { (c d : List Slot) (v : Value) (g : List Table) → AreTextTables g →
+        AreTextSlots c → IsKept v → next c v g ≡ Ok d → AreTextSlots d }
+    ensures symbols { (c : List Slot) (id : ℕ) (s : Option (List ℕ)) →
+        AreTextSlots c → resolve c id ≡ Ok s → IsText s }
 {}

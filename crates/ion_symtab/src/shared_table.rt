@@ -1,6 +1,7 @@
 //! Shared symbol tables.
 ghost use Rattle.std.specs.Prelude.{◌≡◌, MatchResult, map, option_map, option_copied, string_bytes};
 ghost use Rattle.ion_model.specs.declared.refusal.Reason.TheVariants as reasons;
+ghost use Rattle.ion_model.specs.Symbols.{AreTexts};
 ghost use Rattle.ion_symtab.specs.Outcome.{Gives};
 ghost use Rattle.ion_symtab.specs.Fields.{payload_of};
 ghost use Rattle.ion_symtab.specs.Tables.{table_of};
@@ -65,6 +66,13 @@ impl SharedTable {
             Payload::Fields(fields) if is_shared(value) => from_fields(alloc, fields.as_slice()),
             _ => Err(Reason::BadTable),
         }
+    }
+
+    /// What a table keeps about itself: its symbols' texts are UTF-8. Does nothing.
+    pub fn kept(&self)
+        ensures { AreTexts self.now.symbols }
+    {
+        self.symbols.kept();
     }
 
     /// The name.

@@ -1,6 +1,7 @@
 //! Lists of symbols that several tables and contexts share.
 ghost use Rattle.std.specs.Prelude.{◌≡◌, MatchResult};
 ghost use Rattle.ion_model.specs.declared.refusal.Reason.TheVariants as reasons;
+ghost use Rattle.ion_model.specs.Symbols.{AreTexts};
 
 use ion_model::{Reason, Symbol};
 use std::alloc::Global;
@@ -19,6 +20,10 @@ impl Model for Symbols {
     ghost Value = { List (Option (List ℕ)) };
 
     ghost view = { λ s. s.shared.value.items };
+
+    ghost use Rattle.ion_model.specs.Symbols.{AreTexts};
+
+    ghost invariant = { λ s. AreTexts s.shared.value.items };
 }
 
 impl Symbols {
@@ -26,8 +31,18 @@ impl Symbols {
     pub(crate) fn from_vec(alloc: Global, symbols: Vec<Symbol>) -> Result<Symbols, Reason>
         ensures { MatchResult result (λ s. s ≡ symbols.items) (λ r. r ≡ reasons.Memory) }
     {
+        for symbol in &symbols {
+            symbol.kept();
+        }
         let shared = Rc::new(alloc, symbols)?;
         Ok(Symbols { shared })
+    }
+
+    /// What the symbols keep about themselves: texts that are known are UTF-8. Does nothing.
+    pub(crate) fn kept(&self)
+        ensures { AreTexts self.now }
+    {
+        let _shared = &self.shared;
     }
 
     /// The same symbols, shared. The only refusal is `Memory`.

@@ -1,11 +1,12 @@
-use Rattle.std.proofs.Common.{◌-◌, ◌≤◌, take, length}
-use Rattle.std.specs.Io.KnownBytes.{Appends}
+use Rattle.std.proofs.Common.{◌≡◌, ◌-◌, ◌≤◌, take, length}
+use Rattle.ion_symtab.specs.Took.{Took}
 use Rattle.ion_symtab.proofs.writing.write_whole.Given as goal
 
 abbrev pub invariant-loop-at : goal.invariant-loop-at
 invariant-loop-at g l = record {
   within : l.at ≤ length l.octets;
-  taken : Appends (g.W.Outlet.took l.initial.writer) (g.W.Outlet.took l.writer) (take l.at l.octets);
+  taken : Took g.W.Outlet.took g.W.Outlet.written l.initial.writer l.writer (take l.at l.octets);
+  not_passed : g.W.Outlet.passed l.writer ≡ g.W.Outlet.passed l.initial.writer;
 }
 
 abbrev pub decreases-loop-at : goal.decreases-loop-at
