@@ -1,5 +1,10 @@
 -- The octets of a value with and without annotations.
-use Rattle.std.proofs.Common.{◌≡◌, ℕ, ◌<◌, List, [], ◌∷◌, ◌++◌, length, refl, ◌∙◌, arith}
+use Rattle.std.proofs.Common.{◌≡◌, ℕ, ◌+◌, ◌<◌, ◌≤◌, List, [], ◌∷◌, ◌++◌, length, drop, get_or, refl, sym, ap, subst, ◌∙◌, arith, append_assoc, Result, Ok, Err, OnOk}
+use Rattle.std.proofs.Math.ListN.{drop_of_length-le}
+use Rattle.std.proofs.lemmas.List.{drop_more}
+use Rattle.std.specs.List.{flat_map}
+use Rattle.ion_model.specs.declared.value.Field.{Field}
+use Rattle.ion_model.specs.Kept.{KeptItems, no_items, KeptFields, no_fields}
 use Rattle.ion_model.specs.declared.value.Value.{Value}
 use Rattle.ion_model.specs.declared.value.Payload.TheViews.{out-Payload}
 use Rattle.ion_binary.specs.Output.{Names, framed, counted, ids_octets, wrapped, value_octets}
@@ -18,3 +23,21 @@ octets_bare names v e = octets-out names v ∙ wrapped_none names v.annotations 
 
 pub octets_wrapped : (names : Names) (v : Value) → 0 < length v.annotations → value_octets names v ≡ framed 14 (counted (ids_octets names v.annotations) ++ layer_octets names (out-Payload v.payload))
 octets_wrapped names v h = octets-out names v ∙ wrapped_some names v.annotations _ h
+
+-- the octets of what is left of a list behind one of its items
+pub octets_at : {X : Type 0} (f : X → List ℕ) (body new : List ℕ) (xs : List X) (i : ℕ) (x : X) → i < length xs → x ≡ get_or xs i x → new ≡ body ++ f x → body ++ flat_map f (drop i xs) ≡ flat_map f xs → new ++ flat_map f (drop (i + 1) xs) ≡ flat_map f xs
+octets_at f body new xs i x small is e so_far =
+    ap (λ w. w ++ flat_map f (drop (i + 1) xs)) (e ∙ ap (λ y. body ++ f y) is) ∙ append_assoc body (f (get_or xs i x)) (flat_map f (drop (i + 1) xs))
+    ∙ ap (λ ys. body ++ flat_map f ys) (sym (drop_more xs i x small)) ∙ so_far
+
+-- what is kept once all was gone over
+
+pub on_ok : {A E P : Type 0} (r : Result A E) → P → OnOk r P
+on_ok (Ok x) h = h
+on_ok (Err e) h = tt
+
+pub all_items : (vs : List Value) (i : ℕ) → length vs ≤ i → (KeptItems (drop i vs) → KeptItems vs) → KeptItems vs
+all_items vs i past h = h (subst KeptItems (sym (drop_of_length-le vs past)) no_items)
+
+pub all_fields : (ms : List Field) (i : ℕ) → length ms ≤ i → (KeptFields (drop i ms) → KeptFields ms) → KeptFields ms
+all_fields ms i past h = h (subst KeptFields (sym (drop_of_length-le ms past)) no_fields)

@@ -67,11 +67,11 @@ pub step_answers : (old : BinaryReader) (n : Machine) (u : List ℕ) (s : List (
 step_answers old n u s piece result h advances = answers old.catalog.now old.limits old.used u s (machine_of old) n piece result h.counted h.ran advances
 
 -- the reader stands for the octets that a step used, too
-pub step_far : (old new : BinaryReader) (piece : List ℕ) (result : Result Step Refusal) →
+pub step_stands : (old new : BinaryReader) (piece : List ℕ) (result : Result Step Refusal) →
     Advances old.used (run old.catalog.now old.limits old.used (machine_of old)) piece result (machine_of new) → IfOk result (λ step. new.used ≡ old.used + step.used) → SameSetting old new →
     IfOk result (λ step. (u : List ℕ) (s : List (Value × ℕ)) → Stands old u s → Stands new (u ++ take step.used piece) (s ++ given_at step.value (length u + step.used)))
-step_far old new piece (Err refusal) advances counts setting = tt
-step_far old new piece (Ok step) advances counts setting = λ u s h.
+step_stands old new piece (Err refusal) advances counts setting = tt
+step_stands old new piece (Ok step) advances counts setting = λ u s h.
     let before = h.counted in
     record {
       fine = setting.failed ∙ h.fine;

@@ -22,7 +22,7 @@ use Rattle.ion_binary.specs.Views.{machine_of, body_so_far, Gave, GaveLast, Does
 use Rattle.ion_binary.specs.Bulk.{body_goes, pad_goes}
 
 -- the machine of a reader with this phase and these octets in its memory
-abbrev with_phase : ℕ → ℕ → List Slot → List Frame → List ℕ → Phase → Machine
+abbrev pub with_phase : ℕ → ℕ → List Slot → List Frame → List ℕ → Phase → Machine
 with_phase used start c fs kept phase = record { used = used; start = start; context = c; frames = fs; phase = phase; body = body_so_far phase kept }
 
 module _ (g : Catalog) (l : Limits) (used start : ℕ) (c : List Slot) (fs : List Frame) (kept : List ℕ) where

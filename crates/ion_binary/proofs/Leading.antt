@@ -45,7 +45,7 @@ module _ (g : Catalog) (l : Limits) (to : ℕ) where
   }
 
 -- as much as is behind an octet is all behind it
-whole_rest : (piece : List ℕ) (i : ℕ) → take (length piece - i) (drop i piece) ≡ drop i piece
+pub whole_rest : (piece : List ℕ) (i : ℕ) → take (length piece - i) (drop i piece) ≡ drop i piece
 whole_rest piece i = grind (arith, common_steps)
 
 -- octets of the rest of the piece that were taken up at once lead on

@@ -8,3 +8,5 @@ pub mod Numbered
 pub mod Places
 pub mod Tabled
 pub mod Fronts
+pub mod Wholes
+pub mod Slotted

@@ -3,8 +3,7 @@ use Rattle.std.proofs.Common.{◌≡◌, ℕ, List, [], ◌∷◌, ◌++◌, map
 use Rattle.ion_model.specs.declared.value.Value.{Value}
 use Rattle.ion_model.specs.declared.value.Field.{Field}
 use Rattle.ion_model.specs.declared.value.Payload.TheVariants as payloads
-use Rattle.ion_model.specs.Measures.{bare, annotated}
-use Rattle.ion_binary.specs.Grammar.{field_of}
+use Rattle.ion_model.specs.Measures.{bare, annotated, field_of}
 use Rattle.ion_binary.specs.Output.{Names, string_value, table_value}
 
 abbrev the_name : Option (List ℕ)

@@ -7,7 +7,7 @@ use Rattle.ion_model.specs.declared.value.Payload.{Payload}
 use Rattle.ion_model.specs.declared.value.Payload.TheVariants as payloads
 use Rattle.ion_model.specs.declared.refusal.Reason.{Reason}
 use Rattle.ion_model.specs.declared.refusal.Reason.TheVariants.{ItemTooLong}
-use Rattle.ion_model.specs.Measures.{depth, bare, annotated}
+use Rattle.ion_model.specs.Measures.{depth, bare, annotated, field_of}
 use Rattle.ion_model.specs.MeasureLaws.{depth-out, depth-at-List, depth-at-Sexp, depth-at-Fields, deepest-more}
 use Rattle.ion_symtab.specs.declared.limits.Limits.{Limits}
 use Rattle.ion_symtab.specs.declared.catalog.Catalog.{Catalog}
@@ -26,7 +26,7 @@ use Rattle.ion_scalar.specs.Fields.{positional, Digits, none, more, VarUInt}
 use Rattle.ion_scalar.specs.Positional.{positional_push}
 use Rattle.ion_scalar.specs.Descriptor.{descriptor_of}
 use Rattle.ion_binary.specs.Opening.{opening_of}
-use Rattle.ion_binary.specs.Grammar.{Header, short, long, IsPad, skipped, Ids, no_ids, one_id, listed, field_of, Plain, is_null, is_truth, is_scalar, is_listing, is_struct, is_ordered, Binary, unannotated, wrapped, Sequence, nothing, one_more, padded, Fields, no_fields, one_field, padded_field, the_marker}
+use Rattle.ion_binary.specs.Grammar.{Header, short, long, IsPad, skipped, Ids, no_ids, one_id, listed, Plain, is_null, is_truth, is_scalar, is_listing, is_struct, is_ordered, Binary, unannotated, wrapped, Sequence, nothing, one_more, padded, Fields, no_fields, one_field, padded_field, the_marker}
 use Rattle.ion_binary.specs.Judge.{judge}
 use Rattle.ion_binary.specs.Judged.{judge_scalar}
 use Rattle.ion_binary.specs.Machine.{Outcome, at, in_body, end_of, levels, deliver, proceed, is_pad, is_wrapper, unless, or_else, too_long, misfits, stray, nameless, unending, outside, past, unfit, judged, open_struct, begin, sized, longer, unsized, one_octet, on_descriptor, count_came, annotation_came, number_came, on_body, on_pad, feed}

@@ -23,14 +23,14 @@ module _ (g : Catalog) (l : Limits) where
     pub given : List (Value × ℕ)
     pub ran : run g l 0 initial w ≡ record { given = given; now = Ok (at (length w) (length w) c [] Ready) }
     pub gave : plain given ≡ s
-    pub spaced : Spaced 0 given (length w)
+    pub spaced : Spaced l.item 0 given (length w)
 
-  longer_spaced : (u w : List ℕ) (given : List (Value × ℕ)) → Spaced 0 given (length u) → Spaced 0 given (length (u ++ w))
-  longer_spaced u w given h = let k = length-append u w in spaced_on 0 given (length u) (length (u ++ w)) h (omega arith)
+  longer_spaced : (u w : List ℕ) (given : List (Value × ℕ)) → Spaced l.item 0 given (length u) → Spaced l.item 0 given (length (u ++ w))
+  longer_spaced u w given h = let k = length-append u w in spaced_on l.item 0 given (length u) (length (u ++ w)) h (omega arith)
 
   -- more behind pieces
   behind : (u w : List ℕ) (s t : List Value) (c e : List Slot) (later : List (Value × ℕ)) → (d : Reads u s c) → run g l (length u) (at (length u) (length u) c [] Ready) w ≡ record { given = later; now = Ok (at (length (u ++ w)) (length (u ++ w)) e [] Ready) }
-      → plain later ≡ t → Spaced 0 (d.given ++ later) (length (u ++ w)) → Reads (u ++ w) (s ++ t) e
+      → plain later ≡ t → Spaced l.item 0 (d.given ++ later) (length (u ++ w)) → Reads (u ++ w) (s ++ t) e
   behind u w s t c e later d r p small = record {
     given = d.given ++ later;
     ran = run-append g l 0 (length u) u w (omega arith) initial ∙ (ap (λ x. then_run x (λ n. run g l (length u) n w)) d.ran ∙ ap (λ x. record { given = d.given ++ x.given; now = x.now }) r);
@@ -64,4 +64,4 @@ module _ (g : Catalog) (l : Limits) where
       let to = length (u ++ w) in
       behind u w s (v ∷ []) c c ((v, to) ∷ []) r
       (binary_run g l (length u) (length u) c [] to w v b top k (λ i. omega arith) (omega arith) ∙ ap (after to) (cond-false _ _ _ t))
-      refl (spaced_more 0 r.given (length u) v to r.spaced (omega arith))
+      refl (spaced_more l.item 0 r.given (length u) v to r.spaced (record { start = length u; end = to; behind = omega arith; within = omega arith; fits = omega arith; holds = omega arith }))

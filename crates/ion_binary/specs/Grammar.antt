@@ -8,7 +8,7 @@ use Rattle.ion_model.specs.declared.value.Payload.TheVariants as payloads
 use Rattle.ion_model.specs.declared.kind.Kind.{Kind}
 use Rattle.ion_model.specs.Decimals.{DecimalParts, IsDecimal}
 use Rattle.ion_model.specs.Timestamps.{TimestampParts}
-use Rattle.ion_model.specs.Measures.{depth, bare, annotated}
+use Rattle.ion_model.specs.Measures.{depth, bare, annotated, field_of}
 use Rattle.ion_model.specs.Kinds.{is_table}
 use Rattle.ion_scalar.specs.Fields.{positional, Digits, VarUInt}
 use Rattle.ion_scalar.specs.DecimalField.{IsDecimalField}
@@ -56,9 +56,6 @@ pub data Ids (c : List Slot) : List ℕ → List (Option (List ℕ)) → Type 0 
 abbrev pub listed : Listing → List Value → Payload
 listed listings.List vs = payloads.List vs
 listed listings.Sexp vs = payloads.Sexp vs
-
-abbrev pub field_of : Option (List ℕ) → Value → Field
-field_of s v = record { name = s; value = v }
 
 mutual
   -- these octets are a value of this payload without annotations
@@ -110,9 +107,9 @@ pub data Whole (g : Catalog) (l : Limits) : List ℕ → List Value → Type 0 w
   no_piece : Whole g l [] []
   document : (u : List ℕ) (s : List Value) (c : List Slot) → Pieces g l u s c → Whole g l u s
 
--- octets that may stand open behind whole pieces: of a marker at most three, of an item at most the limit on items, of a pad its header and less than it says
+-- octets that may stand open behind whole pieces: of a marker at most three, of an item at most the limit on items, of a pad its descriptor and the digits of a length below 2^63, or its header and less than that says
 pub data OpenRest (l : Limits) : List ℕ → Type 0 where
   of_marker : (w : List ℕ) → length w ≤ 3 → OpenRest l w
   of_item : (w : List ℕ) → length w ≤ l.item → OpenRest l w
-  of_pad_length : (b : ℕ) (w : List ℕ) → opening_of b ≡ Sized forms.Pad Follows → Digits w → OpenRest l (b ∷ w)
+  of_pad_length : (b : ℕ) (w : List ℕ) → opening_of b ≡ Sized forms.Pad Follows → Digits w → positional 128 w < 2 ^ 63 → OpenRest l (b ∷ w)
   of_pad : (h body : List ℕ) (n : ℕ) → Header forms.Pad n h → length body < n → OpenRest l (h ++ body)

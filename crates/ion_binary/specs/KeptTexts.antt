@@ -1,5 +1,5 @@
 -- The symbols of a value that is kept are of unknown text, or their texts are UTF-8.
-use Rattle.std.proofs.Common.{◌≡◌, List, [], ◌∷◌, ◌++◌, sym, subst}
+use Rattle.std.proofs.Common.{◌≡◌, List, sym, subst}
 use Rattle.std.specs.List.{flat_map}
 use Rattle.ion_model.specs.declared.value.Value.{Value}
 use Rattle.ion_model.specs.declared.value.Field.{Field}
@@ -7,13 +7,10 @@ use Rattle.ion_model.specs.declared.value.Payload.{Payload}
 use Rattle.ion_model.specs.declared.value.Payload.TheVariants as payloads
 use Rattle.ion_model.specs.declared.value.Payload.TheViews as views
 use Rattle.ion_model.specs.Measures.{Layer, annotated}
-use Rattle.ion_binary.specs.Output.{Names, symbols_of}
+use Rattle.ion_model.specs.KeptLaws.{texts_both}
+use Rattle.ion_model.specs.Kept.{AreTexts, IsKept, kept, KeptPayload, kept_null, kept_truth, kept_int, kept_decimal, kept_timestamp, kept_symbol, kept_string, kept_clob, kept_blob, kept_list, kept_sexp, kept_fields, KeptItems, no_items, an_item, KeptFields, no_fields, a_field}
+use Rattle.ion_binary.specs.Output.{symbols_of}
 use Rattle.ion_binary.specs.OutputLaws.{layer_symbols, field_symbols, symbols-out}
-use Rattle.ion_binary.specs.Kept.{AreTexts, IsKept, kept, KeptPayload, kept_null, kept_truth, kept_int, kept_decimal, kept_timestamp, kept_symbol, kept_string, kept_clob, kept_blob, kept_list, kept_sexp, kept_fields, KeptItems, no_items, an_item, KeptFields, no_fields, a_field}
-
-texts_both : (ss ts : Names) → AreTexts ss → AreTexts ts → AreTexts (ss ++ ts)
-texts_both [] ts h k = k
-texts_both (s ∷ ss) ts h k = (h.0, texts_both ss ts h.1 k)
 
 by_layer : (p : Payload) (d : Layer) → views.out-Payload p ≡ d → AreTexts (layer_symbols d) → AreTexts (layer_symbols (views.out-Payload p))
 by_layer p d e h = subst (λ (d : Layer). AreTexts (layer_symbols d)) (sym e) h
@@ -30,8 +27,8 @@ mutual
   payload_texts _ (kept_timestamp t h) = by_layer (payloads.Timestamp t) _ (views.outs-Timestamp t) tt
   payload_texts _ (kept_symbol s h) = by_layer (payloads.Symbol s) _ (views.outs-Symbol s) (h, tt)
   payload_texts _ (kept_string text h) = by_layer (payloads.Str text) _ (views.outs-Str text) tt
-  payload_texts _ (kept_clob body) = by_layer (payloads.Clob body) _ (views.outs-Clob body) tt
-  payload_texts _ (kept_blob body) = by_layer (payloads.Blob body) _ (views.outs-Blob body) tt
+  payload_texts _ (kept_clob body h) = by_layer (payloads.Clob body) _ (views.outs-Clob body) tt
+  payload_texts _ (kept_blob body h) = by_layer (payloads.Blob body) _ (views.outs-Blob body) tt
   payload_texts _ (kept_list vs k) = by_layer (payloads.List vs) _ (views.outs-List vs) (items_texts vs k)
   payload_texts _ (kept_sexp vs k) = by_layer (payloads.Sexp vs) _ (views.outs-Sexp vs) (items_texts vs k)
   payload_texts _ (kept_fields ms k) = by_layer (payloads.Fields ms) _ (views.outs-Fields ms) (fields_texts ms k)

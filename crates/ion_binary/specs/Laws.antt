@@ -4,22 +4,25 @@ use Rattle.std.proofs.lemmas.Bool.{cases_lt}
 use Rattle.std.proofs.Math.Seq.{take-append-add}
 use Rattle.ion_model.specs.declared.value.Value.{Value}
 use Rattle.ion_model.specs.declared.refusal.Refusal.{Refusal}
+use Rattle.ion_model.specs.declared.refusal.Reason.{Reason}
+use Rattle.ion_model.specs.declared.refusal.Reason.TheVariants.{Incomplete}
 use Rattle.ion_symtab.specs.declared.limits.Limits.{Limits}
 use Rattle.ion_symtab.specs.declared.catalog.Catalog.{Catalog}
 use Rattle.ion_symtab.specs.Slots.{Slot}
 use Rattle.ion_symtab.specs.Trace.{Streams, Grows, plain}
-use Rattle.ion_symtab.specs.Promises.{Refuses, BeginsNone, Shown, Shows, IsSmall, Spaced, NoTables, GivesNoTable}
+use Rattle.ion_symtab.specs.Promises.{Refuses, BeginsNone, Shown, Shows, IsSmall, Spaced, IsReadersReason, HasReasons, NoTables, GivesNoTable}
+use Rattle.ion_symtab.specs.PromiseLaws.{shown_once}
+use Rattle.ion_symtab.specs.Decided.{IsDecided}
 use Rattle.ion_binary.specs.declared.state.Frame.{Frame}
 use Rattle.ion_binary.specs.declared.state.Phase.{Phase}
 use Rattle.ion_binary.specs.declared.state.Phase.TheVariants.{InMarker, Ready, InNumber, InBody, InPad}
 use Rattle.ion_model.specs.Kinds.{is_table}
-use Rattle.ion_binary.specs.Grammar.{Pieces, begins, marked, skips, turns, holds, Document, Whole, no_piece, document, OpenRest}
+use Rattle.ion_binary.specs.Grammar.{Pieces, begins, marked, skips, turns, holds, the_marker, Document, Whole, no_piece, document, OpenRest}
 use Rattle.ion_binary.specs.Machine.{Machine, at, initial}
 use Rattle.ion_binary.specs.Run.{Run, run, whole, ends_of, refused_of, trace_of, trace}
 use Rattle.ion_binary.specs.Runs.{run-append, then_run, on_now}
 use Rattle.ion_binary.specs.Stands.{Standing, Stands}
 use Rattle.ion_binary.specs.Sound.{run_stands, initial_stands, Ended}
-use Rattle.ion_binary.specs.Decided.{IsDecided}
 use Rattle.ion_binary.specs.Steady.{Steady, FineFrames, feed_steady}
 use Rattle.ion_binary.specs.Small.{spaced_on}
 use Rattle.ion_binary.specs.Documents.{pieces_run}
@@ -68,6 +71,25 @@ one_stream g l u s t a b =
     let q = pieces_run g l u t b.0 b.1 in
     sym p.gave ∙ (ap (λ x. plain x.given) (sym p.ran ∙ q.ran) ∙ q.gave)
 
+-- pieces have an octet
+pieces_some : (g : Catalog) (l : Limits) (u : List ℕ) (s : List Value) (c : List Slot) → Pieces g l u s c → 0 < length u
+pieces_some g l _ _ _ begins = omega arith
+pieces_some g l _ _ _ (marked u s c d) = let i = pieces_some g l u s c d in let k = length-append u the_marker in omega arith
+pieces_some g l _ _ _ (skips u w s c d p) = let i = pieces_some g l u s c d in let k = length-append u w in omega arith
+pieces_some g l _ _ _ (turns u w s c e v d b t n p q) = let i = pieces_some g l u s c d in let k = length-append u w in omega arith
+pieces_some g l _ _ _ (holds u w s c v d b t p q) = let i = pieces_some g l u s c d in let k = length-append u w in omega arith
+
+-- whole pieces have one stream
+pub one_whole : (g : Catalog) (l : Limits) (u w : List ℕ) (s t : List Value) → u ≡ w → Whole g l u s → Whole g l w t → s ≡ t
+one_whole g l _ _ _ _ e no_piece no_piece = refl
+one_whole g l _ _ _ _ e no_piece (document w t c d) = let k : 0 ≡ length w = ap length e in let i = pieces_some g l w t c d in absurd (omega arith)
+one_whole g l _ _ _ _ e (document u s c d) no_piece = let k : length u ≡ 0 = ap length e in let i = pieces_some g l u s c d in absurd (omega arith)
+one_whole g l _ _ _ _ e (document u s c d) (document w t b f) = one_stream g l w s t (subst (λ x. Document g l x s) e (c, d)) (b, f)
+
+-- octets show one stream
+pub one_shown : (g : Catalog) (l : Limits) (u : List ℕ) (s t : List Value) → Shown (λ front following s. Whole g l front s) u s → Shown (λ front following s. Whole g l front s) u t → s ≡ t
+one_shown g l u s t a b = shown_once (λ front following s. Whole g l front s) u s t (λ front following p q. one_whole g l front front s t refl p q) a b
+
 -- what the machine holds behind octets stands for them
 pub ran_stands : (g : Catalog) (l : Limits) (u : List ℕ) (given : List (Value × ℕ)) (m : Machine) → run g l 0 initial u ≡ record { given = given; now = Ok m } → Stands g l u (plain given) m
 ran_stands g l u given m e = subst (λ (r : Run). Ended g l u [] r.given r.now) e (run_stands g l 0 initial [] u [] (initial_stands g l))
@@ -95,10 +117,10 @@ shows_now g l u given (Ok m) ran h =
         front = c.cut.front;
         open_rest = c.cut.rest;
         parts = c.cut.parts;
-        whole = λ _. c.cut.whole;
+        whole = λ following octets. c.cut.whole;
         longest = λ v rest t e w.
             let now : (run g l 0 initial (v ++ rest)).now ≡ Ok m = ap (λ x. (run g l 0 initial x).now) (sym e) ∙ ap (λ (r : Run). r.now) ran in
-            let k = whole_within g l v rest t m (w []) now in
+            let k = whole_within g l v rest t m (w [] tt) now in
             omega arith;
       };
       rest = c.open_rest;
@@ -121,8 +143,8 @@ stop_shown g l u r p =
       front = c.cut.front;
       open_rest = c.cut.rest ++ p.b ∷ [];
       parts = ap (λ x. x ++ p.b ∷ []) c.cut.parts ∙ append_assoc c.cut.front c.cut.rest (p.b ∷ []);
-      whole = λ _. c.cut.whole;
-      longest = λ v rest t e w. let k : length v ≤ p.n.start = longest v rest t e (w []) in omega arith;
+      whole = λ following octets. c.cut.whole;
+      longest = λ v rest t e w. let k : length v ≤ p.n.start = longest v rest t e (w [] tt) in omega arith;
     }
   where
     inside : (v rest : List ℕ) (t : List Value) → p.before ++ p.b ∷ [] ≡ v ++ rest → length v ≤ length p.before → Whole g l v t → length v ≤ p.n.start
@@ -187,6 +209,25 @@ unfinished_now g l u given (Ok m) r ran h k =
 pub unfinished : (g : Catalog) (l : Limits) (u : List ℕ) (r : Refusal) → (trace g l u).refused ≡ None → (trace g l u).ends ≡ Err r → r.offset ≡ length u
 unfinished g l u r h k = unfinished_now g l u (run g l 0 initial u).given (run g l 0 initial u).now r refl h k
 
+readers_reason : (reason : Reason) → IsDecided reason → IsReadersReason reason
+readers_reason reason d = record { whole_memory = λ i. subst IsDecided i d; no_duplicate = λ i. subst IsDecided i d; no_bad_table = λ i. subst IsDecided i d }
+
+step_reason : (g : Catalog) (l : Limits) (u : List ℕ) (r : Refusal) → (run g l 0 initial u).now ≡ Err r → IsReadersReason r.reason
+step_reason g l u r e = readers_reason r.reason (decided g l u r (stop_of g l 0 initial u r e))
+
+end_reason : (g : Catalog) (l : Limits) (u : List ℕ) (now : Result Machine Refusal) (r : Refusal) → (run g l 0 initial u).now ≡ now → ends_of now ≡ Err r → IsReadersReason r.reason
+end_reason g l u (Err q) r ran h = let same : q ≡ r = cc in subst (λ (x : Refusal). IsReadersReason x.reason) same (step_reason g l u q ran)
+end_reason g l u (Ok m) r ran h =
+    let reason : Incomplete ≡ r.reason = ap (λ (q : Refusal). q.reason) (cond_offset (whole m.phase m.frames) None _ r h) in
+    subst IsReadersReason reason (record { whole_memory = λ i. cc; no_duplicate = λ i. cc; no_bad_table = λ i. cc })
+
+-- neither a step nor the end refuses for want of memory, or for what only a catalog is refused
+pub reasons : (g : Catalog) (l : Limits) (u : List ℕ) → HasReasons (trace g l u)
+reasons g l u = record {
+  step = λ r h. step_reason g l u r (refused_is (run g l 0 initial u).now r h);
+  end = λ r h. end_reason g l u (run g l 0 initial u).now r refl h;
+}
+
 plain_long : (given : List (Value × ℕ)) → length (plain given) ≡ length given
 plain_long [] = refl
 plain_long (v ∷ given) = omega (arith, plain_long given)
@@ -195,11 +236,11 @@ no_values : (given : List (Value × ℕ)) → length given ≡ 0 → given ≡ [
 no_values [] h = refl
 no_values (v ∷ given) h = absurd (omega arith)
 
-spaced_whole : (g : Catalog) (l : Limits) (front rest : List ℕ) (s : List Value) (given : List (Value × ℕ)) (m : Machine) → Whole g l front s → run g l 0 initial (front ++ rest) ≡ record { given = given; now = Ok m } → plain given ≡ s → Spaced 0 given (length (front ++ rest))
+spaced_whole : (g : Catalog) (l : Limits) (front rest : List ℕ) (s : List Value) (given : List (Value × ℕ)) (m : Machine) → Whole g l front s → run g l 0 initial (front ++ rest) ≡ record { given = given; now = Ok m } → plain given ≡ s → Spaced l.item 0 given (length (front ++ rest))
 spaced_whole g l _ rest _ given m no_piece ran e =
     let k = plain_long given in
     let n : length (plain given) ≡ 0 = ap length e in
-    subst (λ (x : List (Value × ℕ)). Spaced 0 x (length rest)) (sym (no_values given (omega arith))) (omega arith)
+    subst (λ (x : List (Value × ℕ)). Spaced l.item 0 x (length rest)) (sym (no_values given (omega arith))) (omega arith)
 spaced_whole g l _ rest _ given m (document front s c d) ran e =
     let r = pieces_run g l front s c d in
     let later = (run g l (length front) (at (length front) (length front) c [] Ready) rest).given in
@@ -211,20 +252,20 @@ spaced_whole g l _ rest _ given m (document front s c d) ran e =
     let same : length (plain given) ≡ length (plain r.given) = ap length (e ∙ sym r.gave) in
     let alone : given ≡ r.given = cut ∙ (ap (λ x. r.given ++ x) (no_values later (omega arith)) ∙ append-nil r.given) in
     let long = length-append front rest in
-    subst (λ (x : List (Value × ℕ)). Spaced 0 x (length (front ++ rest))) (sym alone) (spaced_on 0 r.given (length front) (length (front ++ rest)) r.spaced (omega arith))
+    subst (λ (x : List (Value × ℕ)). Spaced l.item 0 x (length (front ++ rest))) (sym alone) (spaced_on l.item 0 r.given (length front) (length (front ++ rest)) r.spaced (omega arith))
 
-spaced_ok : (g : Catalog) (l : Limits) (u : List ℕ) (given : List (Value × ℕ)) (m : Machine) → run g l 0 initial u ≡ record { given = given; now = Ok m } → Spaced 0 given (length u)
+spaced_ok : (g : Catalog) (l : Limits) (u : List ℕ) (given : List (Value × ℕ)) (m : Machine) → run g l 0 initial u ≡ record { given = given; now = Ok m } → Spaced l.item 0 given (length u)
 spaced_ok g l u given m ran =
     let c = cut_of g l u given m ran in
-    subst (λ x. Spaced 0 given (length x)) (sym c.cut.parts) (spaced_whole g l c.cut.front c.cut.rest (plain given) given m c.cut.whole (ap (run g l 0 initial) (sym c.cut.parts) ∙ ran) refl)
+    subst (λ x. Spaced l.item 0 given (length x)) (sym c.cut.parts) (spaced_whole g l c.cut.front c.cut.rest (plain given) given m c.cut.whole (ap (run g l 0 initial) (sym c.cut.parts) ∙ ran) refl)
 
-spaced_now : (g : Catalog) (l : Limits) (u : List ℕ) (now : Result Machine Refusal) → (run g l 0 initial u).now ≡ now → Spaced 0 (run g l 0 initial u).given (length u)
+spaced_now : (g : Catalog) (l : Limits) (u : List ℕ) (now : Result Machine Refusal) → (run g l 0 initial u).now ≡ now → Spaced l.item 0 (run g l 0 initial u).given (length u)
 spaced_now g l u (Ok m) e = spaced_ok g l u (run g l 0 initial u).given m (ap (λ x. record { given = (run g l 0 initial u).given; now = x }) e)
 spaced_now g l u (Err r) e =
     let p = stop_of g l 0 initial u r e in
     let n : length u ≡ length (p.before ++ p.b ∷ p.rest) = ap length p.parts in
     let k = length-append p.before (p.b ∷ p.rest) in
-    spaced_on 0 (run g l 0 initial u).given (length p.before) (length u) (spaced_ok g l p.before (run g l 0 initial u).given p.n p.ran) (omega arith)
+    spaced_on l.item 0 (run g l 0 initial u).given (length p.before) (length u) (spaced_ok g l p.before (run g l 0 initial u).given p.n p.ran) (omega arith)
 
 cond_last : (b : Bool) (r : Refusal) (v : Value) → cond b (Ok None) (Err r) ≡ Ok (Some v) → ⊥
 cond_last Bool.true r v h = cc
@@ -234,8 +275,8 @@ no_last : (now : Result Machine Refusal) (v : Value) → ends_of now ≡ Ok (Som
 no_last (Ok m) v h = cond_last (whole m.phase m.frames) _ v h
 no_last (Err e) v h = cc
 
--- a value has at most as many nodes as octets were used for it
-pub small : (g : Catalog) (l : Limits) (u : List ℕ) → IsSmall u (trace g l u)
+-- a value has at most as many nodes as its item has octets
+pub small : (g : Catalog) (l : Limits) (u : List ℕ) → IsSmall l.item u (trace g l u)
 small g l u = record { given = spaced_now g l u (run g l 0 initial u).now refl; last = λ v h. absurd (no_last (run g l 0 initial u).now v h) }
 
 grows_on : (given : List (Value × ℕ)) (now : Result Machine Refusal) (rest : Machine → Run) →
@@ -262,7 +303,7 @@ pieces_values g l _ _ _ (skips u w s c d p) = pieces_values g l u s c d
 pieces_values g l _ _ _ (turns u w s c e v d b t n p q) = pieces_values g l u s c d
 pieces_values g l _ _ _ (holds u w s c v d b t p q) = no_tables_more s v (pieces_values g l u s c d) t
 
-whole_values : (g : Catalog) (l : Limits) (w : List ℕ) (s : List Value) → Whole g l w s → NoTables s
+pub whole_values : (g : Catalog) (l : Limits) (w : List ℕ) (s : List Value) → Whole g l w s → NoTables s
 whole_values g l _ _ no_piece = tt
 whole_values g l _ _ (document u s c d) = pieces_values g l u s c d
 

@@ -5,7 +5,7 @@ use Rattle.ion_model.specs.declared.value.Payload.{Payload}
 use Rattle.ion_model.specs.declared.value.Payload.TheVariants as payloads
 use Rattle.ion_model.specs.declared.refusal.Reason.{Reason}
 use Rattle.ion_model.specs.declared.refusal.Reason.TheVariants.{TooLarge, Malformed, Version, Depth, ItemTooLong}
-use Rattle.ion_model.specs.Measures.{bare, annotated}
+use Rattle.ion_model.specs.Measures.{bare, annotated, field_of}
 use Rattle.ion_model.specs.Kinds.{is_table}
 use Rattle.ion_scalar.specs.declared.descriptor.Size.TheVariants.{Known, Follows}
 use Rattle.ion_symtab.specs.declared.limits.Limits.{Limits}
@@ -26,7 +26,7 @@ use Rattle.ion_binary.specs.declared.state.Purpose.TheVariants as purposes
 use Rattle.ion_binary.specs.declared.state.Phase.{Phase}
 use Rattle.ion_binary.specs.declared.state.Phase.TheVariants.{InMarker, Ready, InNumber, InBody, InPad}
 use Rattle.ion_binary.specs.Opening.{opening_of}
-use Rattle.ion_binary.specs.Grammar.{listed, field_of}
+use Rattle.ion_binary.specs.Grammar.{listed}
 use Rattle.ion_binary.specs.Judge.{judge}
 
 -- `used` octets were taken up, the open piece of the top level begins at `start`, `context` are the slots of symbol ids there,

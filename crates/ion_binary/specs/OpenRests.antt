@@ -1,10 +1,11 @@
 -- What octets that were not refused are: whole pieces, and then an open rest.
-use Rattle.std.proofs.Common.{◌≡◌, ℕ, ◌+◌, ◌<◌, ◌≤◌, List, [], ◌∷◌, ◌++◌, length, refl, ap, sym, ◌∙◌, subst, inl, inr, arith, length-append, append_assoc, append-nil, Bool, false, ◌⊎◌, Option}
+use Rattle.std.proofs.Common.{◌≡◌, ℕ, ◌+◌, ◌^◌, ◌<◌, ◌≤◌, List, [], ◌∷◌, ◌++◌, length, refl, ap, sym, ◌∙◌, subst, inl, inr, arith, length-append, append_assoc, append-nil, Bool, false, ◌⊎◌, Option}
 use Rattle.ion_model.specs.declared.value.Value.{Value}
 use Rattle.ion_model.specs.declared.value.Field.{Field}
 use Rattle.ion_symtab.specs.declared.limits.Limits.{Limits}
 use Rattle.ion_symtab.specs.declared.catalog.Catalog.{Catalog}
 use Rattle.ion_symtab.specs.Slots.{Slot}
+use Rattle.ion_symtab.specs.Decided.{Decides, resolve_decides}
 use Rattle.ion_binary.specs.declared.form.Form.{Form}
 use Rattle.ion_binary.specs.declared.form.Form.TheVariants as forms
 use Rattle.ion_binary.specs.declared.form.Scalar.{Scalar}
@@ -21,7 +22,6 @@ use Rattle.ion_scalar.specs.declared.descriptor.Size.TheVariants.{Follows}
 use Rattle.ion_binary.specs.declared.form.Opening.TheVariants.{Sized}
 use Rattle.ion_binary.specs.Machine.{end_of, is_pad}
 use Rattle.ion_binary.specs.Stands.{Ends, Box, IsStruct, InStruct, Opened, Front, MarkerStands, LengthStands, NumberStands, BodyStands, Standing, marker_place}
-use Rattle.ion_binary.specs.Decided.{Decides, resolve_decides}
 use Rattle.ion_binary.specs.Steady.{FineFrames}
 
 module _ (g : Catalog) (l : Limits) where
@@ -158,7 +158,7 @@ module _ (g : Catalog) (l : Limits) where
       go (inl p) =
           record {
             cut = record { front = o.before; rest = o.b ∷ o.digits; parts = o.whole; whole = document o.before s c o.outer.0; at = o.outer.1 };
-            open_rest = of_pad_length o.b o.digits (o.head ∙ ap (λ f. Sized f Follows) p) o.small;
+            open_rest = of_pad_length o.b o.digits (o.head ∙ ap (λ f. Sized f Follows) p) o.small (subst (λ n. n < 2 ^ 63) o.value o.bound);
           }
       go (inr p) = item_open start s u (length_cut start c s [] form a u o) (o.going p)
 

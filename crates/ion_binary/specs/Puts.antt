@@ -1,5 +1,5 @@
 -- What a stream's values add to its document, one behind the other.
-use Rattle.std.proofs.Common.{◌≡◌, ℕ, List, [], ◌∷◌, ◌++◌, Bool, true, refl, ap, sym, ◌∙◌, append_assoc, append-nil}
+use Rattle.std.proofs.Common.{◌≡◌, ℕ, List, [], ◌∷◌, ◌++◌, refl, ap, sym, ◌∙◌, append_assoc}
 use Rattle.ion_model.specs.declared.value.Value.{Value}
 use Rattle.ion_binary.specs.Output.{Progress, adds, after, opening, bin_from}
 

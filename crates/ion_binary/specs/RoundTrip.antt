@@ -3,13 +3,13 @@ use Rattle.std.proofs.Common.{◌≡◌, ℕ, suc, ◌≤◌, ◌<◌, true, fal
 use Rattle.ion_model.specs.declared.value.Value.{Value}
 use Rattle.ion_model.specs.Kinds.{is_table}
 use Rattle.ion_model.specs.Measures.{depth}
+use Rattle.ion_model.specs.Kept.{IsKept, AreKept}
 use Rattle.ion_symtab.specs.declared.limits.Limits.{Limits}
 use Rattle.ion_symtab.specs.declared.catalog.Catalog.{Catalog}
 use Rattle.ion_symtab.specs.Slots.{greatest_id}
 use Rattle.ion_symtab.specs.Promises.{NoTables}
 use Rattle.ion_binary.specs.Grammar.{the_marker, Pieces, begins, holds, Document}
 use Rattle.ion_binary.specs.Output.{Names, Progress, system_names, symbols_of, value_octets, table_octets, names_after, bin_from, bin_of}
-use Rattle.ion_binary.specs.Kept.{IsKept, AreKept}
 use Rattle.ion_binary.specs.KeptTexts.{value_texts}
 use Rattle.ion_binary.specs.Written.{value_is}
 use Rattle.ion_binary.specs.Names.{AreAmong, all_among_more, Starts, starts_more, unknown_among, slots, slots_system, names_resolve, AreKnown, Grown, grown}

@@ -1,4 +1,4 @@
--- A value has at most as many nodes as octets.
+-- A value has at most as many nodes as its item has octets.
 use Rattle.std.proofs.Common.{◌≡◌, ℕ, suc, ◌+◌, ◌≤◌, List, [], ◌∷◌, ◌++◌, length, map, sum, Option, pos, neg_ℤ, refl, arith, length-append}
 use Rattle.std.specs.List.{sum_by}
 use Rattle.std.proofs.lemmas.List.Sums.{sum-map, sum_by-append, sum_by-cons}
@@ -7,15 +7,15 @@ use Rattle.ion_model.specs.declared.value.Field.{Field}
 use Rattle.ion_model.specs.declared.value.Payload.{Payload}
 use Rattle.ion_model.specs.declared.value.Payload.TheVariants as payloads
 use Rattle.ion_model.specs.declared.value.Payload.TheViews as views
-use Rattle.ion_model.specs.Measures.{nodes, bare, annotated}
+use Rattle.ion_model.specs.Measures.{nodes, bare, annotated, field_of}
 use Rattle.ion_model.specs.MeasureLaws.{nodes-out, nodes-bare, nodes-Null, nodes-Truth, nodes-more}
 use Rattle.ion_scalar.specs.Fields.{positional}
-use Rattle.ion_symtab.specs.Promises.{Spaced}
+use Rattle.ion_symtab.specs.Promises.{HasItem, Spaced}
 use Rattle.ion_symtab.specs.Slots.{Slot}
 use Rattle.ion_binary.specs.declared.form.Listing.{Listing}
 use Rattle.ion_binary.specs.declared.form.Listing.TheVariants as listings
 use Rattle.ion_binary.specs.declared.form.Scalar.{Scalar}
-use Rattle.ion_binary.specs.Grammar.{IsScalar, is_int, is_negative, is_decimal, is_timestamp, is_symbol, is_string, is_clob, is_blob, Ids, no_ids, one_id, listed, field_of, Plain, is_null, is_truth, is_scalar, is_listing, is_struct, is_ordered, Binary, unannotated, wrapped, Sequence, nothing, one_more, padded, Fields, no_fields, one_field, padded_field}
+use Rattle.ion_binary.specs.Grammar.{IsScalar, is_int, is_negative, is_decimal, is_timestamp, is_symbol, is_string, is_clob, is_blob, Ids, no_ids, one_id, listed, Plain, is_null, is_truth, is_scalar, is_listing, is_struct, is_ordered, Binary, unannotated, wrapped, Sequence, nothing, one_more, padded, Fields, no_fields, one_field, padded_field}
 use Rattle.ion_binary.specs.Complete.{header_some, length_VarUInt}
 
 scalar_nodes : (c : List Slot) (body : List ℕ) (t : Scalar) (p : Payload) → IsScalar c body t p → nodes (bare p) ≡ 1
@@ -99,11 +99,15 @@ mutual
       omega arith
 
 -- more octets change nothing
-pub spaced_on : (from : ℕ) (given : List (Value × ℕ)) (to later : ℕ) → Spaced from given to → to ≤ later → Spaced from given later
-spaced_on from [] to later h e = omega arith
-spaced_on from ((v, at) ∷ given) to later h e = (h.0, spaced_on at given to later h.1 e)
+pub spaced_on : (item from : ℕ) (given : List (Value × ℕ)) (to later : ℕ) → Spaced item from given to → to ≤ later → Spaced item from given later
+spaced_on item from [] to later h e = omega arith
+spaced_on item from ((v, at) ∷ given) to later h e = (h.0, spaced_on item at given to later h.1 e)
 
--- one value more, behind at least as many octets as it has nodes
-pub spaced_more : (from : ℕ) (given : List (Value × ℕ)) (to : ℕ) (v : Value) (later : ℕ) → Spaced from given to → to + nodes v ≤ later → Spaced from (given ++ (v, later) ∷ []) later
-spaced_more from [] to v later h e = (omega arith, omega arith)
-spaced_more from ((w, at) ∷ given) to v later h e = (h.0, spaced_more at given to v later h.1 e)
+-- an item behind octets stands behind fewer of them
+item_behind : (item from to at : ℕ) (v : Value) → from ≤ to → HasItem item to at v → HasItem item from at v
+item_behind item from to at v e h = let behind = h.behind in record { start = h.start; end = h.end; behind = omega arith; within = h.within; fits = h.fits; holds = h.holds }
+
+-- one value more, whose item stands behind these octets
+pub spaced_more : (item from : ℕ) (given : List (Value × ℕ)) (to : ℕ) (v : Value) (later : ℕ) → Spaced item from given to → HasItem item to later v → Spaced item from (given ++ (v, later) ∷ []) later
+spaced_more item from [] to v later h e = (item_behind item from to later v h e, omega arith)
+spaced_more item from ((w, at) ∷ given) to v later h e = (h.0, spaced_more item at given to v later h.1 e)

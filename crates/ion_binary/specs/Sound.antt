@@ -8,7 +8,7 @@ use Rattle.ion_model.specs.declared.value.Payload.TheVariants as payloads
 use Rattle.ion_model.specs.declared.refusal.Reason.{Reason}
 use Rattle.ion_model.specs.declared.refusal.Reason.TheVariants.{Malformed, Float, ItemTooLong}
 use Rattle.ion_model.specs.declared.refusal.Refusal.{Refusal}
-use Rattle.ion_model.specs.Measures.{depth, bare, annotated}
+use Rattle.ion_model.specs.Measures.{depth, bare, annotated, field_of}
 use Rattle.ion_model.specs.MeasureLaws.{depth-Null, depth-Truth, deepest-more, depth-out}
 use Rattle.ion_model.specs.Kinds.{is_table}
 use Rattle.ion_symtab.specs.declared.limits.Limits.{Limits}
@@ -40,7 +40,7 @@ use Rattle.ion_binary.specs.declared.state.Purpose.TheVariants as purposes
 use Rattle.ion_binary.specs.declared.state.Phase.{Phase}
 use Rattle.ion_binary.specs.declared.state.Phase.TheVariants.{InMarker, Ready, InNumber, InBody, InPad}
 use Rattle.ion_binary.specs.Opening.{opening_of, opens, body_of, with_octets}
-use Rattle.ion_binary.specs.Grammar.{Header, short, long, IsPad, skipped, Ids, no_ids, one_id, listed, field_of, Plain, is_null, is_truth, is_scalar, is_listing, is_struct, is_ordered, Binary, unannotated, wrapped, nothing, one_more, padded, Fields, no_fields, one_field, padded_field, Pieces, begins, marked, skips, turns, holds, the_marker}
+use Rattle.ion_binary.specs.Grammar.{Header, short, long, IsPad, skipped, Ids, no_ids, one_id, listed, Plain, is_null, is_truth, is_scalar, is_listing, is_struct, is_ordered, Binary, unannotated, wrapped, nothing, one_more, padded, Fields, no_fields, one_field, padded_field, Pieces, begins, marked, skips, turns, holds, the_marker}
 use Rattle.ion_binary.specs.Judge.{judge}
 use Rattle.ion_binary.specs.Judged.{judge_sound, scalar_flat}
 use Rattle.ion_binary.specs.Machine.{Machine, Outcome, goes, gives, refuses, at, end_of, levels, turned, deliver, proceed, is_pad, is_wrapper, unless, or_else, misfits, stray, nameless, unending, past, unfit, judged, open_struct, begin, sized, longer, one_octet, on_descriptor, annotation_came, number_came, on_number, on_marker, on_body, on_pad, on_phase, feed, initial}
@@ -75,7 +75,7 @@ binary_comes c (frames.Fields end ms ∷ fs) w v i h = h
 binary_comes c (frames.Named end ms name ∷ fs) w v i h = h
 
 -- all forms but a pad may end at the same places
-ends_back : (l : Limits) (start : ℕ) (fs : List Frame) (form : Form) (to : ℕ) → is_pad form ≡ false → Ends l start fs form to → Ends l start fs forms.Struct to
+pub ends_back : (l : Limits) (start : ℕ) (fs : List Frame) (form : Form) (to : ℕ) → is_pad form ≡ false → Ends l start fs form to → Ends l start fs forms.Struct to
 ends_back l start [] form to i r = λ p. r i
 ends_back l start (frames.Annotated end ss ∷ fs) form to i r = r
 ends_back l start (frames.Items end x vs ∷ fs) form to i r = r
@@ -118,7 +118,7 @@ top_room : (b : Bool) (item start to : ℕ) → cond (b || nat_le to (start + it
 top_room true item start to h e = absurd cc
 top_room false item start to h e = leb-true to (start + item) (cond_none _ _ h)
 
-misfits_ends : (l : Limits) (start : ℕ) (fs : List Frame) (form : Form) (to : ℕ) → misfits l.item start fs form to ≡ None → Ends l start fs form to
+pub misfits_ends : (l : Limits) (start : ℕ) (fs : List Frame) (form : Form) (to : ℕ) → misfits l.item start fs form to ≡ None → Ends l start fs form to
 misfits_ends l start [] form to h = top_room (is_pad form) l.item start to h
 misfits_ends l start (frames.Annotated end ss ∷ fs) form to h = eqb-true to end (cond_none _ _ h)
 misfits_ends l start (frames.Items end x vs ∷ fs) form to h = leb-true to end (cond_none _ _ h)
@@ -400,15 +400,15 @@ module _ (g : Catalog) (l : Limits) where
       begin_stands mid start c s fs u h form n o (a j1.0) d e (misfits_ends l start fs form (mid + n) j2.0))
 
   -- a VarUInt goes on
-  goes_stands : (to start : ℕ) (c : List Slot) (s : List Value) (fs : List Frame) (u : List ℕ) (p : Purpose) (a b : ℕ) → NumberStands g l start c s fs p a u → b < 128 → to ≡ length (u ++ b ∷ [])
+  goes_stands : (to start : ℕ) (c : List Slot) (s : List Value) (fs : List Frame) (u : List ℕ) (p : Purpose) (a b : ℕ) → NumberStands g l start c s fs p a u → b < 128 → 128 * a + b < 2 ^ 63 → to ≡ length (u ++ b ∷ [])
       → Leaves g l (u ++ b ∷ []) s (longer l.item to start c fs p (128 * a + b))
-  goes_stands to start c s fs u p a b o h e = unless_leaves (u ++ b ∷ []) s _ (past l.item start fs p to) (λ j. record { used = e; standing = more_number fs p o j })
+  goes_stands to start c s fs u p a b o h bound e = unless_leaves (u ++ b ∷ []) s _ (past l.item start fs p to) (λ j. record { used = e; standing = more_number fs p o j })
     where
       value_of : (ds : List ℕ) → a ≡ positional 128 ds → 128 * a + b ≡ positional 128 (ds ++ b ∷ [])
       value_of ds v = let i = positional_push 128 ds b in omega arith
 
       more_number : (fs : List Frame) (p : Purpose) → NumberStands g l start c s fs p a u → past l.item start fs p to ≡ None → NumberStands g l start c s fs p (128 * a + b) (u ++ b ∷ [])
-      more_number fs (purposes.Length form) o j = record { before = o.before; b = o.b; digits = o.digits ++ b ∷ []; whole = ap (λ x. x ++ b ∷ []) o.whole ∙ append_assoc o.before (o.b ∷ o.digits) (b ∷ []); outer = o.outer; accepts = o.accepts; head = o.head; small = more o.digits b o.small h; value = value_of o.digits o.value; going = subst (Going l start fs form) e (unending_going l start fs form to j) }
+      more_number fs (purposes.Length form) o j = record { before = o.before; b = o.b; digits = o.digits ++ b ∷ []; whole = ap (λ x. x ++ b ∷ []) o.whole ∙ append_assoc o.before (o.b ∷ o.digits) (b ∷ []); outer = o.outer; accepts = o.accepts; head = o.head; small = more o.digits b o.small h; value = value_of o.digits o.value; bound = bound; going = subst (Going l start fs form) e (unending_going l start fs form to j) }
       more_number (frames.Fields end ms ∷ fs) purposes.FieldName o j = let k = ltb-true to end (cond_none _ _ j) in record { front = o.front; digits = o.digits ++ b ∷ []; whole = ap (λ x. x ++ b ∷ []) o.whole ∙ append_assoc o.front o.digits (b ∷ []); inside = o.inside; small = more o.digits b o.small h; value = value_of o.digits o.value; going = omega arith }
       more_number (frames.Annotated end ss ∷ fs) purposes.AnnotationsLength o j = let k = ltb-true to end (cond_none _ _ j) in record { front = o.front; digits = o.digits ++ b ∷ []; whole = ap (λ x. x ++ b ∷ []) o.whole ∙ append_assoc o.front o.digits (b ∷ []); box = o.box; bare = o.bare; none_yet = o.none_yet; small = more o.digits b o.small h; value = value_of o.digits o.value; going = omega arith }
       more_number (frames.Annotated end ss ∷ fs) (purposes.Annotation stop) o j =
@@ -528,7 +528,7 @@ module _ (g : Catalog) (l : Limits) where
   number_stands to start c s fs u p a b o e =
       cond_both (nat_lt b 128) _ _ (Leaves g l (u ++ b ∷ []) s)
       (λ j. cond_both (nat_lt (128 * a + b) (2 ^ 63)) _ _ (Leaves g l (u ++ b ∷ []) s)
-      (λ k. goes_stands to start c s fs u p a b o (ltb-true b 128 j) e) (λ k. tt))
+      (λ k. goes_stands to start c s fs u p a b o (ltb-true b 128 j) (ltb-true (128 * a + b) (2 ^ 63) k) e) (λ k. tt))
       (λ j. cond_both (nat_lt (128 * a + (b - 128)) (2 ^ 63)) _ _ (Leaves g l (u ++ b ∷ []) s)
       (λ k. came_stands to start c s fs u p a b (128 * a + (b - 128)) o (λ ds t v. ended ds a b t v (ltb-false b 128 j) (ltb-true (128 * a + (b - 128)) (2 ^ 63) k)) e) (λ k. tt))
 
@@ -556,7 +556,7 @@ module _ (g : Catalog) (l : Limits) where
       unless_leaves (u ++ b ∷ []) s _ (stray fs form) (λ j1.
       unless_leaves (u ++ b ∷ []) s _ (unending l.item start fs form to) (λ j2.
       unless_leaves (u ++ b ∷ []) s _ (nameless fs form) (λ j3.
-      record { used = e; standing = record { before = u; b = b; digits = []; whole = refl; outer = o.opened; accepts = stray_accepts fs form o.receives j1; head = i; small = none; value = refl; going = subst (Going l start fs form) e (unending_going l start fs form to j2) } })))
+      record { used = e; standing = record { before = u; b = b; digits = []; whole = refl; outer = o.opened; accepts = stray_accepts fs form o.receives j1; head = i; small = none; value = refl; bound = omega arith; going = subst (Going l start fs form) e (unending_going l start fs form to j2) } })))
 
   -- on an octet of a body
   body_stands : (to start : ℕ) (c : List Slot) (s : List Value) (fs : List Frame) (u : List ℕ) (b : ℕ) (t : Scalar) (n : ℕ) (came : List ℕ) → BodyStands g l start c s fs (forms.Scalar t) n came u → to ≡ length (u ++ b ∷ [])

@@ -1,5 +1,5 @@
 -- What octets and a machine have to do with one another.
-use Rattle.std.specs.Prelude.{◌≡◌, ℕ, suc, ◌+◌, ◌<◌, ◌≤◌, ◌⊎◌, Bool, true, false, List, [], ◌∷◌, ◌++◌, length, map, Option}
+use Rattle.std.specs.Prelude.{◌≡◌, ℕ, suc, ◌+◌, ◌^◌, ◌<◌, ◌≤◌, ◌⊎◌, Bool, true, false, List, [], ◌∷◌, ◌++◌, length, map, Option}
 use Rattle.ion_model.specs.declared.value.Value.{Value}
 use Rattle.ion_model.specs.declared.value.Field.{Field}
 use Rattle.ion_model.specs.Measures.{depth, greatest}
@@ -194,6 +194,7 @@ pub record LengthStands (g : Catalog) (l : Limits) (start : ℕ) (c : List Slot)
   pub head : opening_of b ≡ Sized form Follows
   pub small : Digits digits
   pub value : a ≡ positional 128 digits
+  pub bound : a < 2 ^ 63
   pub going : Going l start fs form (length u)
 
 -- in the id of a field name

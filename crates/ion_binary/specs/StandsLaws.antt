@@ -1,5 +1,5 @@
 -- What is known of a reader that stands for octets.
-use Rattle.std.proofs.Common.{◌≡◌, ℕ, ◌≤◌, List, length, ap, arith}
+use Rattle.std.proofs.Common.{◌≡◌, ℕ, ◌≤◌, List, length, ap, arith, None}
 use Rattle.ion_model.specs.declared.value.Value.{Value}
 use Rattle.ion_symtab.specs.declared.limits.Limits.{Limits}
 use Rattle.ion_symtab.specs.declared.catalog.Catalog.{Catalog}
@@ -17,6 +17,12 @@ use Rattle.ion_binary.specs.OpenRests.{body_within}
 
 pub given_of : (r : BinaryReader) (u : List ℕ) (s : List (Value × ℕ)) → Stands r u s → (trace r.catalog.now r.limits u).given ≡ s
 given_of r u s h = ap (λ (x : Run). (trace_of x).given) h.ran
+
+pub not_failed : (r : BinaryReader) (u : List ℕ) (s : List (Value × ℕ)) → Stands r u s → r.failed ≡ None
+not_failed r u s h = h.fine
+
+pub not_refused : (r : BinaryReader) (u : List ℕ) (s : List (Value × ℕ)) → Stands r u s → (trace r.catalog.now r.limits u).refused ≡ None
+not_refused r u s h = ap (λ (x : Run). (trace_of x).refused) h.ran
 
 so_far_within : (g : Catalog) (l : Limits) (start : ℕ) (c : List Slot) (s : List Value) (fs : List Frame) (body : List ℕ) (phase : Phase) (u : List ℕ) → Standing g l start c s fs (body_so_far phase body) phase u → length (body_so_far phase body) ≤ l.item
 so_far_within g l start c s fs body (InBody t n) u o = body_within g l start c s fs body t n u o

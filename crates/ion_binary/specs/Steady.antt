@@ -4,7 +4,7 @@ use Rattle.ion_model.specs.declared.value.Value.{Value}
 use Rattle.ion_model.specs.declared.value.Payload.{Payload}
 use Rattle.ion_model.specs.declared.value.Payload.TheVariants as payloads
 use Rattle.ion_model.specs.declared.refusal.Reason.{Reason}
-use Rattle.ion_model.specs.Measures.{bare, annotated}
+use Rattle.ion_model.specs.Measures.{bare, annotated, field_of}
 use Rattle.ion_model.specs.Kinds.{is_table}
 use Rattle.ion_scalar.specs.declared.descriptor.Descriptor.{Descriptor}
 use Rattle.ion_scalar.specs.declared.descriptor.Descriptor.TheVariants as descriptors
@@ -15,6 +15,7 @@ use Rattle.ion_symtab.specs.declared.limits.Limits.{Limits}
 use Rattle.ion_symtab.specs.declared.catalog.Catalog.{Catalog}
 use Rattle.ion_symtab.specs.Slots.{Slot, resolve}
 use Rattle.ion_symtab.specs.Next.{next}
+use Rattle.ion_symtab.specs.Decided.{IsDecided, Decides, either, resolve_decides, next_decides}
 use Rattle.ion_binary.specs.declared.form.Scalar.{Scalar}
 use Rattle.ion_binary.specs.declared.form.Scalar.TheVariants as scalars
 use Rattle.ion_binary.specs.declared.form.Form.{Form}
@@ -30,9 +31,9 @@ use Rattle.ion_binary.specs.declared.state.Purpose.TheVariants as purposes
 use Rattle.ion_binary.specs.declared.state.Phase.{Phase}
 use Rattle.ion_binary.specs.declared.state.Phase.TheVariants.{InMarker, Ready, InNumber, InBody, InPad}
 use Rattle.ion_binary.specs.Opening.{opening_of, opens, body_of, with_octets}
-use Rattle.ion_binary.specs.Grammar.{listed, field_of}
+use Rattle.ion_binary.specs.Grammar.{listed}
 use Rattle.ion_binary.specs.Judge.{judge}
-use Rattle.ion_binary.specs.Decided.{IsDecided, Decides, either, resolve_decides, next_decides, judge_decides}
+use Rattle.ion_binary.specs.Decided.{judge_decides}
 use Rattle.ion_binary.specs.Machine.{Machine, Outcome, goes, gives, refuses, at, end_of, levels, turned, deliver, proceed, is_pad, is_wrapper, unless, or_else, too_long, misfits, stray, nameless, unending, outside, past, unfit, judged, deeper, open_struct, begin, sized, longer, unsized, one_octet, on_descriptor, name_came, count_came, annotation_came, number_came, on_marker, on_phase, feed}
 
 -- the open piece begins at `start` or behind it

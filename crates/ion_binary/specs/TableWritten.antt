@@ -12,17 +12,17 @@ use Rattle.ion_model.specs.declared.value.Payload.TheVariants as payloads
 use Rattle.ion_model.specs.declared.value.Payload.TheViews as views
 use Rattle.ion_model.specs.declared.value.Payload.TheOpen.{Payload-F}
 use Rattle.ion_model.specs.Kinds.{is_table, is_table_of, layer_kind}
-use Rattle.ion_model.specs.Measures.{Layer, depth, greatest, bare}
+use Rattle.ion_model.specs.Measures.{Layer, depth, greatest, bare, field_of}
 use Rattle.ion_model.specs.MeasureLaws.{depth-out, layer_depth, depth-at-Fields, depth-List}
+use Rattle.ion_model.specs.Kept.{IsKept, kept, kept_symbol, kept_string, kept_list, kept_fields, KeptItems, no_items, an_item, no_fields, a_field}
 use Rattle.ion_symtab.specs.declared.limits.Limits.{Limits}
 use Rattle.ion_symtab.specs.declared.catalog.Catalog.{Catalog}
 use Rattle.ion_symtab.specs.Slots.{Slot, system_slots, greatest_id}
 use Rattle.ion_symtab.specs.Fields.{symbol_of, layer_symbol, elements_in}
 use Rattle.ion_symtab.specs.Next.{and_then, joined, appends_in, imported, local_slot, local_slots, next_layer, next}
-use Rattle.ion_binary.specs.Grammar.{field_of, Pieces, turns}
+use Rattle.ion_binary.specs.Grammar.{Pieces, turns}
 use Rattle.ion_binary.specs.Output.{Names, symbols_of, value_octets, text_of, string_value, table_value, table_octets}
 use Rattle.ion_binary.specs.OutputLaws.{layer_symbols, symbols-out}
-use Rattle.ion_binary.specs.Kept.{IsKept, kept, kept_symbol, kept_string, kept_list, kept_fields, KeptItems, no_items, an_item, no_fields, a_field}
 use Rattle.ion_binary.specs.Written.{Resolves, value_is}
 use Rattle.ion_binary.specs.Names.{AreAmong, Starts, slots, AreKnown, names_resolve_still, slots_more}
 

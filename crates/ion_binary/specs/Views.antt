@@ -29,6 +29,14 @@ open_frames r = reverse r.frames.items
 abbrev pub machine_of : BinaryReader → Machine
 machine_of r = record { used = r.used; start = r.start; context = r.context; frames = open_frames r; phase = r.phase; body = body_so_far r.phase r.body.items }
 
+-- the run of a reader's machine over octets
+abbrev pub run_of : BinaryReader → List ℕ → Run
+run_of r w = run r.catalog.now r.limits r.used (machine_of r) w
+
+-- what a reader's machine does with a value that ends behind `to` octets
+abbrev pub delivers : BinaryReader → ℕ → Value → Outcome
+delivers r to v = deliver r.catalog.now to r.start r.context (open_frames r) v
+
 -- the machine gave the value that is held
 abbrev pub Gave : Outcome → Option Value → Machine → Type 0
 Gave outcome (Some v) m = outcome ≡ gives v m

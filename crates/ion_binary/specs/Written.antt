@@ -9,10 +9,12 @@ use Rattle.ion_model.specs.declared.value.Field.{Field}
 use Rattle.ion_model.specs.declared.value.Payload.{Payload}
 use Rattle.ion_model.specs.declared.value.Payload.TheVariants as payloads
 use Rattle.ion_model.specs.declared.value.Payload.TheViews as views
-use Rattle.ion_model.specs.Measures.{Layer, annotated}
+use Rattle.ion_model.specs.Measures.{Layer, annotated, field_of}
 use Rattle.ion_model.specs.Decimals.{DecimalParts, IsDecimal}
 use Rattle.ion_model.specs.Timestamps.{TimestampParts, IsTimestamp}
 use Rattle.ion_model.specs.Ranges.{IsWhole}
+use Rattle.ion_model.specs.Kept.{IsKept, kept, KeptPayload, kept_null, kept_truth, kept_int, kept_decimal, kept_timestamp, kept_symbol, kept_string, kept_clob, kept_blob, kept_list, kept_sexp, kept_fields, KeptItems, no_items, an_item, KeptFields, a_field}
+use Rattle.ion_model.specs.Kept as keeping
 use Rattle.ion_scalar.specs.Fields.{positional, VarInt, short, long}
 use Rattle.ion_scalar.specs.Spellings.{var_uint_octets, uint_octets, decimal_octets}
 use Rattle.ion_scalar.specs.SpellingLaws.{positional_digits_of, var_uint_spelled}
@@ -28,13 +30,11 @@ use Rattle.ion_binary.specs.declared.form.Listing.{Listing}
 use Rattle.ion_binary.specs.declared.form.Listing.TheVariants as listings
 use Rattle.ion_binary.specs.declared.form.Form.TheVariants as forms
 use Rattle.ion_binary.specs.Opening.{opening_of}
-use Rattle.ion_binary.specs.Grammar.{IsScalar, is_int, is_negative, is_decimal, is_timestamp, is_symbol, is_string, is_clob, is_blob, Ids, no_ids, one_id, listed, field_of, Plain, is_null, is_truth, is_scalar, is_listing, is_struct, Binary, unannotated, wrapped, Sequence, nothing, one_more, Fields, one_field, padded_field}
+use Rattle.ion_binary.specs.Grammar.{IsScalar, is_int, is_negative, is_decimal, is_timestamp, is_symbol, is_string, is_clob, is_blob, Ids, no_ids, one_id, listed, Plain, is_null, is_truth, is_scalar, is_listing, is_struct, Binary, unannotated, wrapped, Sequence, nothing, one_more, Fields, one_field, padded_field}
 use Rattle.ion_binary.specs.Complete.{length_VarUInt, binary_some, plain_some, pad_some}
 use Rattle.ion_binary.specs.Output.{Names, id_of, symbols_of, framed, counted, null_octet, truth_octet, whole_octets, ids_octets, value_octets, header}
 use Rattle.ion_binary.specs.Output as output
 use Rattle.ion_binary.specs.OutputLaws.{layer_symbols, layer_octets, field_symbols, field_octets, symbols-out, octets-out}
-use Rattle.ion_binary.specs.Kept.{IsKept, kept, KeptPayload, kept_null, kept_truth, kept_int, kept_decimal, kept_timestamp, kept_symbol, kept_string, kept_clob, kept_blob, kept_list, kept_sexp, kept_fields, KeptItems, no_items, an_item, KeptFields, a_field}
-use Rattle.ion_binary.specs.Kept as keeping
 use Rattle.ion_binary.specs.Headers.{code_of, IsBodyLength, header_is, framed_long}
 use Rattle.ion_binary.specs.Grammar as grammar
 
@@ -207,8 +207,8 @@ module _ (c : List Slot) (names : Names) where
     payload_is _ (kept_timestamp t h) = by_layer (payloads.Timestamp t) _ (views.outs-Timestamp t) (λ r small. timestamp_is c t h small)
     payload_is _ (kept_symbol s h) = by_layer (payloads.Symbol s) _ (views.outs-Symbol s) (λ r small. symbol_is c (id_of names s) s r.0.0 r.0.1 small)
     payload_is _ (kept_string text h) = by_layer (payloads.Str text) _ (views.outs-Str text) (λ r small. framed_scalar c scalars.Str text (payloads.Str text) tt (is_string h) small)
-    payload_is _ (kept_clob body) = by_layer (payloads.Clob body) _ (views.outs-Clob body) (λ r small. framed_scalar c scalars.Clob body (payloads.Clob body) tt is_clob small)
-    payload_is _ (kept_blob body) = by_layer (payloads.Blob body) _ (views.outs-Blob body) (λ r small. framed_scalar c scalars.Blob body (payloads.Blob body) tt is_blob small)
+    payload_is _ (kept_clob body h) = by_layer (payloads.Clob body) _ (views.outs-Clob body) (λ r small. framed_scalar c scalars.Clob body (payloads.Clob body) tt is_clob small)
+    payload_is _ (kept_blob body h) = by_layer (payloads.Blob body) _ (views.outs-Blob body) (λ r small. framed_scalar c scalars.Blob body (payloads.Blob body) tt is_blob small)
     payload_is _ (kept_list vs k) =
         by_layer (payloads.List vs) _ (views.outs-List vs) (λ r small. listing_is listings.List _ vs (items_are [] [] vs nothing k r (omega (arith, framed_long 11 (flat_map (value_octets names) vs)))) small)
     payload_is _ (kept_sexp vs k) =

@@ -1,8 +1,10 @@
 //! Values as octets (Ion 1.0, "Ion Binary Encoding"). Each function appends to `out`, and its only fault
-//! is `Memory`, on which some of the octets may stand there.
+//! is `Memory`, on which some of the octets may stand there. What is written was a value that the types
+//! keep: its texts are UTF-8, its numbers in range.
 ghost use Rattle.std.specs.Prelude.{◌≡◌, ◌<◌, ◌++◌, OnOk, IsOkUnless};
 ghost use Rattle.std.specs.List.{flat_map};
 ghost use Rattle.ion_model.specs.declared.value.Payload.TheViews.{out-Payload};
+ghost use Rattle.ion_model.specs.Kept.{AreTexts, IsKept, KeptItems, KeptFields, KeptLayer};
 ghost use Rattle.ion_symtab.specs.declared.fault.Fault.TheVariants as faults;
 ghost use Rattle.ion_binary.specs.Output.{value_octets, framed, counted, ids_octets};
 ghost use Rattle.ion_binary.specs.OutputLaws.{layer_octets, field_octets};
@@ -25,6 +27,7 @@ pub(crate) fn put_value(
     out: &mut Vec<u8>,
 ) -> Result<(), Fault>
     ensures ok { OnOk result (out.new.items ≡ out.old.items ++ value_octets names.now value.now) }
+    ensures kept { OnOk result (IsKept value.now) }
     ensures memory { IsOkUnless result faults.Memory }
 {
     let annotations = value.annotations.as_slice();
@@ -44,10 +47,12 @@ fn put_annotations(
     out: &mut Vec<u8>,
 ) -> Result<(), Fault>
     ensures ok { OnOk result (out.new.items ≡ out.old.items ++ counted (ids_octets names.now annotations.now)) }
+    ensures kept { OnOk result (AreTexts annotations.now) }
     ensures memory { IsOkUnless result faults.Memory }
 {
     let mut ids = Vec::new(alloc);
     for symbol in annotations {
+        symbol.kept();
         put_id(names, symbol, &mut ids)?;
     }
     put_counted(&ids, out)
@@ -56,8 +61,10 @@ fn put_annotations(
 #[cycle(encoding)]
 fn put_payload(alloc: Global, names: &Names, value: &Value, out: &mut Vec<u8>) -> Result<(), Fault>
     ensures ok { OnOk result (out.new.items ≡ out.old.items ++ layer_octets names.now (out-Payload value.now.payload)) }
+    ensures kept { OnOk result (KeptLayer (out-Payload value.now.payload)) }
     ensures memory { IsOkUnless result faults.Memory }
 {
+    value.scalar_kept();
     match &value.payload {
         Payload::Null(kind) => put_null(*kind, out),
         Payload::Truth(truth) => put_truth(*truth, out),
@@ -84,6 +91,7 @@ fn put_items(
 ) -> Result<(), Fault>
     requires { code < 16 }
     ensures ok { OnOk result (out.new.items ≡ out.old.items ++ framed code (flat_map (value_octets names.now) items.now)) }
+    ensures kept { OnOk result (KeptItems items.now) }
     ensures memory { IsOkUnless result faults.Memory }
 {
     let mut body = Vec::new(alloc);
@@ -101,10 +109,12 @@ fn put_fields(
     out: &mut Vec<u8>,
 ) -> Result<(), Fault>
     ensures ok { OnOk result (out.new.items ≡ out.old.items ++ framed 13 (flat_map (field_octets names.now) fields.now)) }
+    ensures kept { OnOk result (KeptFields fields.now) }
     ensures memory { IsOkUnless result faults.Memory }
 {
     let mut body = Vec::new(alloc);
     for field in fields {
+        field.name.kept();
         put_id(names, &field.name, &mut body)?;
         put_value(alloc, names, &field.value, &mut body)?;
     }

@@ -50,6 +50,7 @@ pub enum Opening {
 
 /// What an octet opens where a value may begin.
 #[tactic(auto, unfolding(crate::specs::Opening::opening_of))]
+#[inline(always)]
 pub fn opening_of(octet: u8) -> Opening
     ensures { result ≡ opening_of octet }
 {
@@ -65,6 +66,7 @@ pub fn opening_of(octet: u8) -> Opening
 }
 
 /// What a type code with a body opens.
+#[inline(always)]
 fn body_of(code: u8, size: Size) -> Opening
     ensures { result ≡ body_of code size }
 {
@@ -86,6 +88,7 @@ fn body_of(code: u8, size: Size) -> Opening
 }
 
 /// A scalar that no body without octets is: the descriptor alone shows that it is none.
+#[inline(always)]
 fn with_octets(scalar: Scalar, size: Size) -> Opening
     ensures { result ≡ with_octets scalar size }
 {

@@ -1,21 +1,22 @@
 //! Laws of binary documents. Each stands on an empty function: its contract is the law.
 ghost use Rattle.std.specs.Prelude.{ℕ, List};
 ghost use Rattle.ion_model.specs.declared.value.Value.{Value};
+ghost use Rattle.ion_model.specs.Octets.{AreOctets};
+ghost use Rattle.ion_model.specs.Kept.{AreKept};
 ghost use Rattle.ion_symtab.specs.declared.limits.Limits.{Limits};
 ghost use Rattle.ion_symtab.specs.Tables.{Table};
 ghost use Rattle.ion_symtab.specs.Promises.{NoTables};
+ghost use Rattle.ion_symtab.specs.ContextTexts.{AreTextTables};
 ghost use Rattle.ion_binary.specs.Grammar.{Document};
 ghost use Rattle.ion_binary.specs.Output.{bin_of};
-ghost use Rattle.ion_binary.specs.Kept.{AreKept};
 ghost use Rattle.ion_binary.specs.RoundTrip.{FitsIn};
-ghost use Rattle.ion_binary.specs.ContextKept.{AreTextTables};
 
 /// What is written of values that the types keep, none of them a local symbol table, is a document
 /// with these values, under every catalog and all limits that admit it. The values of a document
-/// are such values, where the catalog's texts are UTF-8.
+/// of octets are such values, where the catalog's texts are UTF-8.
 pub fn round_trip()
     ensures written { (g : List Table) (l : Limits) (s : List Value) →
         AreKept s → NoTables s → FitsIn l s → Document g l (bin_of s) s }
     ensures again { (g h : List Table) (l m : Limits) (u : List ℕ) (s : List Value) →
-        AreTextTables g → Document g l u s → FitsIn m s → Document h m (bin_of s) s }
+        AreTextTables g → AreOctets u → Document g l u s → FitsIn m s → Document h m (bin_of s) s }
 {}

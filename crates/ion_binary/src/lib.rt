@@ -9,10 +9,12 @@ mod names;
 mod numbering;
 mod reader;
 mod scalar;
+mod slots;
 mod state;
 mod table;
 #[cfg(test)]
 mod tests;
+mod whole;
 mod writer;
 
 pub use reader::BinaryReader;

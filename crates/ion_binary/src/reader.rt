@@ -17,6 +17,7 @@ mod inside;
 mod items;
 mod numbers;
 mod room;
+mod whole;
 
 /// A reader of a binary document that comes in pieces (Ion 1.0, "Ion Binary Encoding").
 ///
@@ -44,6 +45,8 @@ pub struct BinaryReader<'a> {
     given: Option<Value>,
     /// The refusal that each call answers from now on.
     failed: Option<Refusal>,
+    /// Up to this octet values were tried whole in vain; the values inside aren't tried again.
+    walked: u64,
 }
 
 impl BinaryReader<'_> {

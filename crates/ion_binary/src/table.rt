@@ -1,9 +1,8 @@
 //! Local symbol tables that append to the context (Ion 1.0, "Symbols", "Local Symbol Tables").
 ghost use Rattle.std.specs.Prelude.{◌≡◌, ◌≤◌, Some, drop, length, map, MatchResult};
-ghost use Rattle.ion_model.specs.Measures.{bare};
+ghost use Rattle.ion_model.specs.Measures.{bare, field_of};
 ghost use Rattle.ion_symtab.specs.declared.fault.Fault.TheVariants as faults;
 ghost use Rattle.ion_binary.specs.Output.{string_value, table_value};
-ghost use Rattle.ion_binary.specs.Grammar.{field_of};
 
 use crate::names::{Key, Names};
 use ion_model::{Field, Payload, Sequence, Symbol, Text, Value};

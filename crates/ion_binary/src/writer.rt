@@ -1,9 +1,9 @@
 //! The writer of binary documents.
 ghost use Rattle.std.specs.Prelude.{◌≡◌, ◌++◌, Some, None, Ok, Err, true, false, MatchResult, OnOk, OnErr, IfErr, IfOk};
-ghost use Rattle.std.specs.Io.KnownBytes.{Appends};
+ghost use Rattle.ion_model.specs.Kept.{IsKept};
 ghost use Rattle.ion_symtab.specs.declared.fault.Fault.{Fault as AnyFault};
 ghost use Rattle.ion_symtab.specs.declared.fault.Fault.TheVariants as faults;
-ghost use Rattle.ion_symtab.specs.Took.{TookFront};
+ghost use Rattle.ion_symtab.specs.Took.{Took, TookFront};
 ghost use Rattle.ion_binary.specs.Output.{nothing_yet, adds, after, opening, names_after, system_names};
 ghost use Rattle.ion_binary.specs.Writing.{IsWritingFault, IsNumberingFault};
 
@@ -56,14 +56,15 @@ impl BinaryWriter {
     }
 
     /// Writes a value; before the first one the version marker. A local symbol table isn't one: it would be
-    /// written as it stands and read as a table.
+    /// written as it stands and read as a table. A value that is written is one that the types keep.
     ///
     /// `Memory`; `Write` where the device failed; `TooLarge` where a symbol would need an id above 2^31-1.
     /// After a fault each later call answers the same.
     pub fn put<W: Outlet>(&mut self, out: &mut W, value: &Value) -> Result<(), Fault>
-        ensures ok { OnOk result (Appends (W.took out.old) (W.took out.new) (adds self.old.progress value.now)) }
+        ensures ok { OnOk result (Took W.took W.written out.old out.new (adds self.old.progress value.now)) }
         ensures after { OnOk result (self.new ≡ record { progress = after self.old.progress value.now; failed = None }) }
-        ensures front { OnErr result (TookFront W.took out.old out.new (adds self.old.progress value.now)) }
+        ensures kept { OnOk result (IsKept value.now) }
+        ensures front { OnErr result (TookFront W.took W.written out.old out.new (adds self.old.progress value.now)) }
         ensures cause { self.old.failed ≡ None → IfErr result (IsWritingFault (names_after self.old.progress.names value.now) (W.has_failed out.new)) }
         ensures again { (fault : AnyFault) → self.old.failed ≡ Some fault → (result ≡ Err fault) × (out.new ≡ out.old) }
         ensures failed { IfErr result (λ fault. self.new.failed ≡ Some fault) }
@@ -75,13 +76,14 @@ impl BinaryWriter {
         self.note(answer)
     }
 
-    /// Writes the version marker where no value was put, and flushes.
+    /// Writes the version marker where no value was put, and makes the device pass on all that it took.
     ///
     /// `Write` where the device failed; the fault of an earlier call, where there was one.
     pub fn finish<W: Outlet>(self, out: &mut W) -> Result<(), Fault>
-        ensures ok { OnOk result (Appends (W.took out.old) (W.took out.new) (opening self.progress.begun)) }
-        ensures passed_on { OnOk result (W.has_failed out.new ≡ false) }
-        ensures front { OnErr result (TookFront W.took out.old out.new (opening self.progress.begun)) }
+        ensures ok { OnOk result (Took W.took W.written out.old out.new (opening self.progress.begun)) }
+        ensures passed_on { OnOk result (W.passed out.new ≡ W.written out.new) }
+        ensures fine { OnOk result (W.has_failed out.new ≡ false) }
+        ensures front { OnErr result (TookFront W.took W.written out.old out.new (opening self.progress.begun)) }
         ensures cause { self.failed ≡ None → IfErr result (λ fault. (fault ≡ faults.Write) × (W.has_failed out.new ≡ true)) }
         ensures again { (fault : AnyFault) → self.failed ≡ Some fault → (result ≡ Err fault) × (out.new ≡ out.old) }
     {
@@ -109,9 +111,10 @@ impl BinaryWriter {
 
     // The same for a writer that has answered no fault.
     fn put_next<W: Outlet>(&mut self, out: &mut W, value: &Value) -> Result<(), Fault>
-        ensures ok { OnOk result (Appends (W.took out.old) (W.took out.new) (adds self.old.progress value.now)) }
+        ensures ok { OnOk result (Took W.took W.written out.old out.new (adds self.old.progress value.now)) }
         ensures after { OnOk result (self.new ≡ record { progress = after self.old.progress value.now; failed = self.old.failed }) }
-        ensures front { OnErr result (TookFront W.took out.old out.new (adds self.old.progress value.now)) }
+        ensures kept { OnOk result (IsKept value.now) }
+        ensures front { OnErr result (TookFront W.took W.written out.old out.new (adds self.old.progress value.now)) }
         ensures cause { IfErr result (IsWritingFault (names_after self.old.progress.names value.now) (W.has_failed out.new)) }
     {
         let octets = self.octets_of(value)?;
@@ -123,6 +126,7 @@ impl BinaryWriter {
     fn octets_of(&mut self, value: &Value) -> Result<Vec<u8>, Fault>
         ensures ok { IfOk result (λ octets. octets.items ≡ adds self.old.progress value.now) }
         ensures after { OnOk result (self.new ≡ record { progress = record { names = names_after self.old.progress.names value.now; begun = self.old.progress.begun }; failed = self.old.failed }) }
+        ensures kept { OnOk result (IsKept value.now) }
         ensures cause { IfErr result (IsNumberingFault (names_after self.old.progress.names value.now)) }
     {
         let mut octets = Vec::new(self.alloc);

@@ -2,24 +2,14 @@
 ghost use Rattle.std.specs.Prelude.{◌≡◌, [], ◌∷◌, IfOk, IfSome};
 ghost use Rattle.ion_model.specs.Measures.{bare};
 ghost use Rattle.ion_binary.specs.declared.state.Frame.TheVariants as frames;
-ghost use Rattle.ion_binary.specs.Grammar.{listed};
 ghost use Rattle.ion_binary.specs.Machine.{deliver, proceed};
 ghost use Rattle.ion_binary.specs.Views.{open_frames, Does, Puts, SameSetting};
 
 use super::BinaryReader;
 use crate::form::Listing;
 use crate::state::{Effect, Frame, Phase, Purpose};
+use crate::whole::listed;
 use ion_model::{Field, Payload, Reason, Sequence, Symbol, Value};
-
-/// A list or an s-expression of these items.
-fn listed(listing: Listing, items: Sequence<Value>) -> Payload
-    ensures { result ≡ listed listing items }
-{
-    match listing {
-        Listing::List => Payload::List(items),
-        Listing::Sexp => Payload::Sexp(items),
-    }
-}
 
 impl BinaryReader<'_> {
     /// Hands a whole value to the innermost container, and closes the containers that are whole then.

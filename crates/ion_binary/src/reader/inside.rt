@@ -1,4 +1,4 @@
-//! Octets of a piece that are taken up at once: of a body or a pad, or else one.
+//! Octets of a piece that are taken up at once: of a body, a pad or a value, or else one.
 ghost use Rattle.std.specs.Prelude.{◌≡◌, ◌+◌, ◌-◌, ◌≤◌, ◌<◌, ◌^◌, ◌++◌, true, length, take, IfOk, IfErr, IfSome};
 ghost use Rattle.ion_model.specs.declared.refusal.Reason.TheVariants.{Memory};
 ghost use Rattle.ion_binary.specs.Judge.{judge};
@@ -12,6 +12,7 @@ use super::BinaryReader;
 use crate::form::Scalar;
 use crate::scalar::{judge, judge_lent};
 use crate::state::{Effect, Phase};
+use crate::whole::{blank, extent};
 use ion_model::Reason;
 
 impl BinaryReader<'_> {
@@ -42,6 +43,14 @@ impl BinaryReader<'_> {
         if self.goes_on() {
             let count = self.take_inside(piece)?;
             return Ok((count, Effect::Goes));
+        }
+        if self.is_ready() && self.used >= self.walked {
+            let mut value = blank(self.alloc);
+            if let Some(count) = self.whole(piece, &mut value) {
+                let effect = self.take_whole(count, value)?;
+                return Ok((count, effect));
+            }
+            self.walked = self.used + extent(piece) as u64;
         }
         let effect = self.feed(piece[0])?;
         Ok((1, effect))

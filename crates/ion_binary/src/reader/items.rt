@@ -40,6 +40,7 @@ impl<'a> BinaryReader<'a> {
             frames: Vec::new(alloc),
             given: None,
             failed: None,
+            walked: 0,
         })
     }
 }
@@ -100,8 +101,8 @@ impl Items for BinaryReader<'_> {
     ghost use Rattle.ion_binary.specs.Grammar.{Document, Whole, OpenRest};
     ghost use Rattle.ion_binary.specs.Run.{trace};
     ghost use Rattle.ion_binary.specs.Views.{Stands, body_so_far};
-    ghost use Rattle.ion_binary.specs.Laws.{exact, one_stream, refused, shown, unfinished, small, grows, no_tables};
-    ghost use Rattle.ion_binary.specs.StandsLaws.{given_of, bounded};
+    ghost use Rattle.ion_binary.specs.Laws.{exact, one_stream, one_shown, refused, shown, unfinished, reasons, small, grows, no_tables};
+    ghost use Rattle.ion_binary.specs.StandsLaws.{given_of, not_failed, not_refused, bounded};
 
     ghost catalog = { λ r. r.catalog.now };
 
@@ -129,7 +130,13 @@ impl Items for BinaryReader<'_> {
 
     ghost counted = { λ r u s h. h.counted };
 
+    ghost not_failed = { not_failed };
+
+    ghost not_refused = { not_refused };
+
     ghost given_so_far = { λ r u s h none. given_of r u s h };
+
+    ghost given_with_next = { λ r u s h. tt };
 
     ghost bounded = { bounded };
 
@@ -141,9 +148,13 @@ impl Items for BinaryReader<'_> {
 
     ghost refused = { refused };
 
+    ghost one_shown = { one_shown };
+
     ghost shown = { shown };
 
     ghost unfinished = { unfinished };
+
+    ghost reasons = { reasons };
 
     ghost small = { small };
 

@@ -5,7 +5,7 @@ use Rattle.ion_binary.specs.Judge.{judge}
 use Rattle.ion_binary.specs.Machine.{judged}
 use Rattle.ion_binary.specs.Run.{run}
 use Rattle.ion_binary.specs.Runs.{after}
-use Rattle.ion_binary.specs.Views.{machine_of, open_frames, Does}
+use Rattle.ion_binary.specs.Views.{machine_of, open_frames, run_of, delivers, Does}
 use Rattle.ion_binary.proofs.Insides.{body_ends, reached, refused_whole}
 use Rattle.ion_binary.proofs.reader.BinaryReader.take_up.Goals as goal
 
@@ -40,4 +40,26 @@ returns-in-Some-clause-does c =
       reached (outcome k) c.in_ok-effect.effect c.take_end.new.self (run r.catalog.now r.limits r.used (machine_of r) (take k piece)) (r.used + k)
           (body_ends r.catalog.now r.limits r.used r.start r.context (open_frames r) r.body.items c.in-Some.scalar k r.phase piece c.in-Some.ensures.phase c.in-Some.ensures.some c.in-Some.ensures.within)
           (subst (λ (j : ℕ). Does (outcome j) (Ok c.in_ok-effect.effect) c.take_end.new.self) size c.in_ok-effect.ensures.does),
+    )
+
+pub returns-in_err-effect-2-clause-does : goal.returns-in_err-effect-2-clause-does
+returns-in_err-effect-2-clause-does c =
+    let r = c.args.self.now in
+    let k = c.in-Some-whole.count in
+    let p = err_from_is_err_and c.from_residual-in_err-effect-2.result c.from_residual-in_err-effect-2.ensures.1 in
+    let reason = c.in_err-effect-2.field-0.0 in
+    rw (p.1, p.2)
+    (λ other.
+    refused_whole r.catalog.now r.limits r.used (machine_of r) c.args.piece.now k reason c.in-Some-whole.ensures.within
+    (c.in-Some-whole.ensures.runs ∙ ap (after (r.used + k)) (c.in_err-effect-2.ensures.does other))
+    ∙ ap (λ j. record { given = []; now = Err (record { offset = j; reason = reason }) }) (sym c.take_whole.ensures.used))
+
+pub returns-in-Some-whole-clause-does : goal.returns-in-Some-whole-clause-does
+returns-in-Some-whole-clause-does c =
+    let r = c.args.self.now in
+    let k = c.in-Some-whole.count in (
+      c.in-Some-whole.ensures.some,
+      c.in-Some-whole.ensures.within,
+      reached (delivers r (r.used + k) c.whole.new.slot) c.in_ok-effect-2.effect c.take_whole.new.self (run_of r (take k c.args.piece.now)) (r.used + k)
+          c.in-Some-whole.ensures.runs c.in_ok-effect-2.ensures.does,
     )

@@ -1,5 +1,5 @@
 use Rattle.ion_binary.specs.Views.{machine_of}
-use Rattle.ion_binary.proofs.Further.{step_answers, step_far}
+use Rattle.ion_binary.proofs.Further.{step_answers, step_stands}
 use Rattle.ion_binary.proofs.reader.items.BinaryReaderItems.step.Goals as goal
 
 pub returns-in-Err-clause-answers : goal.returns-in-Err-clause-answers
@@ -10,6 +10,6 @@ pub returns-in_default-result-clause-answers : goal.returns-in_default-result-cl
 returns-in_default-result-clause-answers c =
     λ u s h. step_answers c.args.self.now (machine_of c.advance-result.new.self) u s c.args.piece.now c.advance-result.result h c.advance-result.ensures.does
 
-pub returns-in_default-result-clause-far : goal.returns-in_default-result-clause-far
-returns-in_default-result-clause-far c =
-    step_far c.args.self.now c.advance-result.new.self c.args.piece.now c.advance-result.result c.advance-result.ensures.does c.advance-result.ensures.used c.advance-result.ensures.setting
+pub returns-in_default-result-clause-stands : goal.returns-in_default-result-clause-stands
+returns-in_default-result-clause-stands c =
+    step_stands c.args.self.now c.advance-result.new.self c.args.piece.now c.advance-result.result c.advance-result.ensures.does c.advance-result.ensures.used c.advance-result.ensures.setting

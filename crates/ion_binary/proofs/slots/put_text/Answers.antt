@@ -1,0 +1,7 @@
+use Rattle.std.proofs.Common.{refl, ap, ◌∙◌}
+use Rattle.ion_binary.proofs.Slotted.{text_is}
+use Rattle.ion_binary.proofs.slots.put_text.Goals as goal
+
+pub returns : goal.returns
+returns c =
+    λ _ d. text_is d _ _ (c.if-not-is_utf8.ensures.0 refl) (c.from_string.ensures ∙ (ap (λ v. v.items) c.from_utf8_unchecked-text.ensures.value ∙ c.in-Ok.ensures.items))
