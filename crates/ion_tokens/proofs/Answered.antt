@@ -1,10 +1,11 @@
--- How much of its piece a step used.
-use Rattle.std.proofs.Common.{◌≡◌, ℕ, ◌≤◌, ap, arith, IfOk, None, Result, Ok, Err, Option, Some}
+-- How much of its piece a step used, and where it refused.
+use Rattle.std.proofs.Common.{◌≡◌, ℕ, ◌≤◌, ◌≢◌, ap, arith, IfOk, IfErr, None, Result, Ok, Err, Option, Some}
 use Rattle.ion_model.specs.declared.refusal.Refusal.{Refusal}
+use Rattle.ion_model.specs.declared.refusal.Reason.TheVariants.{Memory}
 use Rattle.ion_tokens.specs.declared.token.Scan.{Scan}
 use Rattle.ion_tokens.specs.declared.token.Token.{Token}
 use Rattle.ion_tokens.specs.Scanning.{Known, Lexeme, Outcome, Next, Given, Left, Refused}
-use Rattle.ion_tokens.specs.Steps.{Answers, GivesToken}
+use Rattle.ion_tokens.specs.Steps.{Answers, GivesToken, IsWithin}
 use Rattle.ion_tokens.proofs.Runs.{Between}
 
 pub used_within : (x : Outcome) (r : Result Scan Refusal) (before n : ℕ) (now : Known) → Between x before n → Answers before x r now
@@ -28,3 +29,13 @@ used_whole (Given l s) (Ok scan) before n now h a = λ none. absurd (gives_some 
 used_whole (Left l s) (Ok scan) before n now h a = λ none. absurd (gives_some l scan.token a.1 none)
 used_whole (Refused at reason) (Ok scan) before n now h a = absurd a
 used_whole x (Err r) before n now h a = tt
+
+-- a refusal is at one of the octets of the piece
+pub refused_within : (x : Outcome) (r : Result Scan Refusal) (before n : ℕ) (now : Known) → Between x before n → Answers before x r now
+    → IfErr r (λ refusal. refusal.reason ≢ Memory → IsWithin before n refusal)
+unfolding Between
+refused_within x (Ok scan) before n now h a = tt
+refused_within (Next s) (Err r) before n now h a = λ other. absurd (a other)
+refused_within (Given l s) (Err r) before n now h a = λ other. let at = (a other).offset in (omega (arith, at, h.0), omega (arith, at, h.1))
+refused_within (Left l s) (Err r) before n now h a = λ other. let at = (a other).offset in (omega (arith, at, h.0), omega (arith, at, h.1))
+refused_within (Refused k reason) (Err r) before n now h a = λ other. let at = ap (λ (q : Refusal). q.offset) (a other) in (omega (arith, at, h.0), omega (arith, at, h.1))

@@ -6,6 +6,7 @@ use Rattle.std.proofs.lemmas.Bool.Decides.{nat_tests}
 use Rattle.ion_model.specs.declared.refusal.Reason.{Reason}
 use Rattle.ion_model.specs.declared.refusal.Reason.TheVariants as reasons
 use Rattle.ion_tokens.specs.declared.mode.Place.{Place}
+use Rattle.ion_tokens.specs.declared.mode.Place.TheVariants as places
 use Rattle.ion_tokens.specs.declared.mode.Style.TheVariants as styles
 use Rattle.ion_tokens.specs.declared.mode.Mark.TheVariants as marks
 use Rattle.ion_tokens.specs.declared.mode.TokenKind.{TokenKind}
@@ -16,6 +17,7 @@ use Rattle.ion_tokens.specs.declared.mode.End.{End}
 use Rattle.ion_tokens.specs.declared.mode.End.TheVariants as ends
 use Rattle.ion_tokens.specs.declared.mode.Mode.{Mode}
 use Rattle.ion_tokens.specs.declared.mode.Mode.TheVariants as modes
+use Rattle.ion_tokens.specs.declared.token.Begun.{Begun}
 use Rattle.ion_tokens.specs.declared.token.Form.TheVariants as forms
 use Rattle.ion_tokens.specs.Octets.{is_digit, begins_word, is_operator_octet}
 use Rattle.ion_tokens.specs.Table.{end_of, is_sexp}
@@ -25,16 +27,17 @@ use Rattle.ion_tokens.specs.Scanning.{Known, Lexeme, Outcome, Next, Given, Left,
 use Rattle.ion_tokens.specs.Blanks.{LineComment, BlockComment, IsBlank}
 use Rattle.ion_tokens.specs.Lexemes.{begins, begins_number}
 use Rattle.ion_tokens.specs.Lexed.{Placed, Lexes, LexesTo, LooksIn}
-use Rattle.ion_tokens.proofs.Found.{Finds, Nothing, Last, Gives, Leaves, Unclosed}
-use Rattle.ion_tokens.specs.Scanned.{Scanned, Continues, IsForm, Covers, IsFirstColon, HasBegun, BegunSo, ShowsBegun}
+use Rattle.ion_tokens.proofs.Found.{Finds, in_word, Nothing, Last, Gives, Leaves, Unclosed}
+use Rattle.ion_tokens.specs.Scanned.{Scanned, Continues, IsForm, Covers, IsFirstColon, MayComment, HasBegun, BegunSo, ShowsBegun}
 use Rattle.ion_tokens.proofs.Opens.{IsOpen, IsOpenRun}
 use Rattle.ion_tokens.proofs.Holds.{InMode, IsBegun, Holds, blank_more, blank_none}
 use Rattle.ion_tokens.proofs.Sounds.{RunSound, run_sound}
-use Rattle.ion_tokens.proofs.SoundHistories.{Tells, stands_tells}
+use Rattle.ion_tokens.proofs.SoundHistories.{stands_tells}
 use Rattle.ion_tokens.proofs.Wholes.{run_behind}
 use Rattle.ion_tokens.proofs.Histories.{stands_finds, end_token}
 use Rattle.ion_tokens.proofs.Told.{lexes_behind}
 use Rattle.ion_tokens.proofs.Stepped.{all_since}
+use Rattle.ion_tokens.proofs.Slashes.{Ends, slash_comments}
 use Rattle.ion_tokens.proofs.Reaches.{Reaches, run_reaches, begun_stays}
 
 -- what doesn't begin with a quote
@@ -159,7 +162,7 @@ none_begun p u ts colon k modes.Brace kept start since i h = cc
 none_begun p u ts colon k (modes.Lob l) kept start since i h = cc
 
 -- where the end shows no token, none has begun
-end_idle : (p : Place) (s : Known) (m : Mode) → ends_at s (end_of p m) ≡ Ok None → is_idle m ≡ true
+pub end_idle : (p : Place) (s : Known) (m : Mode) → ends_at s (end_of p m) ≡ Ok None → is_idle m ≡ true
 end_idle p s modes.Blank e = refl
 end_idle p s modes.Slash e = refl
 end_idle p s modes.LineComment e = refl
@@ -228,79 +231,136 @@ colon_idle p s m l k e = by m (ends_at s (end_of p m)) refl e where
   by modes.Brace x f g = let h = other (end_of p modes.Brace) (kinds.Mark marks.FieldsOpen) keeps.Nothing refl (f ∙ g) in cc
   by (modes.Lob t) x f g = let h = f ∙ g in cc
 
-module _ (p : Place) (s0 s : Known) (octets rest : List ℕ) (start end : ℕ) (ran : run p octets s0 ≡ Next s) (reaches : Reaches start end (Next s)) where
-  reached : (q : Place) (x : Outcome) → q ≡ p → run q (octets ++ rest) s0 ≡ x → Reaches start end x
-  reached q x e f = subst (λ y. Reaches start end y) (sym (run_behind p octets rest s0 s ran) ∙ ap (λ q'. run q' (octets ++ rest) s0) (sym e) ∙ f) (run_reaches p rest s start end reaches)
+-- what comes of octets behind some that left a token open
+reached : (p : Place) (s0 s : Known) (octets rest : List ℕ) (start end : ℕ) → run p octets s0 ≡ Next s → Reaches start end (Next s) → (q : Place) (x : Outcome) → q ≡ p → run q (octets ++ rest) s0 ≡ x → Reaches start end x
+reached p s0 s octets rest start end ran reaches q x e f = subst (λ y. Reaches start end y) (sym (run_behind p octets rest s0 s ran) ∙ ap (λ q'. run q' (octets ++ rest) s0) (sym e) ∙ f) (run_reaches p rest s start end reaches)
 
-  -- the next token begins there
-  covers : (others : List Placed) → LooksIn p others → Finds s0 (octets ++ rest) others → Covers start end others
-  unfolding Reaches
-  covers [] looks (Nothing _ _ f) = let (s', e, n) = f p in let (from, begun, r) = reached p (Next s') refl e in true≢false (sym (end_idle p s' s'.mode n) ∙ begun)
-  covers (t ∷ ts) looks (Last _ _ _ s' e f) =
-      let (from, begun, r) = reached t.place (Next s') looks e in
-      let (first, last) = end_token_is s' (end_of t.place s'.mode) t.lexeme f in
-      (first ∙ begun_stays s'.mode s'.start s'.used begun ∙ from, inl (omega (arith, last, r)))
-  covers (t ∷ ts) looks (Gives _ _ _ _ s' e f) = let (from, r) = reached t.place (Given t.lexeme s') looks e in (from, inl r)
-  covers (t ∷ ts) looks (Leaves _ _ _ _ s' e f) = reached t.place (Left t.lexeme s') looks e
-  covers (t ∷ ts) looks (Unclosed _ _ _ _ s' m e f first operator) = let (from, begun, r) = reached t.place (Next s') looks e in (first ∙ from, inr operator)
+-- the place in which the first token is looked for
+looked_in : (ts : List Placed) → (q : Place) × LooksIn q ts
+looked_in [] = (places.Top, tt)
+looked_in (t ∷ ts) = (t.place, refl)
+
+-- the next token begins there, and tokens follow it up to there
+covers : (p : Place) (s0 s : Known) (octets rest : List ℕ) (start end : ℕ) → run p octets s0 ≡ Next s → Reaches start end (Next s) → (others : List Placed) → LooksIn p others → Finds s0 (octets ++ rest) others → Covers start end others
+unfolding Reaches
+covers p s0 s octets rest start end ran reaches [] looks (Nothing _ _ f) =
+    let (s', e, n) = f p in
+    let (from, begun, r) = reached p s0 s octets rest start end ran reaches p (Next s') refl e in
+    true≢false (sym (end_idle p s' s'.mode n) ∙ begun)
+covers p s0 s octets rest start end ran reaches (t ∷ ts) looks (Last _ _ _ s' e f) =
+    let (from, begun, r) = reached p s0 s octets rest start end ran reaches t.place (Next s') looks e in
+    let (first, last) = end_token_is s' (end_of t.place s'.mode) t.lexeme f in
+    (first ∙ begun_stays s'.mode s'.start s'.used begun ∙ from, inl (omega (arith, last, r)))
+covers p s0 s octets rest start end ran reaches (t ∷ ts) looks (Gives _ _ _ _ s' e f) =
+    let (from, r) = reached p s0 s octets rest start end ran reaches t.place (Given t.lexeme s') looks e in (from, inl r)
+covers p s0 s octets rest start end ran reaches (t ∷ ts) looks (Leaves _ _ _ _ s' e f) =
+    let (from, r) = reached p s0 s octets rest start end ran reaches t.place (Left t.lexeme s') looks e in
+    let (q, at) = looked_in ts in
+    let more : Reaches t.lexeme.end end (Next s') → Covers t.lexeme.end end ts = λ on. covers q s' s' [] (drop (s'.used - s0.used) (octets ++ rest)) t.lexeme.end end refl on ts at f in
+    (from, by more r)
+  where
+    by : (Reaches t.lexeme.end end (Next s') → Covers t.lexeme.end end ts)
+        → (end ≤ t.lexeme.end) ⊎ ((t.lexeme.kind ≡ kinds.Operator) × (s'.start ≡ t.lexeme.end) × (is_idle s'.mode ≡ false) × (end + behind s'.mode ≤ s'.used))
+        → (end ≤ t.lexeme.end) ⊎ ((t.lexeme.kind ≡ kinds.Operator) × Covers t.lexeme.end end ts)
+    by more (inl r) = inl r
+    by more (inr (operator, from, begun, r)) = inr (operator, more (from, begun, r))
+covers p s0 s octets rest start end ran reaches (t ∷ ts) looks (Unclosed _ _ _ _ s' colon letters m e f first operator g) =
+    let (from, begun, r) = reached p s0 s octets rest start end ran reaches t.place (Next s') looks e in
+    let (q, at) = looked_in ts in
+    let now = in_word letters colon t.lexeme.end s'.used in
+    (first ∙ from, inr (operator, covers q now now [] [] t.lexeme.end end refl (refl, refl, omega (arith, r)) ts at g))
+
+-- The octets behind the tokens told, and that the scanner holds them.
+pub record HoldsBehind (p : Place) (s : Known) (u : List ℕ) (ts : List Placed) : Type 0 where
+  pub colon : Bool
+  pub end : ℕ
+  pub since : List ℕ
+  pub lexes : LexesTo false 0 u ts colon end since
+  pub longer : (rest : List ℕ) → LexesTo false 0 (u ++ rest) ts colon end (since ++ rest)
+  pub holds : Holds p colon end s since
+
+pub begun_holds : (p : Place) (s : Known) (u : List ℕ) (ts : List Placed) → Scanned p s u ts [] → HoldsBehind p s u ts
+begun_holds p s u ts h =
+    let since = all_since p s u ts h in
+    let tells = stands_tells h.behind h.front ts h.left h.told h.pass in
+    record {
+      colon = tells.colon;
+      end = tells.end;
+      since = tells.since ++ h.since;
+      lexes = subst (λ o. LexesTo false 0 o ts tells.colon tells.end (tells.since ++ h.since)) (sym h.cut) (tells.lexes h.since since.0 since.1);
+      longer = λ rest.
+          subst (λ o. LexesTo false 0 o ts tells.colon tells.end ((tells.since ++ h.since) ++ rest)) (sym (ap (λ l. l ++ rest) h.cut ∙ append_assoc h.front h.since rest))
+          (subst (λ o. LexesTo false 0 (h.front ++ (h.since ++ rest)) ts tells.colon tells.end o) (sym (append_assoc tells.since h.since rest))
+          (tells.lexes (h.since ++ rest) (since.0 ++ rest) (ap (λ l. l ++ rest) since.1 ∙ append_assoc h.left since.0 rest)));
+      holds = subst (λ x. RunSound p tells.colon tells.end tells.since h.since x) h.ran (run_sound p tells.colon tells.end h.since tells.since h.behind (tells.holds p));
+    }
 
 -- what is known of the token that has begun
 pub begun_right : (p : Place) (s : Known) (u : List ℕ) (ts : List Placed) → Scanned p s u ts [] → ShowsBegun p u ts (begun_in s)
 unfolding Reaches
-begun_right p s u ts h = (tells.colon, tells.end, tells.since ++ h.since, lexes, by (is_idle s.mode) refl) where
+begun_right p s u ts h = (there.colon, there.end, there.since, there.lexes, by (is_idle s.mode) refl) where
+  there : HoldsBehind p s u ts
+  there = begun_holds p s u ts h
+
   since : Continues h.since h.left
   since = all_since p s u ts h
-
-  tells : Tells h.behind h.front ts h.left
-  tells = stands_tells h.behind h.front ts h.left h.told h.pass
-
-  lexes : LexesTo false 0 u ts tells.colon tells.end (tells.since ++ h.since)
-  lexes = subst (λ o. LexesTo false 0 o ts tells.colon tells.end (tells.since ++ h.since)) (sym h.cut) (tells.lexes h.since since.0 since.1)
-
-  holds : Holds p tells.colon tells.end s (tells.since ++ h.since)
-  holds = subst (λ x. RunSound p tells.colon tells.end tells.since h.since x) h.ran (run_sound p tells.colon tells.end h.since tells.since h.behind (tells.holds p))
 
   within : (w : List ℕ) → (behind s.mode ≡ 0) ⊎ ((behind s.mode ≡ 1) × (front : List ℕ) × (w ≡ front ++ codes "/")) → length w ≤ s.used → behind s.mode ≤ s.used
   within w (inl e) h = omega (arith, e)
   within w (inr (e, front, f)) h = omega (arith, e, h, ap length f, length-append front (codes "/"))
 
-  reaching : (w : List ℕ) → (behind s.mode ≡ 0) ⊎ ((behind s.mode ≡ 1) × (front : List ℕ) × (w ≡ front ++ codes "/")) → behind s.mode ≤ s.used
-      → (s.used - behind s.mode ≡ tells.end + length (tells.since ++ h.since)) ⊎ ((s.used - behind s.mode + 1 ≡ tells.end + length (tells.since ++ h.since)) × (front : List ℕ) × (w ≡ front ++ codes "/"))
-  reaching w (inl e) less = inl (omega (arith, e, holds.used))
-  reaching w (inr (e, front, f)) less = inr (omega (arith, e, less, holds.used), front, f)
+  begun : Begun
+  begun = record { start = s.start; end = s.used - behind s.mode; form = form_of s.mode }
+
+  may_comment : is_idle s.mode ≡ false → behind s.mode ≡ 1 → MayComment p u ts begun
+  may_comment i one = by (slash_comments p s u ts h one) where
+    by : Ends p s u ts ⊎ ((rest : List ℕ) (others : List Placed) → LooksIn p others → Lexes false 0 (u ++ rest) (ts ++ others) → ⊥) → MayComment p u ts begun
+    by (inl x) = inl (x.lexeme, x.start ∙ begun_stays s.mode s.start s.used i, x.end ∙ ap (λ (n : ℕ). s.used - n) (sym one), x.lexes)
+    by (inr never) = inr never
+
+  reaching : (w : List ℕ) → is_idle s.mode ≡ false → (behind s.mode ≡ 0) ⊎ ((behind s.mode ≡ 1) × (front : List ℕ) × (w ≡ front ++ codes "/")) → behind s.mode ≤ s.used
+      → (s.used - behind s.mode ≡ there.end + length there.since)
+      ⊎ ((s.used - behind s.mode + 1 ≡ there.end + length there.since) × (front : List ℕ) × (w ≡ front ++ codes "/") × MayComment p u ts begun)
+  reaching w i (inl e) less = let used = there.holds.used in inl (omega (arith, e, used))
+  reaching w i (inr (e, front, f)) less = let used = there.holds.used in inr (omega (arith, e, less, used), front, f, may_comment i e)
 
   -- a colon there is a token up to the end of the input
-  no_colon : is_idle s.mode ≡ false → IsFirstColon tells.colon (tells.since ++ h.since) → ⊥
+  no_colon : is_idle s.mode ≡ false → IsFirstColon there.colon there.since → ⊥
   no_colon i (flag, blank, is_blank, cut) =
-      let start : ℕ = tells.end + length blank in
+      let start : ℕ = there.end + length blank in
       let colon : Lexeme = record { start = start; end = start + 1; kind = kinds.Mark marks.Colon; octets = [] } in
-      let behind = lexes_behind ts (record { place = p; lexeme = colon } ∷ []) false 0 u tells.colon tells.end (tells.since ++ h.since) lexes
+      let behind = lexes_behind ts (record { place = p; lexeme = colon } ∷ []) false 0 u there.colon there.end there.since there.lexes
       ([], record { blank = blank; token = codes ":"; is_blank = is_blank; cut = cut ∙ sym (append-nil (blank ++ codes ":")); start = refl; end = refl; is = (refl, refl, flag, refl) }, inl blank_none) in
-      let there = end_token h.behind s h.front ts (record { place = p; lexeme = colon }) h.left h.since since.0 p h.told since.1 h.ran refl
+      let shown = end_token h.behind s h.front ts (record { place = p; lexeme = colon }) h.left h.since since.0 p h.told since.1 h.ran refl
       (subst (λ o. Lexes false 0 o (ts ++ record { place = p; lexeme = colon } ∷ [])) h.cut behind) in
-      true≢false (sym (colon_idle p s s.mode colon refl there) ∙ i)
+      true≢false (sym (colon_idle p s s.mode colon refl shown) ∙ i)
 
-  token : is_idle s.mode ≡ false → HasBegun p u ts tells.colon tells.end (tells.since ++ h.since) (record { start = s.start; end = s.used - behind s.mode; form = form_of s.mode })
+  always : is_idle s.mode ≡ false → behind s.mode ≤ s.used → (rest : List ℕ) (others : List Placed) → LooksIn p others → Lexes false 0 (u ++ rest) (ts ++ others) → Covers begun.start begun.end others
+  always i less = λ rest others looks lexes.
+      covers p h.behind s h.since rest s.start (s.used - behind s.mode) h.ran (refl, i, omega (arith, less)) others looks
+      (stands_finds h.behind h.front ts h.left (h.since ++ rest) others h.told (since.0 ++ rest) (ap (λ l. l ++ rest) since.1 ∙ append_assoc h.left since.0 rest)
+      (subst (λ o. Lexes false 0 o (ts ++ others)) (ap (λ l. l ++ rest) h.cut ∙ append_assoc h.front h.since rest) lexes))
+
+  token : is_idle s.mode ≡ false → HasBegun p u ts there.colon there.end there.since begun
   token i =
-      let b = open_token p tells.colon tells.end s.mode s.kept s.start (tells.since ++ h.since) i holds.mode in
-      let size : length (tells.since ++ h.since) ≡ length b.front + length b.token = ap length b.cut ∙ length-append b.front b.token in
-      let slash = slash_behind p tells.colon s.mode b.token s.kept b.is in
-      let less : behind s.mode ≤ s.used = within b.token slash (omega (arith, size, holds.used)) in
+      let b = open_token p there.colon there.end s.mode s.kept s.start there.since i there.holds.mode in
+      let size : length there.since ≡ length b.front + length b.token = ap length b.cut ∙ length-append b.front b.token in
+      let slash = slash_behind p there.colon s.mode b.token s.kept b.is in
+      let used = there.holds.used in
+      let less : behind s.mode ≤ s.used = within b.token slash (omega (arith, size, used)) in
       record {
         blank = b.front;
         token = b.token;
         is_blank = b.blank;
         cut = b.cut;
-        form = form_is p tells.colon s.mode b.token s.kept b.is i;
+        form = form_is p there.colon s.mode b.token s.kept b.is i;
         start = b.begins;
-        reaches = reaching b.token slash less;
-        always = λ rest others looks lexes.
-            covers p h.behind s h.since rest s.start (s.used - behind s.mode) h.ran (refl, i, omega (arith, less)) others looks
-            (stands_finds h.behind h.front ts h.left (h.since ++ rest) others h.told (since.0 ++ rest) (ap (λ l. l ++ rest) since.1 ∙ append_assoc h.left since.0 rest)
-            (subst (λ o. Lexes false 0 o (ts ++ others)) (ap (λ l. l ++ rest) h.cut ∙ append_assoc h.front h.since rest) lexes));
+        reaches = reaching b.token i slash less;
+        always = always i less;
+        no_blank = λ rest blank. always i less rest [] tt (lexes_behind ts [] false 0 (u ++ rest) there.colon there.end (there.since ++ rest) (there.longer rest) (inl blank));
         no_colon = no_colon i;
       }
 
-  by : (b : Bool) → is_idle s.mode ≡ b → BegunSo p u ts tells.colon tells.end (tells.since ++ h.since) (cond b None (Some (record { start = s.start; end = s.used - behind s.mode; form = form_of s.mode })))
-  by true i = none_begun p u ts tells.colon tells.end s.mode s.kept s.start (tells.since ++ h.since) i holds.mode
+  by : (b : Bool) → is_idle s.mode ≡ b → BegunSo p u ts there.colon there.end there.since (cond b None (Some begun))
+  by true i = none_begun p u ts there.colon there.end s.mode s.kept s.start there.since i there.holds.mode
   by false i = token i

@@ -13,6 +13,7 @@ use Rattle.ion_tokens.specs.declared.mode.Place.{Place}
 use Rattle.ion_tokens.specs.declared.mode.TokenKind.{TokenKind}
 use Rattle.ion_tokens.specs.declared.mode.TokenKind.TheVariants as kinds
 use Rattle.ion_tokens.specs.Blobs.{AreOctets, base64_of, blob_of}
+use Rattle.ion_tokens.specs.BlobLaws.{octet_at}
 use Rattle.ion_tokens.specs.Bodies.{Content, Word, Number', Spells, IsWordBody, SaysNumber, IsBody, id_of}
 use Rattle.ion_tokens.specs.Scanning.{Known, Outcome, Next, Given, Left, Refused, feed, follow, run}
 
@@ -85,5 +86,5 @@ ok_of (Err e) b h = cc
 pub blob_text : (text octets : List ℕ) → AreOctets text → AreOctets octets → (blob_of text ≡ Some octets) ↔ (text ≡ base64_of octets)
 unfolding blob_of decoded_of
 blob_text text octets h k =
-    let decodes = decode_of_iff standard text octets (refl, refl) h k in
+    let decodes = decode_of_iff standard text octets (refl, refl) (octet_at text h) (octet_at octets k) in
     (λ e. decodes.0 (ok_of (decode_of standard text) octets e), λ e. ap result_ok (decodes.1 e))

@@ -52,7 +52,7 @@ not_found s octets r s' t e (Refuses n x f) ended found = by found where
   by (Last _ _ _ s'' g h) = let k : Refused n x ≡ Next s'' = sym whole ∙ g in cc
   by (Gives _ _ _ _ s'' g h) = let k : Refused n x ≡ Given t.lexeme s'' = sym whole ∙ g in cc
   by (Leaves _ _ _ _ s'' g h) = let k : Refused n x ≡ Left t.lexeme s'' = sym whole ∙ g in cc
-  by (Unclosed _ _ _ _ s'' m g h _ _) = let k : Refused n x ≡ Next s'' = sym whole ∙ g in cc
+  by (Unclosed _ _ _ _ s'' _ _ m g h _ _ _) = let k : Refused n x ≡ Next s'' = sym whole ∙ g in cc
 not_found s octets r s' t e (Goes z f some more) ended found = by found where
   whole : run t.place (octets ++ r) s ≡ Next z
   whole = run_behind t.place octets r s s' e ∙ f
@@ -69,7 +69,7 @@ not_found s octets r s' t e (Goes z f some more) ended found = by found where
       absurd (omega (arith, at, ap (λ (x : Known). x.used) same, used, some, ended))
   by (Gives _ _ _ _ s'' g h) = let k : Next z ≡ Given t.lexeme s'' = sym whole ∙ g in cc
   by (Leaves _ _ _ _ s'' g h) = let k : Next z ≡ Left t.lexeme s'' = sym whole ∙ g in cc
-  by (Unclosed _ _ _ _ s'' m g h _ _) = let same : s'' ≡ z = ap state_in (sym g ∙ whole) in more (ap (λ x. at_end t.place x) (sym same) ∙ h)
+  by (Unclosed _ _ _ _ s'' _ _ m g h _ _ _) = let same : s'' ≡ z = ap state_in (sym g ∙ whole) in more (ap (λ x. at_end t.place x) (sym same) ∙ h)
 not_found s octets r s' t e (Grows l z f later) ended found = by found where
   whole : run t.place (octets ++ r) s ≡ Given l z
   whole = run_behind t.place octets r s s' e ∙ f
@@ -78,7 +78,7 @@ not_found s octets r s' t e (Grows l z f later) ended found = by found where
   by (Last _ _ _ s'' g h) = let k : Given l z ≡ Next s'' = sym whole ∙ g in cc
   by (Gives _ _ _ _ s'' g h) = let k : l.end ≡ t.lexeme.end = ap lexeme_end (sym whole ∙ g) in absurd (omega (arith, k, later, ended))
   by (Leaves _ _ _ _ s'' g h) = let k : Given l z ≡ Left t.lexeme s'' = sym whole ∙ g in cc
-  by (Unclosed _ _ _ _ s'' m g h _ _) = let k : Given l z ≡ Next s'' = sym whole ∙ g in cc
+  by (Unclosed _ _ _ _ s'' _ _ m g h _ _ _) = let k : Given l z ≡ Next s'' = sym whole ∙ g in cc
 
 -- Where octets show no token, none but those told has ended whatever octets follow.
 pub told_all : (s s' : Known) (u : List ℕ) (ts : List Placed) (ahead piece more : List ℕ) (p : Place) → Stands s u ts ahead → AllPass ts → piece ≡ ahead ++ more → run p piece s ≡ Next s'
@@ -92,8 +92,7 @@ told_all s s' u ts ahead piece more p h pass cut e t place lexes = by (escape p 
 
   ended : t.lexeme.end ≤ s'.used
   ended =
-      let none : AreOctets [] = λ i. omega arith in
-      let within = lexes_end (λ colon before octets. Unit {0}) ts t false 0 (u ++ (piece ++ [])) (lexes [] none) in
+      let within = lexes_end (λ colon before octets. Unit {0}) ts t false 0 (u ++ (piece ++ [])) (lexes [] tt) in
       omega (arith, within, length-append u (piece ++ []), length-append piece [], stands_used s u ts ahead h, next_used p piece s s' (sym e))
 
   by : Escape p s' → ⊥

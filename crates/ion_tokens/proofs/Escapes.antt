@@ -1,5 +1,5 @@
 -- From any state there are octets that show that no token has ended.
-use Rattle.std.proofs.Common.{◌≡◌, ℕ, zero, suc, ◌+◌, ◌-◌, ◌<◌, ◌≤◌, ⊎_elim, Bool, true, false, cond, List, [], ◌∷◌, ◌++◌, length, refl, sym, subst, arith}
+use Rattle.std.proofs.Common.{◌≡◌, ℕ, ◌+◌, ◌-◌, ◌<◌, ◌≤◌, ⊎_elim, Bool, true, false, cond, List, [], ◌∷◌, ◌++◌, length, refl, sym, subst, arith}
 use Rattle.std.specs.Prelude.{nat_lt, nat_le, ◌||◌, Err}
 use Rattle.std.proofs.lemmas.Bool.Decides.{nat_tests}
 use Rattle.ion_model.specs.declared.refusal.Reason.{Reason}
@@ -36,11 +36,10 @@ pub record Escape (p : Place) (s : Known) : Type 0 where
   pub escapes : Escapes p s octets
 
 pub are_octets : (os : List ℕ) → Each (λ o. nat_lt o 256) os → AreOctets os
-are_octets [] h i = omega arith
-are_octets (o ∷ os) h zero = below o h.0 where
+are_octets [] h = tt
+are_octets (o ∷ os) h = (below o h.0, are_octets os h.1) where
   below : (o : ℕ) → nat_lt o 256 ≡ true → o < 256
   below o h = grind (arith, nat_tests)
-are_octets (o ∷ os) h (suc i) = are_octets os h.1 i
 
 one : (o : ℕ) → nat_lt o 256 ≡ true → AreOctets (o ∷ [])
 one o h = are_octets (o ∷ []) (h, tt)

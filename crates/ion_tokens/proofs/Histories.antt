@@ -39,7 +39,7 @@ state_in (Given l s) t = s
 state_in (Left l s) t = s
 state_in (Refused n r) t = t
 
-behind_front : (octets rest : List ℕ) (used now : ℕ) → now ≡ used + length octets → drop (now - used) (octets ++ rest) ≡ rest
+pub behind_front : (octets rest : List ℕ) (used now : ℕ) → now ≡ used + length octets → drop (now - used) (octets ++ rest) ≡ rest
 behind_front octets rest used now e = let n : now - used ≡ length octets = omega arith in ap (λ (i : ℕ). drop i (octets ++ rest)) n ∙ drop-append_seam octets rest
 
 module _ (Rests : Known → List ℕ → Type 0) (Bare : Type 0) where
@@ -51,7 +51,7 @@ module _ (Rests : Known → List ℕ → Type 0) (Bare : Type 0) where
       let same : s'' ≡ s' = ap (λ x. state_in x s') h in
       subst (λ l. FindsUpTo Rests Bare s' l ts) (behind_front octets rest s.used s'.used n) (subst (λ (x : Known). FindsUpTo Rests Bare x (drop (x.used - s.used) (octets ++ rest)) ts) same g)
   after_given s s' octets rest t ts e n (Leaves _ _ _ _ s'' f g) = let h : Given t.lexeme s' ≡ Left t.lexeme s'' = sym (given_front t.place octets rest s s' t.lexeme e) ∙ f in cc
-  after_given s s' octets rest t ts e n (Unclosed _ _ _ _ s'' m f g _ _) = let h : Given t.lexeme s' ≡ Next s'' = sym (given_front t.place octets rest s s' t.lexeme e) ∙ f in cc
+  after_given s s' octets rest t ts e n (Unclosed _ _ _ _ s'' _ _ m f g _ _ _) = let h : Given t.lexeme s' ≡ Next s'' = sym (given_front t.place octets rest s s' t.lexeme e) ∙ f in cc
 
   -- behind a token that an octet ended which was left
   left_found : (s s' : Known) (octets rest : List ℕ) (x : ℕ) (t : Placed) (ts : List Placed) → run t.place (octets ++ x ∷ rest) s ≡ Left t.lexeme s' → s'.used ≡ s.used + length octets → FindsUpTo Rests Bare s (octets ++ x ∷ rest) (t ∷ ts) → FindsUpTo Rests Bare s' (x ∷ rest) ts
@@ -61,7 +61,7 @@ module _ (Rests : Known → List ℕ → Type 0) (Bare : Type 0) where
       let h : Left t.lexeme s'' ≡ Left t.lexeme s' = sym f ∙ whole in
       let same : s'' ≡ s' = ap (λ y. state_in y s') h in
       subst (λ l. FindsUpTo Rests Bare s' l ts) (behind_front octets (x ∷ rest) s.used s'.used n) (subst (λ (y : Known). FindsUpTo Rests Bare y (drop (y.used - s.used) (octets ++ x ∷ rest)) ts) same g)
-  left_found s s' octets rest x t ts whole n (Unclosed _ _ _ _ s'' m f g _ _) = let h : Left t.lexeme s' ≡ Next s'' = sym whole ∙ f in cc
+  left_found s s' octets rest x t ts whole n (Unclosed _ _ _ _ s'' _ _ m f g _ _ _) = let h : Left t.lexeme s' ≡ Next s'' = sym whole ∙ f in cc
 
   after_left : (s s' : Known) (octets rest : List ℕ) (x : ℕ) (t : Placed) (ts : List Placed) → run t.place (octets ++ x ∷ []) s ≡ Left t.lexeme s' → s'.used ≡ s.used + length octets → FindsUpTo Rests Bare s (octets ++ x ∷ rest) (t ∷ ts) → FindsUpTo Rests Bare s' (x ∷ rest) ts
   after_left s s' octets rest x t ts e n found =
@@ -92,7 +92,7 @@ not_refused p s octets others n r looks (Nothing _ _ f) e = let g = f p in let h
 not_refused p s octets others n r looks (Last _ _ t s' f g) e = let h : Refused n r ≡ Next s' = sym e ∙ ap (λ q. run q octets s) (sym looks) ∙ f in cc
 not_refused p s octets others n r looks (Gives _ _ t ts s' f g) e = let h : Refused n r ≡ Given t.lexeme s' = sym e ∙ ap (λ q. run q octets s) (sym looks) ∙ f in cc
 not_refused p s octets others n r looks (Leaves _ _ t ts s' f g) e = let h : Refused n r ≡ Left t.lexeme s' = sym e ∙ ap (λ q. run q octets s) (sym looks) ∙ f in cc
-not_refused p s octets others n r looks (Unclosed _ _ t ts s' m f g _ _) e = let h : Refused n r ≡ Next s' = sym e ∙ ap (λ q. run q octets s) (sym looks) ∙ f in cc
+not_refused p s octets others n r looks (Unclosed _ _ t ts s' _ _ m f g _ _ _) e = let h : Refused n r ≡ Next s' = sym e ∙ ap (λ q. run q octets s) (sym looks) ∙ f in cc
 
 -- Where octets are refused, no input has, in the places handed in, the tokens told and goes on with them.
 pub refusal_right : (s : Known) (u : List ℕ) (ts : List Placed) (ahead piece more : List ℕ) (p : Place) (n : ℕ) (reason : Reason) → Stands s u ts ahead → piece ≡ ahead ++ more → run p piece s ≡ Refused n reason
@@ -110,14 +110,14 @@ finds_given p s s' octets others l looks (Nothing _ _ f) e = let g = f p in let 
 finds_given p s s' octets others l looks (Last _ _ t s'' f g) e = let h : Given l s' ≡ Next s'' = sym e ∙ ap (λ q. run q octets s) (sym looks) ∙ f in cc
 finds_given p s s' octets others l looks (Gives _ _ t ts s'' f g) e = let h : Given t.lexeme s'' ≡ Given l s' = sym f ∙ ap (λ q. run q octets s) looks ∙ e in ap (λ x. lexeme_in x l) h
 finds_given p s s' octets others l looks (Leaves _ _ t ts s'' f g) e = let h : Given l s' ≡ Left t.lexeme s'' = sym e ∙ ap (λ q. run q octets s) (sym looks) ∙ f in cc
-finds_given p s s' octets others l looks (Unclosed _ _ t ts s'' m f g _ _) e = let h : Given l s' ≡ Next s'' = sym e ∙ ap (λ q. run q octets s) (sym looks) ∙ f in cc
+finds_given p s s' octets others l looks (Unclosed _ _ t ts s'' _ _ m f g _ _ _) e = let h : Given l s' ≡ Next s'' = sym e ∙ ap (λ q. run q octets s) (sym looks) ∙ f in cc
 
 finds_left : (p : Place) (s s' : Known) (octets : List ℕ) (others : List Placed) (l : Lexeme) → LooksIn p others → Finds s octets others → run p octets s ≡ Left l s' → IsNext l others
 finds_left p s s' octets others l looks (Nothing _ _ f) e = let g = f p in let h : Left l s' ≡ Next g.0 = sym e ∙ g.1 in cc
 finds_left p s s' octets others l looks (Last _ _ t s'' f g) e = let h : Left l s' ≡ Next s'' = sym e ∙ ap (λ q. run q octets s) (sym looks) ∙ f in cc
 finds_left p s s' octets others l looks (Gives _ _ t ts s'' f g) e = let h : Left l s' ≡ Given t.lexeme s'' = sym e ∙ ap (λ q. run q octets s) (sym looks) ∙ f in cc
 finds_left p s s' octets others l looks (Leaves _ _ t ts s'' f g) e = let h : Left t.lexeme s'' ≡ Left l s' = sym f ∙ ap (λ q. run q octets s) looks ∙ e in ap (λ x. lexeme_in x l) h
-finds_left p s s' octets others l looks (Unclosed _ _ t ts s'' m f g _ _) e = let h : Left l s' ≡ Next s'' = sym e ∙ ap (λ q. run q octets s) (sym looks) ∙ f in cc
+finds_left p s s' octets others l looks (Unclosed _ _ t ts s'' _ _ m f g _ _ _) e = let h : Left l s' ≡ Next s'' = sym e ∙ ap (λ q. run q octets s) (sym looks) ∙ f in cc
 
 -- A token told is the next one in each input that has the tokens told before and goes on with these octets: there is no longer one.
 pub given_next : (s s' : Known) (u : List ℕ) (ts : List Placed) (ahead piece more : List ℕ) (p : Place) (l : Lexeme) → Stands s u ts ahead → piece ≡ ahead ++ more → run p piece s ≡ Given l s'
@@ -141,7 +141,7 @@ finds_last p s s' octets t looks e (Last _ _ _ s'' f g) =
     ap (at_end p) (sym same) ∙ ap (λ q. at_end q s'') (sym looks) ∙ g
 finds_last p s s' octets t looks e (Gives _ _ _ _ s'' f g) = let h : Given t.lexeme s'' ≡ Next s' = sym f ∙ ap (λ q. run q octets s) looks ∙ e in cc
 finds_last p s s' octets t looks e (Leaves _ _ _ _ s'' f g) = let h : Left t.lexeme s'' ≡ Next s' = sym f ∙ ap (λ q. run q octets s) looks ∙ e in cc
-finds_last p s s' octets t looks e (Unclosed _ _ _ _ s'' m f g _ _) = absurd (m refl)
+finds_last p s s' octets t looks e (Unclosed _ _ _ _ s'' _ _ m f g _ _ _) = absurd (m refl)
 
 -- Where the input ends behind a blank, or behind a blank and one token, its end shows just that.
 pub end_blank : (s s' : Known) (u : List ℕ) (ts : List Placed) (ahead rest more : List ℕ) (p : Place) → Stands s u ts ahead → rest ≡ ahead ++ more → run p rest s ≡ Next s' → Lexes false 0 (u ++ rest) ts → at_end p s' ≡ Ok None

@@ -1,6 +1,6 @@
 -- What the octets behind the last token are, by what the scanner knows.
-use Rattle.std.proofs.Common.{◌≡◌, ℕ, zero, suc, ◌+◌, ◌<◌, ◌≤◌, ◌⊎◌, ⊎_elim, Bool, true, false, List, [], ◌∷◌, ◌++◌, length, refl, sym, ap, ◌∙◌, subst, arith, append_assoc, append-nil, cond}
-use Rattle.std.specs.Prelude.{◌==◌, ◌||◌, not, codes, take, slice_index, Some, Ok, Err}
+use Rattle.std.proofs.Common.{◌≡◌, ℕ, ◌+◌, ◌<◌, ◌≤◌, ◌⊎◌, ⊎_elim, Bool, true, false, List, [], ◌∷◌, ◌++◌, length, refl, sym, ap, ◌∙◌, subst, arith, append_assoc, append-nil, cond}
+use Rattle.std.specs.Prelude.{◌==◌, ◌||◌, not, codes, take, Some, Ok, Err}
 use Rattle.std.specs.Result.{result_ok}
 use Rattle.std.specs.List.{flat_map, AllByRecursion}
 use Rattle.std.proofs.lemmas.Bool.Decides.{nat_tests}
@@ -12,6 +12,7 @@ use Rattle.ion_tokens.specs.declared.mode.Place.{Place}
 use Rattle.ion_tokens.specs.declared.mode.Mode.{Mode}
 use Rattle.ion_tokens.specs.declared.mode.Mode.TheVariants as modes
 use Rattle.ion_tokens.specs.Blobs.{blob_of, AreOctets, base64_of}
+use Rattle.ion_tokens.specs.BlobLaws.{octet_at, blob_octets}
 use Rattle.ion_tokens.specs.Scanning.{Known, Lexeme, Outcome, Next, Given, Left, Refused, takes_colon, run}
 use Rattle.ion_tokens.specs.Blanks.{BlankPiece, HasNoClose, IsBlankPiece, blank_spelling, IsBlank, IsOpenComment}
 use Rattle.ion_tokens.specs.Lexemes.{Each, ends, IsWord, IsBlobContent}
@@ -86,12 +87,11 @@ pub blank_more : (w : List ℕ) (b : BlankPiece) → IsBlank w → IsBlankPiece 
 blank_more w b h i = record { pieces = h.pieces ++ b ∷ []; each = each_piece h.pieces b h.each i; spelled = ap (λ l. l ++ blank_spelling b) h.spelled ∙ sym (flat_last blank_spelling h.pieces b) }
 
 -- blobs
-base_octets : (os : List ℕ) → Each is_base64 os → (i : ℕ) → slice_index os i < 256
-base_octets [] h i = omega arith
-base_octets (o ∷ os) h zero = base_low o h.0 where
+base_octets : (os : List ℕ) → Each is_base64 os → AreOctets os
+base_octets [] h = tt
+base_octets (o ∷ os) h = (base_low o h.0, base_octets os h.1) where
   base_low : (o : ℕ) → is_base64 o ≡ true → o < 256
   base_low o h = grind (arith, nat_tests)
-base_octets (o ∷ os) h (suc i) = base_octets os h.1 i
 
 solid_base : (os : List ℕ) → Each AnyBlob os → Each is_base64 (solid os)
 solid_base [] h = tt
@@ -100,11 +100,14 @@ solid_base (o ∷ os) h = by (is_white o) h.0 (solid_base os h.1) where
   by true g f = f
   by false g f = (g, f)
 
-pub blob_sound : (inside octets : List ℕ) → Each AnyBlob inside → blob_of (solid inside) ≡ Some octets → AreOctets octets → IsBlobContent inside octets
+pub blob_sound : (inside octets : List ℕ) → Each AnyBlob inside → blob_of (solid inside) ≡ Some octets → IsBlobContent inside octets
 unfolding blob_of decoded_of
-blob_sound inside octets h e a = (h, record { octets_are = a; spelled = by (decode_of standard (solid inside)) refl e }) where
+blob_sound inside octets h e = (h, record { octets_are = blob_octets (solid inside) octets text e; spelled = by (decode_of standard (solid inside)) refl e }) where
+  text : AreOctets (solid inside)
+  text = base_octets (solid inside) (solid_base inside h)
+
   by : (r : _) → decode_of standard (solid inside) ≡ r → result_ok r ≡ Some octets → solid inside ≡ base64_of octets
-  by (Ok b) d f = let same : b ≡ octets = cc in decode_of_strict standard (solid inside) octets (refl, refl) (base_octets (solid inside) (solid_base inside h)) (d ∙ ap Ok same)
+  by (Ok b) d f = let same : b ≡ octets = cc in decode_of_strict standard (solid inside) octets (refl, refl) (octet_at (solid inside) text) (d ∙ ap Ok same)
   by (Err x) d f = cc
 
 -- a token goes on

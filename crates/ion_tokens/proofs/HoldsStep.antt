@@ -146,7 +146,7 @@ module _ (p : Place) (colon : Bool) (k : ℕ) (m : Mode) (kept : List ℕ) (star
   ends_blob (n, inside, e, h, s, is) = by (blob_of kept) refl where
     by : (b : Option (List ℕ)) → blob_of kept ≡ b → Sound p colon k (front ++ w) o (blob_ends (at m kept colon start used) b)
     by None f = tt
-    by (Some octets) f = goes (modes.Lob lobs.BlobClose) octets (n, inside ++ o ∷ [], ap (λ l. l ++ o ∷ []) e, (inside, (λ a. blob_sound inside octets h (ap blob_of (sym s) ∙ f) a), (λ i. inside ++ is i ∷ [])))
+    by (Some octets) f = goes (modes.Lob lobs.BlobClose) octets (n, inside ++ o ∷ [], ap (λ l. l ++ o ∷ []) e, (inside, blob_sound inside octets h (ap blob_of (sym s) ∙ f), (λ i. inside ++ is i ∷ [])))
 
   pub turned : (a : Action) → Turns p colon w kept o a → Sound p colon k (front ++ w) o (acts p (at m kept colon start used) o a)
   turned (actions.Go m' k') h = goes m' (kept_after k' kept) h

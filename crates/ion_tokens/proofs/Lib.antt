@@ -1,8 +1,11 @@
+-- Lemmas behind this crate's contracts. Crates above cite some of them in their specs, so names and statements are part of what this
+-- crate gives.
 pub mod Answered
 pub mod Begins
 pub mod Causes
 pub mod Cutting
 pub mod Digits
+pub mod EndCauses
 pub mod Ended
 pub mod Escapes
 pub mod Fits
@@ -12,11 +15,14 @@ pub mod Histories
 pub mod Holds
 pub mod HoldsBlank
 pub mod HoldsStep
+pub mod LastOctets
 pub mod Moves
-pub mod Numerals
+pub mod OneBegun
 pub mod Opens
 pub mod Reaches
 pub mod Runs
+pub mod Scans
+pub mod Slashes
 pub mod SoundEnds
 pub mod SoundHistories
 pub mod Sounds
@@ -36,6 +42,7 @@ pub mod TextsComplete
 pub mod TextsRead
 pub mod TextsSound
 pub mod Told
+pub mod Traced
 pub mod TurnsBlanks
 pub mod TurnsLobs
 pub mod TurnsOperators

@@ -96,13 +96,14 @@ abbrev pub lexeme : List ℕ → TokenKind → List ℕ → ℕ → Lexeme
 lexeme w kind kept used = record { start = used; end = used + length w; kind = kind; octets = kept }
 
 -- How the scanner, in a blank, reads the octets w before r as a token: it gives it with its last octet; or behind octets ahead, which
--- it takes up already, at an octet that it leaves; or at the end of the input; or the input ends before that shows.
+-- it takes up already, at an octet that it leaves; or at the end of the input; or the input ends before that shows, in letters that
+-- begin a word.
 pub data Takes (p : Place) (colon : Bool) (w r : List ℕ) (kind : TokenKind) (kept : List ℕ) : Type 0 where
   Now : ((start used : ℕ) → run p (w ++ r) (blank colon start used) ≡ Given (lexeme w kind kept used) (past p kind modes.Blank [] (used + length w) (used + length w))) → Takes p colon w r kind kept
   Later : (ahead : List ℕ) (x : ℕ) (rest : List ℕ) (m : Mode) (k : List ℕ) → r ≡ ahead ++ x ∷ rest → Resumes ahead m k
       → ((start used : ℕ) → run p (w ++ r) (blank colon start used) ≡ Left (lexeme w kind kept used) (past p kind m k (used + length w) ((used + length w) + length ahead))) → Takes p colon w r kind kept
   AtEnd : r ≡ [] → ((start used : ℕ) → (s : Known) × (run p (w ++ r) (blank colon start used) ≡ Next s) × (at_end p s ≡ Ok (Some (lexeme w kind kept used)))) → Takes p colon w r kind kept
-  Open : begins begins_word r ≡ true → kind ≡ kinds.Operator → ((start used : ℕ) → (s : Known) × (s.start ≡ used) × (run p (w ++ r) (blank colon start used) ≡ Next s) × (at_end p s ≡ Err reasons.Incomplete)) → Takes p colon w r kind kept
+  Open : begins begins_word r ≡ true → kind ≡ kinds.Operator → Resumes r modes.Word r → ((start used : ℕ) → (s : Known) × (s.start ≡ used) × (run p (w ++ r) (blank colon start used) ≡ Next s) × (at_end p s ≡ Err reasons.Incomplete)) → Takes p colon w r kind kept
 
 pub resumes_none : Resumes [] modes.Blank []
 resumes_none p colon end = let none : end ≡ end + length {A = ℕ} [] = omega arith in ap (λ (n : ℕ). Next (at modes.Blank [] colon end n)) none

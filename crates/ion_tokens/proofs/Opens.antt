@@ -20,7 +20,6 @@ use Rattle.ion_tokens.specs.declared.mode.Action.TheVariants as actions
 use Rattle.ion_tokens.specs.Table.{is_name, is_sexp}
 use Rattle.ion_tokens.specs.Scanning.{kept_after}
 use Rattle.ion_tokens.specs.Lexemes.{Each, begins, ends, begins_number, comment_within, IsWord, IsLexeme, IsBlobContent, Segment, IsSegment, segment_spelling, IsClobContent}
-use Rattle.ion_tokens.specs.Blobs.{AreOctets}
 use Rattle.ion_tokens.specs.Lexed.{Passes}
 use Rattle.ion_tokens.proofs.TextsSound.{Reads}
 
@@ -80,7 +79,7 @@ InLob lobs.Start w kept = (kept ≡ []) × Each is_white w
 InLob lobs.StartQuote w kept = (kept ≡ []) × (before : List ℕ) × Each is_white before × (w ≡ before ++ 39 ∷ [])
 InLob lobs.StartQuotes w kept = (kept ≡ []) × (before : List ℕ) × Each is_white before × (w ≡ before ++ 39 ∷ 39 ∷ [])
 InLob lobs.Base64 w kept = Each AnyBlob w × (kept ≡ solid w)
-InLob lobs.BlobClose w kept = (content : List ℕ) × (AreOctets kept → IsBlobContent content kept) × (w ≡ content ++ 125 ∷ [])
+InLob lobs.BlobClose w kept = (content : List ℕ) × IsBlobContent content kept × (w ≡ content ++ 125 ∷ [])
 InLob lobs.AfterShort w kept = (before text after : List ℕ) × Each is_white before × Rattle.ion_tokens.specs.Quoted.IsQuoted styles.ShortClob text kept × Each is_white after × (w ≡ before ++ (34 ∷ text) ++ 34 ∷ after)
 InLob lobs.AfterLong w kept = IsLongText w kept
 InLob lobs.AfterQuote w kept = (front : List ℕ) × IsLongText front kept × (w ≡ front ++ 39 ∷ [])

@@ -156,11 +156,12 @@ table_late p colon modes.BlockComment o h = cc
 table_late p colon modes.BlockCommentStar o h = cc
 table_late p colon modes.Colon o h = cc
 
--- A token that began at `start` and reaches to `end` goes on, or has ended behind that; an operator may leave letters of `inf` to a word.
+-- A token that began at `start` and reaches to `end` goes on, or has ended behind that; or an operator has ended before letters of
+-- `inf`, and they are a word that goes on.
 unfoldable pub Reaches : ℕ → ℕ → Outcome → Type 0
 Reaches start end (Next s) = (s.start ≡ start) × (is_idle s.mode ≡ false) × (end + behind s.mode ≤ s.used)
 Reaches start end (Given l s) = (l.start ≡ start) × (end ≤ l.end)
-Reaches start end (Left l s) = (l.start ≡ start) × ((end ≤ l.end) ⊎ (l.kind ≡ kinds.Operator))
+Reaches start end (Left l s) = (l.start ≡ start) × ((end ≤ l.end) ⊎ ((l.kind ≡ kinds.Operator) × (s.start ≡ l.end) × (is_idle s.mode ≡ false) × (end + behind s.mode ≤ s.used)))
 Reaches start end (Refused n e) = Unit {0}
 
 -- where a token has begun, its start stays
@@ -206,7 +207,7 @@ module _ (p : Place) (s : Known) (o : ℕ) (start end : ℕ) (begun : is_idle s.
     by : (b : Bool) → Reaches start end (cond b (Next (go_to s modes.KindName [])) (Left (cut s kinds.Word s.kept s.used) (past p kinds.Word modes.Blank [] s.used s.used)))
     by true = (same_start, refl, omega (arith, reached))
     by false = (same_start, inl (omega (arith, reached)))
-  acts_reaches (actions.Split n) h = (same_start, inr refl)
+  acts_reaches (actions.Split n) h = (same_start, inr (refl, refl, refl, omega (arith, reached)))
   acts_reaches actions.EndBlob h = blob_reaches (blob_of s.kept)
   acts_reaches (actions.Refuse e) h = tt
 

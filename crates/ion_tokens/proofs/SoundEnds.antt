@@ -19,7 +19,8 @@ use Rattle.ion_tokens.specs.Lexemes.{IsOperator, comment_within}
 use Rattle.ion_tokens.proofs.Moves.{at, Stays}
 use Rattle.ion_tokens.proofs.Opens.{IsOpen, IsOpenRun, IsFound}
 use Rattle.ion_tokens.proofs.Holds.{InMode, IsBegun, Holds}
-use Rattle.ion_tokens.proofs.TurnsWords.{number_found, slash_in, each_last, empty_symbol}
+use Rattle.ion_tokens.specs.EachLaws.{each_last}
+use Rattle.ion_tokens.proofs.TurnsWords.{number_found, slash_in, empty_symbol}
 use Rattle.ion_tokens.proofs.TurnsOperators.{found_run, comment_append, both_false, apart_more, not_empty}
 
 -- behind a blank, a token up to the end of the input

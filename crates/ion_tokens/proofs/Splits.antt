@@ -22,11 +22,11 @@ pub record LeftSplit (p : Place) (piece : List ℕ) (s s' : Known) (l : Lexeme) 
   pub ran : run p (octets ++ octet ∷ []) s ≡ Left l s'
   pub used : s'.used ≡ s.used + length octets
 
-given_one : (p : Place) (o : ℕ) (s s' : Known) (l : Lexeme) → feed p s o ≡ Given l s' → s'.used ≡ s.used + 1
+pub given_one : (p : Place) (o : ℕ) (s s' : Known) (l : Lexeme) → feed p s o ≡ Given l s' → s'.used ≡ s.used + 1
 unfolding Between
 given_one p o s s' l e = let h = subst (λ x. Between x s.used 1) e (acts_between p s o (next p s.colon s.mode o)) in omega (arith, h.0, h.1)
 
-left_one : (p : Place) (o : ℕ) (s s' : Known) (l : Lexeme) → feed p s o ≡ Left l s' → s'.used ≡ s.used
+pub left_one : (p : Place) (o : ℕ) (s s' : Known) (l : Lexeme) → feed p s o ≡ Left l s' → s'.used ≡ s.used
 unfolding Between
 left_one p o s s' l e = let h = subst (λ x. Between x s.used 1) e (acts_between p s o (next p s.colon s.mode o)) in omega (arith, h.0, h.1)
 

@@ -1,5 +1,5 @@
 -- What the calls of the scanner say of the octets so far and the tokens told.
-use Rattle.std.proofs.Common.{◌≡◌, ◌≢◌, ℕ, ◌+◌, ◌≤◌, inl, inr, Bool, false, List, [], ◌∷◌, ◌++◌, length, take, drop, refl, sym, ap, ◌∙◌, subst, arith, append_assoc, append-nil, length-append}
+use Rattle.std.proofs.Common.{◌≡◌, ◌≢◌, ℕ, ◌+◌, ◌≤◌, inl, inr, Bool, true, false, List, [], ◌∷◌, ◌++◌, length, take, drop, refl, sym, ap, ◌∙◌, subst, arith, append_assoc, append-nil, length-append}
 use Rattle.std.specs.Prelude.{Option, Some, None, Result, Ok, Err}
 use Rattle.std.specs.List.{AllByRecursion}
 use Rattle.std.proofs.Math.Seq.{drop-append_seam, take-append_seam}
@@ -9,19 +9,20 @@ use Rattle.ion_model.specs.declared.refusal.Reason.TheVariants as reasons
 use Rattle.ion_tokens.specs.declared.mode.Place.{Place}
 use Rattle.ion_tokens.specs.declared.token.Scan.{Scan}
 use Rattle.ion_tokens.specs.declared.token.Token.{Token}
-use Rattle.ion_tokens.specs.Scanning.{Known, Lexeme, Outcome, Next, Given, Left, Refused, run, at_end, initial}
+use Rattle.ion_tokens.specs.Scanning.{Known, Lexeme, Outcome, Next, Given, Left, Refused, follow, run, at_end, initial}
 use Rattle.ion_tokens.specs.Bodies.{IsBody}
-use Rattle.ion_tokens.specs.Steps.{Answers, Ends, IsToken, GivesToken}
+use Rattle.ion_tokens.specs.Steps.{Answers, Ends, IsToken, GivesToken, deciding}
 use Rattle.ion_tokens.specs.Lexed.{Placed, Lexes, LexesTo, BeginsLexed, Stands, Begun, Gave, Leaved, Passes, AllPass, IsNext}
-use Rattle.ion_tokens.specs.Scanned.{Scanned, IsAhead, Continues, AllSay, Tells, Goes, NoDocument, EndsSo, NoEnd}
+use Rattle.ion_tokens.specs.Scanned.{Scanned, IsAhead, Continues, AllSay, Tells, GoesWith, NoDocument, EndsSo, NoEnd}
 use Rattle.ion_tokens.proofs.Runs.{next_used}
 use Rattle.ion_tokens.proofs.Cutting.{one_body}
 use Rattle.ion_tokens.proofs.Wholes.{run_behind}
 use Rattle.ion_tokens.proofs.Histories.{refusal_right, given_next, left_next, end_blank, end_token}
 use Rattle.ion_tokens.proofs.Told.{told_right, ends_in_blank, ends_in_token}
-use Rattle.ion_tokens.proofs.Ended.{told_all}
+use Rattle.ion_tokens.proofs.Ended.{stands_used, told_all}
 use Rattle.ion_tokens.specs.Blobs.{AreOctets}
 use Rattle.ion_tokens.proofs.Splits.{GivenSplit, LeftSplit, given_split, left_split, given_some}
+use Rattle.ion_tokens.proofs.LastOctets.{RefusedSplit, refused_split}
 
 -- at most one octet is left
 at_most_one : (s : Known) (u : List ℕ) (ts : List Placed) (ahead : List ℕ) → Stands s u ts ahead → length ahead ≤ 1
@@ -30,15 +31,19 @@ at_most_one s u ts ahead (Gave s0 u0 ts0 ahead0 t octets more0 s' h e f n) = ome
 at_most_one s u ts ahead (Leaved s0 u0 ts0 ahead0 t octets more0 x s' h e f n) = omega arith
 
 -- the front of octets that begin with at most one
-begins_front : (left octets rest more : List ℕ) → length left ≤ 1 → 1 ≤ length octets → octets ++ rest ≡ left ++ more → Continues octets left
+pub begins_front : (left octets rest more : List ℕ) → length left ≤ 1 → 1 ≤ length octets → octets ++ rest ≡ left ++ more → Continues octets left
 begins_front [] octets rest more h k e = (octets, refl)
 begins_front (y ∷ []) [] rest more h k e = absurd (omega arith)
 begins_front (y ∷ []) (z ∷ zs) rest more h k e = let same : z ≡ y = ap (λ l. Rattle.std.specs.Prelude.slice_index l 0) e in (zs, ap (λ (x : ℕ). x ∷ zs) same)
 begins_front (y ∷ z ∷ ys) octets rest more h k e = absurd (omega arith)
 
-pass_more : (ts : List Placed) (t : Placed) → AllPass ts → Passes t.lexeme.kind t.lexeme.octets → AllPass (ts ++ t ∷ [])
+pub pass_more : (ts : List Placed) (t : Placed) → AllPass ts → Passes t.lexeme.kind t.lexeme.octets → AllPass (ts ++ t ∷ [])
 pass_more [] t h k = (k, tt)
 pass_more (x ∷ ts) t h k = (h.0, pass_more ts t h.1 k)
+
+-- so many octets of a piece are its front
+pub front_is : (piece octets rest : List ℕ) (n : ℕ) → piece ≡ octets ++ rest → n ≡ length octets → take n piece ≡ octets
+front_is piece octets rest n cut size = ap (λ l. take n l) cut ∙ ap (λ (i : ℕ). take i (octets ++ rest)) size ∙ take-append_seam octets rest
 
 -- before any octet
 pub begins : (p : Place) (s : Known) → s ≡ initial → Scanned p s [] [] []
@@ -65,6 +70,9 @@ module _ (p : Place) (s : Known) (u : List ℕ) (ts : List Placed) (ahead : List
 
   cut_there : (piece rest : List ℕ) → u ++ (piece ++ rest) ≡ h.front ++ ((h.since ++ piece) ++ rest)
   cut_there piece rest = ap (λ l. l ++ (piece ++ rest)) h.cut ∙ append_assoc h.front h.since (piece ++ rest) ∙ ap (λ l. h.front ++ l) (sym (append_assoc h.since piece rest))
+
+  there : (octets rest : List ℕ) → (u ++ octets) ++ rest ≡ h.front ++ ((h.since ++ octets) ++ rest)
+  there octets rest = append_assoc u octets rest ∙ cut_there octets rest
 
   pub goes_on : (piece : List ℕ) (s' : Known) → Continues piece ahead → run p piece s ≡ Next s' → Scanned p s' (u ++ piece) ts []
   goes_on piece s' c e = record {
@@ -96,43 +104,52 @@ module _ (p : Place) (s : Known) (u : List ℕ) (ts : List Placed) (ahead : List
     next = inl (refl, refl);
   }
 
-  gave : (piece : List ℕ) (s' : Known) (l : Lexeme) (used : ℕ) (t : Token) → Continues piece ahead → run p piece s ≡ Given l s' → s'.used ≡ s.used + used → IsToken l t → Tells p u piece ts used t s'
-  gave piece s' l used t c e n is = by (given_split p piece s s' l e) where
-    by : GivenSplit p piece s s' l → Tells p u piece ts used t s'
+  -- the octets used are those that the scanner stands for
+  pub scanned_used : s.used ≡ length u
+  scanned_used = let stood = stands_used h.behind h.front ts h.left h.told in omega (arith, stood, since_used, ap length h.cut, length-append h.front h.since)
+
+  gave : (piece : List ℕ) (s' : Known) (l : Lexeme) (scan : Scan) (t : Token) → scan.left ≡ false → Continues piece ahead → run p piece s ≡ Given l s' → s'.used ≡ s.used + scan.used → IsToken l t → Tells p u piece ts scan t s'
+  gave piece s' l scan t used_all c e n is = by (given_split p piece s s' l e) where
+    by : GivenSplit p piece s s' l → Tells p u piece ts scan t s'
     by x =
-        let size : length x.octets ≡ used = omega (arith, n, x.used) in
+        let size : scan.used ≡ length x.octets = omega (arith, n, x.used) in
         let some : 1 ≤ length x.octets = given_some p x.octets s s' l x.ran in
         let from = from_left piece x.octets x.rest c x.cut some in
-        let front : take used piece ≡ x.octets = ap (λ l. take used l) x.cut ∙ ap (λ (n : ℕ). take n (x.octets ++ x.rest)) (sym size) ∙ take-append_seam x.octets x.rest in
+        let front : take scan.used piece ≡ x.octets = front_is piece x.octets x.rest scan.used x.cut size in
+        let decide : take (deciding scan.used scan.left) piece ≡ x.octets = ap (λ b. take (deciding scan.used b) piece) used_all ∙ front in
         record {
           lexeme = l;
           is = is;
-          longest = λ rest others looks lexes. let w = whole_piece piece c in
-              given_next h.behind s' h.front ts h.left (h.since ++ piece) w.0 p l h.told w.1 (behind_since piece (Given l s') e) rest others looks (subst (λ o. Lexes false 0 o (ts ++ others)) (cut_there piece rest) lexes);
+          longest = λ rest others looks lexes.
+              given_next h.behind s' h.front ts h.left (h.since ++ x.octets) from.0 p l h.told from.1 (behind_since x.octets (Given l s') x.ran) rest others looks
+              (subst (λ o. Lexes false 0 o (ts ++ others)) (ap (λ l. (u ++ l) ++ rest) decide ∙ there x.octets rest) lexes);
           ahead = [];
-          one = omega arith;
-          again = (drop used piece, refl);
+          left = let whole = ap (λ b. deciding scan.used b) used_all in omega (arith, whole);
+          again = (drop scan.used piece, refl);
           scanned = λ q. subst (λ o. Scanned q s' (u ++ o) (ts ++ record { place = p; lexeme = l } ∷ []) []) (sym front)
               (told_more x.octets (record { place = p; lexeme = l }) s' []
               (Gave h.behind h.front ts h.left (record { place = p; lexeme = l }) (h.since ++ x.octets) from.0 s' h.told from.1 (behind_since x.octets (Given l s') x.ran) (omega (arith, x.used, since_used, length-append h.since x.octets))) is.passes q);
         }
 
-  left : (piece : List ℕ) (s' : Known) (l : Lexeme) (used : ℕ) (t : Token) → Continues piece ahead → run p piece s ≡ Left l s' → s'.used ≡ s.used + used → IsToken l t → Tells p u piece ts used t s'
-  left piece s' l used t c e n is = by (left_split p piece s s' l e) where
-    by : LeftSplit p piece s s' l → Tells p u piece ts used t s'
+  left : (piece : List ℕ) (s' : Known) (l : Lexeme) (scan : Scan) (t : Token) → scan.left ≡ true → Continues piece ahead → run p piece s ≡ Left l s' → s'.used ≡ s.used + scan.used → IsToken l t → Tells p u piece ts scan t s'
+  left piece s' l scan t one_left c e n is = by (left_split p piece s s' l e) where
+    by : LeftSplit p piece s s' l → Tells p u piece ts scan t s'
     by x =
-        let size : length x.octets ≡ used = omega (arith, n, x.used) in
+        let size : scan.used ≡ length x.octets = omega (arith, n, x.used) in
         let whole : piece ≡ (x.octets ++ x.octet ∷ []) ++ x.rest = x.cut ∙ sym (append_assoc x.octets (x.octet ∷ []) x.rest) in
         let from = from_left piece (x.octets ++ x.octet ∷ []) x.rest c whole (omega (arith, length-append x.octets (x.octet ∷ []))) in
-        let front : take used piece ≡ x.octets = ap (λ l. take used l) x.cut ∙ ap (λ (n : ℕ). take n (x.octets ++ x.octet ∷ x.rest)) (sym size) ∙ take-append_seam x.octets (x.octet ∷ x.rest) in
-        let back : drop used piece ≡ x.octet ∷ x.rest = ap (λ l. drop used l) x.cut ∙ ap (λ (n : ℕ). drop n (x.octets ++ x.octet ∷ x.rest)) (sym size) ∙ drop-append_seam x.octets (x.octet ∷ x.rest) in
+        let front : take scan.used piece ≡ x.octets = front_is piece x.octets (x.octet ∷ x.rest) scan.used x.cut size in
+        let back : drop scan.used piece ≡ x.octet ∷ x.rest = ap (λ l. drop scan.used l) x.cut ∙ ap (λ (n : ℕ). drop n (x.octets ++ x.octet ∷ x.rest)) size ∙ drop-append_seam x.octets (x.octet ∷ x.rest) in
+        let longer : scan.used + 1 ≡ length (x.octets ++ x.octet ∷ []) = omega (arith, size, length-append x.octets (x.octet ∷ [])) in
+        let decide : take (deciding scan.used scan.left) piece ≡ x.octets ++ x.octet ∷ [] = ap (λ b. take (deciding scan.used b) piece) one_left ∙ front_is piece (x.octets ++ x.octet ∷ []) x.rest (scan.used + 1) whole longer in
         record {
           lexeme = l;
           is = is;
-          longest = λ rest others looks lexes. let w = whole_piece piece c in
-              left_next h.behind s' h.front ts h.left (h.since ++ piece) w.0 p l h.told w.1 (behind_since piece (Left l s') e) rest others looks (subst (λ o. Lexes false 0 o (ts ++ others)) (cut_there piece rest) lexes);
+          longest = λ rest others looks lexes.
+              left_next h.behind s' h.front ts h.left (h.since ++ (x.octets ++ x.octet ∷ [])) from.0 p l h.told from.1 (behind_since (x.octets ++ x.octet ∷ []) (Left l s') x.ran) rest others looks
+              (subst (λ o. Lexes false 0 o (ts ++ others)) (ap (λ l. (u ++ l) ++ rest) decide ∙ there (x.octets ++ x.octet ∷ []) rest) lexes);
           ahead = x.octet ∷ [];
-          one = omega arith;
+          left = let one = ap (λ b. deciding scan.used b) one_left in omega (arith, one);
           again = (x.rest, back);
           scanned = λ q. subst (λ o. Scanned q s' (u ++ o) (ts ++ record { place = p; lexeme = l } ∷ []) (x.octet ∷ [])) (sym front)
               (told_more x.octets (record { place = p; lexeme = l }) s' (x.octet ∷ [])
@@ -142,16 +159,16 @@ module _ (p : Place) (s : Known) (u : List ℕ) (ts : List Placed) (ahead : List
         }
 
   -- what a step that answers `Ok` says of the octets
-  pub step_goes : (piece : List ℕ) (x : Outcome) (scan : Scan) (now : Known) → Continues piece ahead → run p piece s ≡ x → Answers s.used x (Ok scan) now → Goes p u piece ts scan.used scan.token now
-  step_goes piece (Next s') scan now c e (uses, none) = subst (λ t. Goes p u piece ts scan.used t now) (sym none) (subst (λ k. Scanned p k (u ++ piece) ts []) (sym uses.known) (goes_on piece s' c e))
-  step_goes piece (Given l s') scan now c e (uses, gives) = subst (λ k. Goes p u piece ts scan.used scan.token k) (sym uses.known) (by scan.token gives) where
-    by : (t : Option Token) → GivesToken l t → Goes p u piece ts scan.used t s'
+  pub step_goes : (piece : List ℕ) (x : Outcome) (scan : Scan) (now : Known) → Continues piece ahead → run p piece s ≡ x → Answers s.used x (Ok scan) now → GoesWith p u piece ts scan now scan.token
+  step_goes piece (Next s') scan now c e (uses, none, flag) = subst (λ t. GoesWith p u piece ts scan now t) (sym none) (subst (λ k. Scanned p k (u ++ piece) ts []) (sym uses.known) (goes_on piece s' c e))
+  step_goes piece (Given l s') scan now c e (uses, gives, flag) = subst (λ k. GoesWith p u piece ts scan k scan.token) (sym uses.known) (by scan.token gives) where
+    by : (t : Option Token) → GivesToken l t → GoesWith p u piece ts scan s' t
     by None h = absurd h
-    by (Some t) h = gave piece s' l scan.used t c e (sym (ap (λ (k : Known). k.used) uses.known) ∙ uses.counted) h
-  step_goes piece (Left l s') scan now c e (uses, gives) = subst (λ k. Goes p u piece ts scan.used scan.token k) (sym uses.known) (by scan.token gives) where
-    by : (t : Option Token) → GivesToken l t → Goes p u piece ts scan.used t s'
+    by (Some t) h = gave piece s' l scan t flag c e (sym (ap (λ (k : Known). k.used) uses.known) ∙ uses.counted) h
+  step_goes piece (Left l s') scan now c e (uses, gives, flag) = subst (λ k. GoesWith p u piece ts scan k scan.token) (sym uses.known) (by scan.token gives) where
+    by : (t : Option Token) → GivesToken l t → GoesWith p u piece ts scan s' t
     by None h = absurd h
-    by (Some t) h = left piece s' l scan.used t c e (sym (ap (λ (k : Known). k.used) uses.known) ∙ uses.counted) h
+    by (Some t) h = left piece s' l scan t flag c e (sym (ap (λ (k : Known). k.used) uses.known) ∙ uses.counted) h
   step_goes piece (Refused n r) scan now c e a = absurd a
 
   -- a token that says nothing isn't the next one
@@ -159,18 +176,44 @@ module _ (p : Place) (s : Known) (u : List ℕ) (ts : List Placed) (ahead : List
   says_none l e [] b say next = next
   says_none l e (t ∷ others) b say next = let same = one_body l.kind l.octets (Ok say.0.0) (Err e) (subst (λ (m : Lexeme). IsBody m.kind m.octets (Ok say.0.0)) next say.0.1) b in cc
 
-  -- where a step refuses, no document goes on so
-  pub step_refuses : (piece : List ℕ) (x : Outcome) (r : Refusal) (now : Known) → r.reason ≢ reasons.Memory → Continues piece ahead → run p piece s ≡ x → Answers s.used x (Err r) now → NoDocument p (u ++ piece) ts
+  -- the octets up to a refusal's offset
+  at_offset : (piece octets after rest : List ℕ) (offset : ℕ) → piece ≡ octets ++ after → offset ≡ s.used + length octets → take offset (u ++ piece) ++ rest ≡ h.front ++ ((h.since ++ octets) ++ rest)
+  at_offset piece octets after rest offset cut n =
+      let size : offset ≡ length (u ++ octets) = omega (arith, n, scanned_used, length-append u octets) in
+      ap (λ l. l ++ rest) (front_is (u ++ piece) (u ++ octets) after offset (ap (λ l. u ++ l) cut ∙ sym (append_assoc u octets after)) size) ∙ there octets rest
+
+  -- where a step refuses, no document goes on with the octets up to its offset
+  pub step_refuses : (piece : List ℕ) (x : Outcome) (r : Refusal) (now : Known) → r.reason ≢ reasons.Memory → Continues piece ahead → run p piece s ≡ x → Answers s.used x (Err r) now → NoDocument p (take r.offset (u ++ piece)) ts
   step_refuses piece (Next s') r now n c e a = absurd (a n)
-  step_refuses piece (Given l s') r now n c e a = λ rest others looks say lexes. let w = whole_piece piece c in
-      says_none l r.reason others (a n).says say (given_next h.behind s' h.front ts h.left (h.since ++ piece) w.0 p l h.told w.1 (behind_since piece (Given l s') e) rest others looks
-      (subst (λ o. Lexes false 0 o (ts ++ others)) (append_assoc u piece rest ∙ cut_there piece rest) lexes))
-  step_refuses piece (Left l s') r now n c e a = λ rest others looks say lexes. let w = whole_piece piece c in
-      says_none l r.reason others (a n).says say (left_next h.behind s' h.front ts h.left (h.since ++ piece) w.0 p l h.told w.1 (behind_since piece (Left l s') e) rest others looks
-      (subst (λ o. Lexes false 0 o (ts ++ others)) (append_assoc u piece rest ∙ cut_there piece rest) lexes))
-  step_refuses piece (Refused k reason) r now n c e a = λ rest others looks say lexes. let w = whole_piece piece c in
-      refusal_right h.behind h.front ts h.left (h.since ++ piece) w.0 p k reason h.told w.1 (behind_since piece (Refused k reason) e) rest others looks
-      (subst (λ o. Lexes false 0 o (ts ++ others)) (append_assoc u piece rest ∙ cut_there piece rest) lexes)
+  step_refuses piece (Given l s') r now n c e a = by (given_split p piece s s' l e) where
+    by : GivenSplit p piece s s' l → NoDocument p (take r.offset (u ++ piece)) ts
+    by x = λ rest others looks say lexes.
+        let from = from_left piece x.octets x.rest c x.cut (given_some p x.octets s s' l x.ran) in
+        says_none l r.reason others (a n).says say
+        (given_next h.behind s' h.front ts h.left (h.since ++ x.octets) from.0 p l h.told from.1 (behind_since x.octets (Given l s') x.ran) rest others looks
+        (subst (λ o. Lexes false 0 o (ts ++ others)) (at_offset piece x.octets x.rest rest r.offset x.cut ((a n).offset ∙ x.used)) lexes))
+  step_refuses piece (Left l s') r now n c e a = by (left_split p piece s s' l e) where
+    by : LeftSplit p piece s s' l → NoDocument p (take r.offset (u ++ piece)) ts
+    by x = λ rest others looks say lexes.
+        let octets = x.octets ++ x.octet ∷ [] in
+        let whole : piece ≡ octets ++ x.rest = x.cut ∙ sym (append_assoc x.octets (x.octet ∷ []) x.rest) in
+        let size = length-append x.octets (x.octet ∷ []) in
+        let from = from_left piece octets x.rest c whole (omega (arith, size)) in
+        says_none l r.reason others (a n).says say
+        (left_next h.behind s' h.front ts h.left (h.since ++ octets) from.0 p l h.told from.1 (behind_since octets (Left l s') x.ran) rest others looks
+        (subst (λ o. Lexes false 0 o (ts ++ others)) (at_offset piece octets x.rest rest r.offset whole (let at = (a n).offset in omega (arith, at, x.used, size))) lexes))
+  step_refuses piece (Refused k reason) r now n c e a = by (refused_split p piece s k reason e) where
+    by : RefusedSplit p piece s k reason → NoDocument p (take r.offset (u ++ piece)) ts
+    by x = λ rest others looks say lexes.
+        let last = x.last in
+        let octets = last.before ++ last.octet ∷ [] in
+        let whole : piece ≡ octets ++ last.rest = last.cut ∙ sym (append_assoc last.before (last.octet ∷ []) last.rest) in
+        let size = length-append last.before (last.octet ∷ []) in
+        let from = from_left piece octets last.rest c whole (omega (arith, size)) in
+        let at : r.offset ≡ k = ap (λ (q : Refusal). q.offset) (a n) in
+        let ran : run p octets s ≡ Refused k reason = run_behind p last.before (last.octet ∷ []) s last.known last.ran ∙ ap (λ y. follow y (λ t. Next t)) last.fed in
+        refusal_right h.behind h.front ts h.left (h.since ++ octets) from.0 p k reason h.told from.1 (behind_since octets (Refused k reason) ran) rest others looks
+        (subst (λ o. Lexes false 0 o (ts ++ others)) (at_offset piece octets last.rest rest r.offset whole (omega (arith, at, x.offset, size))) lexes)
 
 module _ (p : Place) (s : Known) (u : List ℕ) (ts : List Placed) (h : Scanned p s u ts []) where
   pub all_since : Continues h.since h.left

@@ -17,6 +17,7 @@ use Rattle.ion_tokens.specs.declared.mode.Keep.TheVariants as keeps
 use Rattle.ion_tokens.specs.declared.mode.Action.TheVariants as actions
 use Rattle.ion_tokens.specs.Table.{in_text, in_lob, lob_start, after_short, after_long, is_name}
 use Rattle.ion_tokens.specs.Blobs.{IsBase64, blob_of}
+use Rattle.ion_tokens.specs.BlobLaws.{octet_at}
 use Rattle.base64.specs.Engines.{standard}
 use Rattle.base64.specs.GeneralPurpose.{decode_of, decoded_of}
 use Rattle.std.specs.Result.{result_ok}
@@ -213,7 +214,7 @@ blob_closes p lobs.ClobClose kept octets h e = absurd h
 -- RFC 4648's text of octets decodes to them
 pub blob_known : (text octets : List ℕ) → IsBase64 text octets → blob_of text ≡ Some octets
 unfolding blob_of decoded_of
-blob_known text octets h = ap result_ok (ap (decode_of standard) h.spelled ∙ decode_of-encode_of standard octets refl h.octets_are)
+blob_known text octets h = ap result_ok (ap (decode_of standard) h.spelled ∙ decode_of-encode_of standard octets refl (octet_at octets h.octets_are))
 
 pub takes_blob : (p : Place) (colon : Bool) (content octets r : List ℕ) → is_name p ≡ false → IsBlobContent content octets → Takes p colon (codes "{{" ++ content ++ codes "}}") r kinds.Blob octets
 unfolding solid

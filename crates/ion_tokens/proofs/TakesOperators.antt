@@ -181,12 +181,12 @@ takes_infinity colon w e rest f n h = one rest h where
       (λ none. absurd (true≢false (sym (ap not none) ∙ h))) (bool_cases (is_word_octet x))
 
   two : (rest : List ℕ) → begins_infinity (105 ∷ 110 ∷ rest) ≡ false → Read colon w (105 ∷ 110 ∷ rest)
-  two [] h = Open refl refl (λ start used. (at (modes.Infinity 2) w colon used (used + length (w ++ 105 ∷ 110 ∷ [])), refl, ap (λ l. run places.Sexp l (blank colon start used)) (sym (append-nil (w ++ 105 ∷ 110 ∷ []))) ∙ opens2 start used [], refl))
+  two [] h = Open refl refl resumes_in (λ start used. (at (modes.Infinity 2) w colon used (used + length (w ++ 105 ∷ 110 ∷ [])), refl, ap (λ l. run places.Sexp l (blank colon start used)) (sym (append-nil (w ++ 105 ∷ 110 ∷ []))) ∙ opens2 start used [], refl))
   two (x ∷ rest) h = ⊎_elim (λ (i : x ≡ 102). subst (λ (y : ℕ). Read colon w (105 ∷ 110 ∷ y ∷ rest)) (sym i) (three rest (subst (λ (y : ℕ). begins_infinity (105 ∷ 110 ∷ y ∷ rest) ≡ false) i h)))
       (λ n. takes_split colon w (105 ∷ 110 ∷ []) 2 x rest opens2 (split_two x n) refl refl resumes_in) (eq_or x 102)
 
   one : (rest : List ℕ) → begins_infinity (105 ∷ rest) ≡ false → Read colon w (105 ∷ rest)
-  one [] h = Open refl refl (λ start used. (at (modes.Infinity 1) w colon used (used + length (w ++ 105 ∷ [])), refl, ap (λ l. run places.Sexp l (blank colon start used)) (sym (append-nil (w ++ 105 ∷ []))) ∙ opens1 start used [], refl))
+  one [] h = Open refl refl resumes_i (λ start used. (at (modes.Infinity 1) w colon used (used + length (w ++ 105 ∷ [])), refl, ap (λ l. run places.Sexp l (blank colon start used)) (sym (append-nil (w ++ 105 ∷ []))) ∙ opens1 start used [], refl))
   one (x ∷ rest) h = ⊎_elim (λ (i : x ≡ 110). subst (λ (y : ℕ). Read colon w (105 ∷ y ∷ rest)) (sym i) (two rest (subst (λ (y : ℕ). begins_infinity (105 ∷ y ∷ rest) ≡ false) i h)))
       (λ n. takes_split colon w (105 ∷ []) 1 x rest opens1 (split_one x n) refl refl resumes_i) (eq_or x 110)
 

@@ -19,7 +19,7 @@ use Rattle.ion_tokens.specs.Table.{in_lob, lob_start, in_blob, after_short, afte
 use Rattle.ion_tokens.specs.Lexemes.{Each, Segment, IsSegment, segment_spelling, ShortText, LongTexts}
 use Rattle.ion_tokens.proofs.Opens.{IsOpen, InLob, IsLongText, solid, AnyBlob, Turns}
 use Rattle.ion_tokens.proofs.TextsRead.{reads_none}
-use Rattle.ion_tokens.proofs.TurnsWords.{each_last}
+use Rattle.ion_tokens.specs.EachLaws.{each_last}
 use Rattle.ion_tokens.proofs.TurnsTexts.{segments_last}
 
 -- an action behind {{ and more
@@ -118,7 +118,7 @@ two_braces content inside o e is = ap (λ l. 123 ∷ 123 ∷ l) ((λ i. e i ++ i
 blob_close_turns : (p : Place) (colon : Bool) (inside kept : List ℕ) (o : ℕ) → is_name p ≡ false → InLob lobs.BlobClose inside kept → At p colon inside kept o (second_brace o kinds.Blob)
 blob_close_turns p colon inside kept o n (content, h, e) = by (o == 125) refl where
   by : (c : Bool) → (o == 125) ≡ c → At p colon inside kept o (cond c (actions.Give kinds.Blob keeps.Nothing) refused)
-  by true f = λ r j. (n, content, h j, two_braces content inside o e (eq_of o 125 f))
+  by true f = λ r j. (n, content, h, two_braces content inside o e (eq_of o 125 f))
   by false f = tt
 
 clob_close_turns : (p : Place) (colon : Bool) (inside kept : List ℕ) (o : ℕ) → is_name p ≡ false → InLob lobs.ClobClose inside kept → At p colon inside kept o (second_brace o kinds.Clob)

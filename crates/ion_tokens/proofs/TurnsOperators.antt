@@ -16,7 +16,7 @@ use Rattle.ion_tokens.specs.declared.mode.Action.TheVariants as actions
 use Rattle.ion_tokens.specs.Table.{in_operator, in_operator_slash, in_infinity, digit_behind, is_other, run_ending, refused, add, go, before, is_name, is_sexp}
 use Rattle.ion_tokens.specs.Lexemes.{begins, ends, begins_comment, comment_within, begins_infinity, IsOperator, IsLexeme}
 use Rattle.ion_tokens.proofs.Opens.{IsOpen, IsOpenNumber, IsOpenRun, EndsSo, Turns}
-use Rattle.ion_tokens.proofs.TurnsWords.{each_last}
+use Rattle.ion_tokens.specs.EachLaws.{each_last}
 
 eq_of : (a b : ℕ) → (a == b) ≡ true → a ≡ b
 eq_of a b h = grind (arith, nat_tests)

@@ -16,15 +16,8 @@ use Rattle.ion_tokens.specs.declared.mode.Action.TheVariants as actions
 use Rattle.ion_tokens.specs.Table.{in_word, in_kind_name, in_number, in_number_slash, in_colon, in_brace, add, go, give, before}
 use Rattle.ion_tokens.specs.Quoted.{IsQuoted}
 use Rattle.ion_tokens.specs.Lexemes.{Each, begins, begins_number, begins_comment}
+use Rattle.ion_tokens.specs.EachLaws.{each_last, begins_more}
 use Rattle.ion_tokens.proofs.Opens.{IsOpen, IsOpenNumber, Turns, IsFound}
-
-pub each_last : (class : ℕ → Bool) (os : List ℕ) (o : ℕ) → Each class os → class o ≡ true → Each class (os ++ o ∷ [])
-each_last class [] o h e = (e, tt)
-each_last class (x ∷ os) o h e = (h.0, each_last class os o h.1 e)
-
-pub begins_more : (class : ℕ → Bool) (os more : List ℕ) → begins class os ≡ true → begins class (os ++ more) ≡ true
-begins_more class [] more h = absurd (false≢true h)
-begins_more class (x ∷ os) more h = h
 
 -- words
 pub word_turns : (p : Place) (colon : Bool) (w kept : List ℕ) (o : ℕ) → IsOpen p colon modes.Word w kept → Turns p colon w kept o (in_word o)

@@ -16,7 +16,7 @@ use Rattle.ion_tokens.specs.Octets.{is_white, begins_word}
 use Rattle.ion_tokens.specs.Blanks.{BlankPiece, White, LineComment, BlockComment, IsBlankPiece, blank_spelling, IsBlank, IsLastBlank}
 use Rattle.ion_tokens.specs.Lexemes.{IsLexeme, mark_spelling, begins}
 use Rattle.ion_tokens.specs.Lexed.{Placed, BeginsWith, colon_behind, LexesBefore}
-use Rattle.ion_tokens.proofs.Found.{FindsUpTo, Last, Gives, Leaves, Unclosed}
+use Rattle.ion_tokens.proofs.Found.{FindsUpTo, in_word, Last, Gives, Leaves, Unclosed}
 use Rattle.ion_tokens.proofs.Cutting.{run-append}
 use Rattle.ion_tokens.proofs.Runs.{given_used, left_used, next_used}
 use Rattle.ion_tokens.proofs.Moves.{at, blank, lexeme, Takes, Now, Later, AtEnd, Open}
@@ -27,7 +27,7 @@ pub run_behind : (p : Place) (xs ys : List ℕ) (s t : Known) → run p xs s ≡
 run_behind p xs ys s t e = run-append p xs ys s ∙ ap (λ x. follow x (λ t. run p ys t)) e
 
 -- a token has an octet
-some_octet : (p : Place) (colon : Bool) (r : List ℕ) (kind : TokenKind) (kept : List ℕ) → IsLexeme p colon [] r kind kept → ⊥
+pub some_octet : (p : Place) (colon : Bool) (r : List ℕ) (kind : TokenKind) (kept : List ℕ) → IsLexeme p colon [] r kind kept → ⊥
 some_octet p colon r kinds.Word kept h = false≢true h.1.0
 some_octet p colon r kinds.KindName kept h = cc
 some_octet p colon r kinds.Number kept h = false≢true h.2.begun
@@ -159,7 +159,11 @@ module _ (End : Bool → ℕ → List ℕ → Type 0) (Rests : Known → List �
           let last : ts ≡ [] = all_found End (colon_behind t) t.lexeme.end ts (subst (λ l. LexesBefore End (colon_behind t) t.lexeme.end l ts) none lexes) in
           let found : run t.place rest s ≡ Next ended.0 = goes_on colon k ahead rest s reached t.place octets (Next ended.0) e (ap (λ l. run t.place l (at modes.Blank [] colon k k)) (b.cut ∙ append_assoc b.blank b.token r) ∙ passed.1 (b.token ++ r) ∙ ended.1) in
           subst (λ l. FindsUpTo Rests Bare s rest (t ∷ l)) (sym last) (Last s rest t ended.0 found (ended.2 ∙ ap (λ l. Ok (Some l)) (sym same)))
-      by kind kept same (Open some operator f) f' =
+      by kind kept same (Open some operator resumes f) f' =
           let ended = f start (k + length b.blank) in
           let found : run t.place rest s ≡ Next ended.0 = goes_on colon k ahead rest s reached t.place octets (Next ended.0) e (ap (λ l. run t.place l (at modes.Blank [] colon k k)) (b.cut ∙ append_assoc b.blank b.token r) ∙ passed.1 (b.token ++ r) ∙ ended.2) in
-          Unclosed s rest t ts ended.0 (λ none. bare (colon_behind t) t.lexeme.end r (subst (λ x. LexesBefore End (colon_behind t) t.lexeme.end r x) none lexes) some) found ended.3 (b.start ∙ sym ended.1) (sym f' ∙ operator)
+          let used = next_used t.place (b.token ++ r) (blank colon start (k + length b.blank)) ended.0 (sym ended.2) in
+          let all : t.lexeme.end + length r ≡ ended.0.used = omega (arith, used, b.end, length-append b.token r) in
+          let word = more (colon_behind t) t.lexeme.end r r [] (in_word r (colon_behind t) t.lexeme.end (t.lexeme.end + length r)) lexes (sym (append-nil r)) (λ q. resumes q (colon_behind t) t.lexeme.end) in
+          Unclosed s rest t ts ended.0 (colon_behind t) r (λ none. bare (colon_behind t) t.lexeme.end r (subst (λ x. LexesBefore End (colon_behind t) t.lexeme.end r x) none lexes) some) found ended.3 (b.start ∙ sym ended.1) (sym f' ∙ operator)
+          (subst (λ (n : ℕ). FindsUpTo Rests Bare (in_word r (colon_behind t) t.lexeme.end n) [] ts) all word)

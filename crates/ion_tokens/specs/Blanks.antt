@@ -1,6 +1,7 @@
 -- What may stand between tokens (Ion 1.0, "Ion Text Encoding", whitespace and comments).
 use Rattle.std.specs.Prelude.{◌≡◌, ℕ, ◌==◌, ◌&&◌, List, [], ◌∷◌, ◌++◌, codes, true, false, ◌⊎◌}
 use Rattle.std.specs.List.{flat_map, AllByRecursion}
+use Rattle.ion_tokens.specs.Ascii.{asterisk, slash}
 use Rattle.ion_tokens.specs.Octets.{is_white, is_line_end}
 
 -- one piece of a blank; a comment's octets are without its delimiters
@@ -13,7 +14,7 @@ pub data BlankPiece : Type 0 where
 abbrev pub HasNoClose : List ℕ → Type 0
 HasNoClose [] = Unit {0}
 HasNoClose (o ∷ []) = Unit {0}
-HasNoClose (o ∷ p ∷ os) = (((o == 42) && (p == 47)) ≡ false) × HasNoClose (p ∷ os)
+HasNoClose (o ∷ p ∷ os) = (((o == asterisk) && (p == slash)) ≡ false) × HasNoClose (p ∷ os)
 
 abbrev pub HasNoLineEnd : List ℕ → Type 0
 HasNoLineEnd octets = AllByRecursion (λ o. is_line_end o ≡ false) octets

@@ -1,5 +1,7 @@
 -- Base64 of blobs (RFC 4648, section 4), with the padding required and unused bits 0.
-use Rattle.std.specs.Prelude.{◌≡◌, ℕ, ◌<◌, List, codes, true, slice_index, Option}
+use Rattle.std.specs.Prelude.{◌≡◌, ℕ, List, codes, true, Option}
+use Rattle.ion_tokens.specs.Ascii.{equals}
+pub use Rattle.ion_model.specs.Octets.{AreOctets}
 use Rattle.base64.specs.Rfc4648.{encode}
 use Rattle.base64.specs.Engines.{standard}
 use Rattle.base64.specs.GeneralPurpose.{decoded_of}
@@ -10,11 +12,7 @@ alphabet = codes "ABCDEFGHIJKLMNOPQRSTUVWXYZabcdefghijklmnopqrstuvwxyz0123456789
 
 -- the text that stands for these octets
 abbrev pub base64_of : List ℕ → List ℕ
-base64_of octets = encode alphabet 61 true octets
-
--- each is below 256
-abbrev pub AreOctets : List ℕ → Type 0
-AreOctets octets = (i : ℕ) → slice_index octets i < 256
+base64_of octets = encode alphabet equals true octets
 
 -- the text stands for these octets
 pub record IsBase64 (text octets : List ℕ) : Type 0 where

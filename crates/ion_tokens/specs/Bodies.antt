@@ -14,6 +14,7 @@ use Rattle.ion_tokens.specs.declared.mode.TokenKind.{TokenKind}
 use Rattle.ion_tokens.specs.declared.mode.TokenKind.TheVariants as kinds
 use Rattle.ion_tokens.specs.declared.token.Body.{Body}
 use Rattle.ion_tokens.specs.declared.token.Body.TheVariants as bodies
+use Rattle.ion_tokens.specs.Ascii.{dollar, digit_0}
 use Rattle.ion_tokens.specs.Octets.{is_digit}
 
 -- what a token says; octets stand for texts
@@ -55,12 +56,12 @@ kind_named w = find (λ k. bytes_eq (kind_name k) w) every_kind
 -- the number that decimal digits make behind a number
 abbrev pub number_in : ℕ → List ℕ → ℕ
 number_in n [] = n
-number_in n (d ∷ ds) = number_in (n * 10 + (d - 48)) ds
+number_in n (d ∷ ds) = number_in (n * 10 + (d - digit_0)) ds
 
 -- the symbol id that a word is, `$` and digits; 2^64-1 stands for every larger one
 abbrev pub id_of : List ℕ → Option ℕ
 id_of [] = None
-id_of (o ∷ os) = if (o == 36) && nat_lt 0 (length os) && list_all is_digit os then Some (min (number_in 0 os) (2 ^ 64 - 1)) else None
+id_of (o ∷ os) = if (o == dollar) && nat_lt 0 (length os) && list_all is_digit os then Some (min (number_in 0 os) (2 ^ 64 - 1)) else None
 
 -- octets that are a text say this, and others aren't UTF-8
 abbrev pub Spells : Content → List ℕ → Result Content Reason → Type 0

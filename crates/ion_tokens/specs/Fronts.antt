@@ -5,21 +5,22 @@ use Rattle.ion_tokens.specs.declared.mode.Mode.{Mode}
 use Rattle.ion_tokens.specs.declared.mode.Within.TheVariants as within
 use Rattle.ion_tokens.specs.declared.mode.Lob.TheVariants as lobs
 use Rattle.ion_tokens.specs.declared.mode.Mode.TheVariants as modes
+use Rattle.ion_tokens.specs.Ascii.{line_feed, asterisk, slash, backslash}
 use Rattle.ion_tokens.specs.Octets.{is_white, is_line_end, is_word_octet, is_stop, is_base64}
 use Rattle.ion_tokens.specs.Table.{is_long, quote_of, stands}
 use Rattle.ion_tokens.specs.Scanning.{Known, start_of}
 
 -- an ASCII character that a quoted text keeps as it is, and no quote
 abbrev pub is_plain : Style → ℕ → Bool
-is_plain s o = (stands o || (is_long s && (o == 10))) && not ((o == 92) || (o == quote_of s))
+is_plain s o = (stands o || (is_long s && (o == line_feed))) && not ((o == backslash) || (o == quote_of s))
 
 -- the mode goes on as it is with this octet; of modes in which few such octets come in a row none is counted
 abbrev pub goes_on : Mode → ℕ → Bool
 goes_on modes.Blank o = is_white o
 goes_on modes.LineComment o = not (is_line_end o)
-goes_on modes.BlockComment o = not (o == 42)
+goes_on modes.BlockComment o = not (o == asterisk)
 goes_on modes.Word o = is_word_octet o
-goes_on modes.Number o = not (is_stop o || (o == 47))
+goes_on modes.Number o = not (is_stop o || (o == slash))
 goes_on (modes.Text s within.Plain) o = is_plain s o
 goes_on (modes.Lob lobs.Base64) o = is_base64 o
 goes_on _ o = false

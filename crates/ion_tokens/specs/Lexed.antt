@@ -6,7 +6,7 @@ use Rattle.ion_tokens.specs.Blanks.{IsBlank, IsLastBlank}
 use Rattle.std.specs.List.{list_any, AllByRecursion}
 use Rattle.ion_tokens.specs.declared.mode.TokenKind.{TokenKind}
 use Rattle.ion_tokens.specs.declared.mode.TokenKind.TheVariants as kinds
-use Rattle.ion_tokens.specs.Blobs.{AreOctets}
+use Rattle.ion_tokens.specs.Ascii.{slash}
 use Rattle.ion_tokens.specs.Lexemes.{IsLexeme}
 
 -- a token and the place that it was looked for in
@@ -51,10 +51,9 @@ pub data Stands : Known → List ℕ → List Placed → List ℕ → Type 0 whe
   Leaved : (s : Known) (u : List ℕ) (ts : List Placed) (ahead : List ℕ) (t : Placed) (octets more : List ℕ) (x : ℕ) (s' : Known) → Stands s u ts ahead → octets ++ x ∷ [] ≡ ahead ++ more
       → run t.place (octets ++ x ∷ []) s ≡ Left t.lexeme s' → s'.used ≡ s.used + length octets → Stands s' (u ++ octets) (ts ++ t ∷ []) (x ∷ [])
 
--- what is known of a token that isn't refused when it is judged: no number has a `/`, and what was decoded are octets
+-- what is known of a token that isn't refused when it is judged: no number has a `/`
 abbrev pub Passes : TokenKind → List ℕ → Type 0
-Passes kinds.Number kept = list_any (λ o. o == 47) kept ≡ false
-Passes kinds.Blob kept = AreOctets kept
+Passes kinds.Number kept = list_any (λ o. o == slash) kept ≡ false
 Passes _ kept = Unit {0}
 
 -- none of them is refused when it is judged

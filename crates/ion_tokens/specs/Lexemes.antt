@@ -1,6 +1,8 @@
 -- The tokens of the text format by their octets: of which kind they are, where, before what, and what is kept of them to be judged.
 use Rattle.std.specs.Prelude.{◌≡◌, ◌≢◌, ℕ, ◌==◌, Bool, true, false, ◌&&◌, ◌||◌, not, List, [], ◌∷◌, ◌++◌, ◌⊎◌, codes}
 use Rattle.std.specs.List.{flat_map, filter, AllByRecursion}
+use Rattle.ion_tokens.specs.Ascii.{double_quote, single_quote, asterisk, plus, minus, dot, slash, lower_f, lower_i, lower_n, open_brace}
+use Rattle.ion_tokens.specs.Ascii as ascii
 use Rattle.ion_tokens.specs.Octets.{is_white, is_digit, begins_word, is_word_octet, is_operator_octet, is_stop, is_base64}
 use Rattle.ion_tokens.specs.declared.mode.Place.{Place}
 use Rattle.ion_tokens.specs.declared.mode.Mark.{Mark}
@@ -8,7 +10,7 @@ use Rattle.ion_tokens.specs.declared.mode.TokenKind.{TokenKind}
 use Rattle.ion_tokens.specs.declared.mode.Mark.TheVariants as marks
 use Rattle.ion_tokens.specs.declared.mode.Style.TheVariants as styles
 use Rattle.ion_tokens.specs.declared.mode.TokenKind.TheVariants as kinds
-use Rattle.ion_tokens.specs.Table.{is_sexp, is_name}
+use Rattle.ion_tokens.specs.Places.{is_sexp, is_name}
 use Rattle.ion_tokens.specs.Blobs.{IsBase64}
 use Rattle.ion_tokens.specs.Quoted.{IsQuoted}
 
@@ -30,7 +32,7 @@ ends class (o ∷ p ∷ os) = ends class (p ∷ os)
 -- `//` or `/*`
 abbrev pub begins_comment : List ℕ → Bool
 begins_comment [] = false
-begins_comment (o ∷ os) = (o == 47) && begins (λ p. (p == 47) || (p == 42)) os
+begins_comment (o ∷ os) = (o == slash) && begins (λ p. (p == slash) || (p == asterisk)) os
 
 -- at some octet of w a comment begins, read on into r
 abbrev pub comment_within : List ℕ → List ℕ → Bool
@@ -44,12 +46,12 @@ IsWord w = (begins begins_word w ≡ true) × Each is_word_octet w
 -- a digit, or `-` directly before one
 abbrev pub begins_number : List ℕ → Bool
 begins_number [] = false
-begins_number (o ∷ os) = is_digit o || ((o == 45) && begins is_digit os)
+begins_number (o ∷ os) = is_digit o || ((o == minus) && begins is_digit os)
 
 -- A numeric token goes up to a stop character, a comment or the end. No number has a `/`.
 pub record IsNumeric (w r : List ℕ) : Type 0 where
   pub begun : begins_number w ≡ true
-  pub each : Each (λ o. not (is_stop o || (o == 47))) w
+  pub each : Each (λ o. not (is_stop o || (o == slash))) w
   pub longest : (r ≡ []) ⊎ ((begins is_stop r ≡ true) ⊎ (begins_comment r ≡ true))
 
 -- the word `inf`, and no longer one
@@ -57,7 +59,7 @@ abbrev pub begins_infinity : List ℕ → Bool
 begins_infinity [] = false
 begins_infinity (i ∷ []) = false
 begins_infinity (i ∷ n ∷ []) = false
-begins_infinity (i ∷ n ∷ f ∷ r) = (i == 105) && ((n == 110) && ((f == 102) && not (begins is_word_octet r)))
+begins_infinity (i ∷ n ∷ f ∷ r) = (i == lower_i) && ((n == lower_n) && ((f == lower_f) && not (begins is_word_octet r)))
 
 -- A run of operator characters: no comment begins in it; it goes as far as there are such characters, up to a comment; no digit
 -- comes behind its last `-`, with which a number would begin or which would be ambiguous; its last sign makes no float of `inf`.
@@ -66,8 +68,8 @@ pub record IsOperator (w r : List ℕ) : Type 0 where
   pub each : Each is_operator_octet w
   pub apart : comment_within w r ≡ false
   pub longest : (begins is_operator_octet r ≡ false) ⊎ (begins_comment r ≡ true)
-  pub no_number : ends (λ o. o == 45) w ≡ true → begins is_digit r ≡ false
-  pub no_float : ends (λ o. (o == 43) || (o == 45)) w ≡ true → begins_infinity r ≡ false
+  pub no_number : ends (λ o. o == minus) w ≡ true → begins is_digit r ≡ false
+  pub no_float : ends (λ o. (o == plus) || (o == minus)) w ≡ true → begins_infinity r ≡ false
 
 -- the content of a blob: base64 with white space anywhere
 abbrev pub IsBlobContent : List ℕ → List ℕ → Type 0
@@ -88,7 +90,7 @@ segment_spelling g = codes "'''" ++ g.content ++ codes "'''" ++ g.white
 -- one short segment, or one or more long ones, with white space around
 pub data IsClobContent (content octets : List ℕ) : Type 0 where
   ShortText : (before text after : List ℕ) → Each is_white before → IsQuoted styles.ShortClob text octets → Each is_white after
-      → content ≡ before ++ (34 ∷ text) ++ 34 ∷ after → IsClobContent content octets
+      → content ≡ before ++ (double_quote ∷ text) ++ double_quote ∷ after → IsClobContent content octets
   LongTexts : (before : List ℕ) (segments : List Segment) → Each is_white before → segments ≢ [] → AllByRecursion IsSegment segments
       → content ≡ before ++ flat_map segment_spelling segments → octets ≡ flat_map (λ (g : Segment). g.octets) segments → IsClobContent content octets
 
@@ -114,19 +116,19 @@ MarkStands p colon _ = is_name p ≡ false
 
 -- a mark that may go on
 abbrev pub MarkEnds : Mark → List ℕ → Type 0
-MarkEnds marks.FieldsOpen r = begins (λ o. o == 123) r ≡ false
-MarkEnds marks.Colon r = begins (λ o. o == 58) r ≡ false
+MarkEnds marks.FieldsOpen r = begins (λ o. o == open_brace) r ≡ false
+MarkEnds marks.Colon r = begins (λ o. o == ascii.colon) r ≡ false
 MarkEnds _ r = Unit {0}
 
 -- The octets w before r are a token of this kind in this place, of which these octets are kept: the word, the name behind `null.`,
 -- the numeric token, the operator, the text in UTF-8, the octets of a clob or a blob. The Bool says whether a colon may stand here.
 abbrev pub IsLexeme : Place → Bool → List ℕ → List ℕ → TokenKind → List ℕ → Type 0
-IsLexeme p colon w r kinds.Word kept = (kept ≡ w) × IsWord w × (begins is_word_octet r ≡ false) × (w ≡ codes "null" → begins (λ o. o == 46) r ≡ false)
+IsLexeme p colon w r kinds.Word kept = (kept ≡ w) × IsWord w × (begins is_word_octet r ≡ false) × (w ≡ codes "null" → begins (λ o. o == dot) r ≡ false)
 IsLexeme p colon w r kinds.KindName kept = (w ≡ codes "null." ++ kept) × Each is_word_octet kept × (begins is_word_octet r ≡ false)
 IsLexeme p colon w r kinds.Number kept = (kept ≡ w) × (is_name p ≡ false) × IsNumeric w r
 IsLexeme p colon w r kinds.Operator kept = (kept ≡ w) × (is_sexp p ≡ true) × IsOperator w r
-IsLexeme p colon w r kinds.QuotedSymbol kept = (content : List ℕ) × IsQuoted styles.QuotedSymbol content kept × (w ≡ (39 ∷ content) ++ 39 ∷ []) × (content ≡ [] → begins (λ o. o == 39) r ≡ false)
-IsLexeme p colon w r kinds.ShortString kept = (content : List ℕ) × IsQuoted styles.ShortString content kept × (w ≡ (34 ∷ content) ++ 34 ∷ [])
+IsLexeme p colon w r kinds.QuotedSymbol kept = (content : List ℕ) × IsQuoted styles.QuotedSymbol content kept × (w ≡ (single_quote ∷ content) ++ single_quote ∷ []) × (content ≡ [] → begins (λ o. o == single_quote) r ≡ false)
+IsLexeme p colon w r kinds.ShortString kept = (content : List ℕ) × IsQuoted styles.ShortString content kept × (w ≡ (double_quote ∷ content) ++ double_quote ∷ [])
 IsLexeme p colon w r kinds.LongString kept = (content : List ℕ) × IsQuoted styles.LongString content kept × (w ≡ codes "'''" ++ content ++ codes "'''")
 IsLexeme p colon w r kinds.Clob kept = (is_name p ≡ false) × (content : List ℕ) × IsClobContent content kept × (w ≡ codes "{{" ++ content ++ codes "}}")
 IsLexeme p colon w r kinds.Blob kept = (is_name p ≡ false) × (content : List ℕ) × IsBlobContent content kept × (w ≡ codes "{{" ++ content ++ codes "}}")

@@ -1,6 +1,7 @@
 -- Classes of octets (Ion 1.0, "Ion Text Encoding").
 use Rattle.std.specs.Prelude.{ℕ, ◌+◌, ◌-◌, ◌==◌, Bool, ◌&&◌, ◌||◌, List, if◌then◌else◌, nat_le, codes, Option, Some, None}
 use Rattle.std.specs.List.{list_any}
+use Rattle.ion_tokens.specs.Ascii.{nul, bell, backspace, tab, line_feed, vertical_tab, form_feed, carriage_return, space, dollar, digit_0, digit_9, upper_a, upper_f, upper_z, underscore, lower_a, lower_b, lower_f, lower_n, lower_r, lower_t, lower_v, lower_z}
 
 -- one of these octets
 abbrev pub among : List ℕ → ℕ → Bool
@@ -8,27 +9,27 @@ among set o = list_any (λ x. o == x) set
 
 -- tab, LF, VT, FF, CR, space
 abbrev pub is_white : ℕ → Bool
-is_white o = (nat_le 9 o && nat_le o 13) || (o == 32)
+is_white o = (nat_le tab o && nat_le o carriage_return) || (o == space)
 
 -- LF, CR
 abbrev pub is_line_end : ℕ → Bool
-is_line_end o = (o == 10) || (o == 13)
+is_line_end o = (o == line_feed) || (o == carriage_return)
 
 abbrev pub is_digit : ℕ → Bool
-is_digit o = nat_le 48 o && nat_le o 57
+is_digit o = nat_le digit_0 o && nat_le o digit_9
 
 abbrev pub is_upper : ℕ → Bool
-is_upper o = nat_le 65 o && nat_le o 90
+is_upper o = nat_le upper_a o && nat_le o upper_z
 
 abbrev pub is_lower : ℕ → Bool
-is_lower o = nat_le 97 o && nat_le o 122
+is_lower o = nat_le lower_a o && nat_le o lower_z
 
 abbrev pub is_letter : ℕ → Bool
 is_letter o = is_upper o || is_lower o
 
 -- a letter, `_` or `$`
 abbrev pub begins_word : ℕ → Bool
-begins_word o = is_letter o || (o == 95) || (o == 36)
+begins_word o = is_letter o || (o == underscore) || (o == dollar)
 
 abbrev pub is_word_octet : ℕ → Bool
 is_word_octet o = begins_word o || is_digit o
@@ -46,15 +47,15 @@ is_base64 o = is_letter o || is_digit o || among (codes "+/=") o
 
 abbrev pub hexadecimal_digit : ℕ → Option ℕ
 hexadecimal_digit o =
-    if nat_le 48 o && nat_le o 57 then Some (o - 48)
-    else (if nat_le 65 o && nat_le o 70 then Some (o - 65 + 10)
-    else (if nat_le 97 o && nat_le o 102 then Some (o - 97 + 10)
+    if is_digit o then Some (o - digit_0)
+    else (if nat_le upper_a o && nat_le o upper_f then Some (o - upper_a + 10)
+    else (if nat_le lower_a o && nat_le o lower_f then Some (o - lower_a + 10)
     else None))
 
 -- a letter behind a backslash, and the octet that it means
 abbrev pub escaped : ℕ → Option ℕ
 escaped o =
-    if o == 48 then Some 0 else (if o == 97 then Some 7 else (if o == 98 then Some 8
-    else (if o == 116 then Some 9 else (if o == 110 then Some 10 else (if o == 102 then Some 12
-    else (if o == 114 then Some 13 else (if o == 118 then Some 11
+    if o == digit_0 then Some nul else (if o == lower_a then Some bell else (if o == lower_b then Some backspace
+    else (if o == lower_t then Some tab else (if o == lower_n then Some line_feed else (if o == lower_f then Some form_feed
+    else (if o == lower_r then Some carriage_return else (if o == lower_v then Some vertical_tab
     else (if among (codes "\"'?\\/") o then Some o else None))))))))

@@ -3,12 +3,13 @@ use Rattle.std.specs.Prelude.{◌≡◌, ◌≢◌, ℕ, ◌+◌, ◌*◌, ◌<�
 use Rattle.std.specs.List.{flat_map, AllByRecursion}
 use Rattle.std.specs.Char.{IsScalar}
 use Rattle.ion_tokens.specs.declared.mode.Style.{Style}
-use Rattle.ion_tokens.specs.Table.{is_long, is_clob, quote_of}
+use Rattle.ion_tokens.specs.Ascii.{tab, line_feed, vertical_tab, form_feed, carriage_return, space, single_quote, upper_u, backslash, lower_u, lower_x}
+use Rattle.ion_tokens.specs.Styles.{is_long, is_clob, quote_of}
 use Rattle.ion_tokens.specs.Octets.{hexadecimal_digit, escaped}
 
 -- a character that may stand for itself: no control character but tab, VT and FF
 abbrev pub IsRaw : Style → ℕ → Type 0
-IsRaw s c = IsScalar c × (c ≢ 92) × (IsTrue (is_long s) ⊎ (c ≢ quote_of s)) × ((c ≡ 9) ⊎ (c ≡ 11) ⊎ (c ≡ 12) ⊎ (32 ≤ c)) × (IsTrue (is_clob s) → c < 128)
+IsRaw s c = IsScalar c × (c ≢ backslash) × (IsTrue (is_long s) ⊎ (c ≢ quote_of s)) × ((c ≡ tab) ⊎ (c ≡ vertical_tab) ⊎ (c ≡ form_feed) ⊎ (space ≤ c)) × (IsTrue (is_clob s) → c < 128)
 
 -- in base sixteen n and then these digits are the number m
 abbrev pub IsHexAfter : ℕ → List ℕ → ℕ → Type 0
@@ -22,9 +23,9 @@ pub data LineEnd : Type 0 where
   CrLf : LineEnd
 
 abbrev pub line_end : LineEnd → List ℕ
-line_end Lf = 10 ∷ []
-line_end Cr = 13 ∷ []
-line_end CrLf = 13 ∷ 10 ∷ []
+line_end Lf = line_feed ∷ []
+line_end Cr = carriage_return ∷ []
+line_end CrLf = carriage_return ∷ line_feed ∷ []
 
 -- one piece of a quoted text
 pub data Element : Type 0 where
@@ -37,28 +38,28 @@ pub data Element : Type 0 where
 
 -- the number of digits behind \x, \u and \U
 abbrev pub hex_length : ℕ → Option ℕ
-hex_length letter = if letter == 120 then Some 2 else (if letter == 117 then Some 4 else (if letter == 85 then Some 8 else None))
+hex_length letter = if letter == lower_x then Some 2 else (if letter == lower_u then Some 4 else (if letter == upper_u then Some 8 else None))
 
 abbrev pub IsElement : Style → Element → Type 0
 IsElement s (Raw c) = IsRaw s c
 IsElement s (RawLine _) = IsTrue (is_long s)
 IsElement s (Simple letter meaning) = escaped letter ≡ Some meaning
 IsElement s (Hidden _) = Unit {0}
-IsElement s (Hex letter digits c) = (hex_length letter ≡ Some (length digits)) × IsHexAfter 0 digits c × IsScalar c × (IsTrue (is_clob s) → letter ≡ 120)
+IsElement s (Hex letter digits c) = (hex_length letter ≡ Some (length digits)) × IsHexAfter 0 digits c × IsScalar c × (IsTrue (is_clob s) → letter ≡ lower_x)
 IsElement s (Pair first second high low) = (is_clob s ≡ false) × (length first ≡ 4) × (length second ≡ 4) × IsHexAfter 0 first (0xd800 + high) × (high < 1024) × IsHexAfter 0 second (0xdc00 + low) × (low < 1024)
 
 abbrev pub spelling : Element → List ℕ
 spelling (Raw c) = encode_utf8 c
 spelling (RawLine e) = line_end e
-spelling (Simple letter _) = 92 ∷ letter ∷ []
-spelling (Hidden e) = 92 ∷ line_end e
-spelling (Hex letter digits _) = 92 ∷ letter ∷ digits
-spelling (Pair first second _ _) = 92 ∷ 117 ∷ first ++ 92 ∷ 117 ∷ second
+spelling (Simple letter _) = backslash ∷ letter ∷ []
+spelling (Hidden e) = backslash ∷ line_end e
+spelling (Hex letter digits _) = backslash ∷ letter ∷ digits
+spelling (Pair first second _ _) = backslash ∷ lower_u ∷ first ++ backslash ∷ lower_u ∷ second
 
 -- a text's characters in UTF-8, or a clob's octets
 abbrev pub meaning : Style → Element → List ℕ
 meaning s (Raw c) = encode_utf8 c
-meaning s (RawLine _) = 10 ∷ []
+meaning s (RawLine _) = line_feed ∷ []
 meaning s (Simple _ o) = o ∷ []
 meaning s (Hidden _) = []
 meaning s (Hex _ _ c) = if is_clob s then c ∷ [] else encode_utf8 c
@@ -80,7 +81,7 @@ CrTakesLf (e ∷ []) = Unit {0}
 CrTakesLf (e ∷ f ∷ es) = (IsTrue (ends_in_cr e) → is_raw_lf f ≡ false) × CrTakesLf (f ∷ es)
 
 abbrev pub is_raw_quote : Element → Bool
-is_raw_quote (Raw c) = c == 39
+is_raw_quote (Raw c) = c == single_quote
 is_raw_quote _ = false
 
 -- the raw quotes at the front, those of the close included

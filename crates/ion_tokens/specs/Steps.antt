@@ -1,5 +1,5 @@
 -- What the calls of the scanner answer.
-use Rattle.std.specs.Prelude.{◌≡◌, ◌≢◌, ℕ, ◌+◌, Option, Some, None, Result, Ok, Err, Bool, true, false}
+use Rattle.std.specs.Prelude.{◌≡◌, ◌≢◌, ℕ, ◌+◌, ◌<◌, ◌≤◌, Option, Some, None, Result, Ok, Err, Bool, true, false}
 use Rattle.ion_model.specs.declared.refusal.Refusal.{Refusal}
 use Rattle.ion_model.specs.declared.refusal.Reason.{Reason}
 use Rattle.ion_model.specs.declared.refusal.Reason.TheVariants as reasons
@@ -30,17 +30,26 @@ pub record RefusesToken (l : Lexeme) (at : ℕ) (r : Refusal) : Type 0 where
   pub offset : r.offset ≡ at
   pub says : IsBody l.kind l.octets (Err r.reason)
 
+-- of a piece, behind octets that were used, one that was left or none is looked at: so many decide the token
+abbrev pub deciding : ℕ → Bool → ℕ
+deciding used true = used + 1
+deciding used false = used
+
 -- Behind `before` octets, a step over a piece from which this comes answered so, and left the scanner knowing this.
 -- Memory may run out whatever comes.
 abbrev pub Answers : ℕ → Outcome → Result Scan Refusal → Known → Type 0
-Answers before (Next s) (Ok scan) now = Uses before scan.used s now × (scan.token ≡ None)
-Answers before (Given l s) (Ok scan) now = Uses before scan.used s now × GivesToken l scan.token
-Answers before (Left l s) (Ok scan) now = Uses before scan.used s now × GivesToken l scan.token
+Answers before (Next s) (Ok scan) now = Uses before scan.used s now × (scan.token ≡ None) × (scan.left ≡ false)
+Answers before (Given l s) (Ok scan) now = Uses before scan.used s now × GivesToken l scan.token × (scan.left ≡ false)
+Answers before (Left l s) (Ok scan) now = Uses before scan.used s now × GivesToken l scan.token × (scan.left ≡ true)
 Answers before (Refused at reason) (Ok scan) now = ⊥
 Answers before (Next s) (Err r) now = r.reason ≢ reasons.Memory → ⊥
 Answers before (Given l s) (Err r) now = r.reason ≢ reasons.Memory → RefusesToken l s.used r
 Answers before (Left l s) (Err r) now = r.reason ≢ reasons.Memory → RefusesToken l (s.used + 1) r
 Answers before (Refused at reason) (Err r) now = r.reason ≢ reasons.Memory → r ≡ record { offset = at; reason = reason }
+
+-- behind `before` octets, a refusal's offset is that of one of so many that follow
+abbrev pub IsWithin : ℕ → ℕ → Refusal → Type 0
+IsWithin before n r = (before < r.offset) × (r.offset ≤ before + n)
 
 -- Behind `used` octets, their end, which shows this, was answered so.
 abbrev pub Ends : ℕ → Result (Option Lexeme) Reason → Result (Option Token) Refusal → Type 0
@@ -63,3 +72,12 @@ is_step_reason reasons.BadBase64 = true
 is_step_reason reasons.Ambiguous = true
 is_step_reason reasons.Unexpected = true
 is_step_reason _ = false
+
+-- the reasons for which the end of octets that a scanner used refuses them
+abbrev pub is_end_reason : Reason → Bool
+is_end_reason reasons.Memory = true
+is_end_reason reasons.Incomplete = true
+is_end_reason reasons.TooLarge = true
+is_end_reason reasons.Malformed = true
+is_end_reason reasons.Float = true
+is_end_reason _ = false

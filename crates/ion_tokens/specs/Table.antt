@@ -2,6 +2,10 @@
 use Rattle.std.specs.Prelude.{ℕ, ◌+◌, ◌-◌, ◌*◌, ◌==◌, Bool, true, false, ◌&&◌, ◌||◌, not, ◌%◌, if◌then◌else◌, nat_le, nat_lt, Option, Some, None}
 use lib.Utf8.{scalar}
 use Rattle.ion_tokens.specs.Octets.{is_white, is_line_end, is_digit, begins_word, is_word_octet, is_operator_octet, is_stop, hexadecimal_digit, escaped, is_base64}
+use Rattle.ion_tokens.specs.Ascii.{tab, line_feed, vertical_tab, form_feed, carriage_return, space, double_quote, single_quote, open_parenthesis, close_parenthesis, asterisk, plus, comma, minus, slash, upper_u, open_bracket, backslash, close_bracket, lower_f, lower_i, lower_n, lower_u, lower_x, open_brace, close_brace, delete}
+use Rattle.ion_tokens.specs.Ascii as ascii
+pub use Rattle.ion_tokens.specs.Places.{is_sexp, is_name}
+pub use Rattle.ion_tokens.specs.Styles.{is_long, is_clob, quote_of}
 use Rattle.ion_model.specs.declared.refusal.Reason.TheVariants as reasons
 use Rattle.ion_tokens.specs.declared.mode.Place.{Place}
 use Rattle.ion_tokens.specs.declared.mode.Style.{Style}
@@ -15,7 +19,6 @@ use Rattle.ion_tokens.specs.declared.mode.TokenKind.{TokenKind}
 use Rattle.ion_tokens.specs.declared.mode.Keep.{Keep}
 use Rattle.ion_tokens.specs.declared.mode.Action.{Action}
 use Rattle.ion_tokens.specs.declared.mode.End.{End}
-use Rattle.ion_tokens.specs.declared.mode.Place.TheVariants as places
 use Rattle.ion_tokens.specs.declared.mode.Style.TheVariants as styles
 use Rattle.ion_tokens.specs.declared.mode.Digits.TheVariants as digits
 use Rattle.ion_tokens.specs.declared.mode.Within.TheVariants as within
@@ -46,44 +49,21 @@ before k = actions.Before k keeps.Nothing modes.Blank
 abbrev pub give : Mark → Action
 give m = actions.Give (kinds.Mark m) keeps.Nothing
 
-abbrev pub is_sexp : Place → Bool
-is_sexp places.Sexp = true
-is_sexp _ = false
-
-abbrev pub is_name : Place → Bool
-is_name places.Name = true
-is_name _ = false
-
-abbrev pub is_long : Style → Bool
-is_long styles.LongString = true
-is_long styles.LongClob = true
-is_long _ = false
-
-abbrev pub is_clob : Style → Bool
-is_clob styles.ShortClob = true
-is_clob styles.LongClob = true
-is_clob _ = false
-
-abbrev pub quote_of : Style → ℕ
-quote_of styles.ShortString = 34
-quote_of styles.ShortClob = 34
-quote_of _ = 39
-
 -- how a run of two or more ends, by its last octet
 abbrev pub run_ending : ℕ → Ending
-run_ending o = if o == 43 then endings.Plus else (if o == 45 then endings.Minus else endings.Other)
+run_ending o = if o == plus then endings.Plus else (if o == minus then endings.Minus else endings.Other)
 
 -- what begins a value and no field name
 abbrev pub begins_value : Place → ℕ → Action
 begins_value p o =
     if is_digit o then add modes.Number o
-    else (if o == 123 then go modes.Brace
-    else (if o == 91 then give marks.ListOpen
-    else (if o == 93 then give marks.ListClose
-    else (if o == 40 then give marks.SexpOpen
-    else (if o == 41 then give marks.SexpClose
-    else (if o == 45 then add (modes.Operator endings.LoneMinus) o
-    else (if o == 43 then add (modes.Operator endings.Plus) o
+    else (if o == open_brace then go modes.Brace
+    else (if o == open_bracket then give marks.ListOpen
+    else (if o == close_bracket then give marks.ListClose
+    else (if o == open_parenthesis then give marks.SexpOpen
+    else (if o == close_parenthesis then give marks.SexpClose
+    else (if o == minus then add (modes.Operator endings.LoneMinus) o
+    else (if o == plus then add (modes.Operator endings.Plus) o
     else (if is_sexp p && is_operator_octet o then add (modes.Operator endings.Other) o
     else refused))))))))
 
@@ -92,33 +72,33 @@ abbrev pub in_blank : Place → Bool → ℕ → Action
 in_blank p colon o =
     if is_white o then go modes.Blank
     else (if begins_word o then add modes.Word o
-    else (if o == 47 then go modes.Slash
-    else (if o == 34 then go (modes.Text styles.ShortString within.Plain)
-    else (if o == 39 then go modes.Quote
-    else (if o == 44 then give marks.Comma
-    else (if o == 125 then give marks.FieldsClose
-    else (if o == 58 then (if colon then go modes.Colon else refused)
+    else (if o == slash then go modes.Slash
+    else (if o == double_quote then go (modes.Text styles.ShortString within.Plain)
+    else (if o == single_quote then go modes.Quote
+    else (if o == comma then give marks.Comma
+    else (if o == close_brace then give marks.FieldsClose
+    else (if o == ascii.colon then (if colon then go modes.Colon else refused)
     else (if is_name p then refused
     else begins_value p o))))))))
 
 -- behind a / that is part of no token yet
 abbrev pub in_slash : Place → ℕ → Action
 in_slash p o =
-    if o == 47 then go modes.LineComment
-    else (if o == 42 then go modes.BlockComment
+    if o == slash then go modes.LineComment
+    else (if o == asterisk then go modes.BlockComment
     else (if not (is_sexp p) then refused
-    else (if is_operator_octet o then actions.Go (modes.Operator (run_ending o)) (keeps.Two 47 o)
-    else actions.Before kinds.Operator (keeps.One 47) modes.Blank)))
+    else (if is_operator_octet o then actions.Go (modes.Operator (run_ending o)) (keeps.Two slash o)
+    else actions.Before kinds.Operator (keeps.One slash) modes.Blank)))
 
 -- behind a * in a block comment
 abbrev pub in_block_star : ℕ → Action
 in_block_star o =
-    if o == 47 then go modes.Blank
-    else (if o == 42 then go modes.BlockCommentStar
+    if o == slash then go modes.Blank
+    else (if o == asterisk then go modes.BlockCommentStar
     else go modes.BlockComment)
 
 abbrev pub in_colon : ℕ → Action
-in_colon o = if o == 58 then give marks.Colons else before (kinds.Mark marks.Colon)
+in_colon o = if o == ascii.colon then give marks.Colons else before (kinds.Mark marks.Colon)
 
 abbrev pub in_word : ℕ → Action
 in_word o = if is_word_octet o then add modes.Word o else actions.EndWord
@@ -141,24 +121,24 @@ is_other _ = false
 abbrev pub in_operator : Place → Ending → ℕ → Action
 in_operator p e o =
     if is_digit o then digit_behind p e o
-    else (if (o == 105) && not (is_other e) then go (modes.Infinity 1)
+    else (if (o == lower_i) && not (is_other e) then go (modes.Infinity 1)
     else (if not (is_sexp p) then refused
-    else (if o == 47 then go modes.OperatorSlash
+    else (if o == slash then go modes.OperatorSlash
     else (if is_operator_octet o then add (modes.Operator (run_ending o)) o
     else before kinds.Operator))))
 
 -- behind a run and a / that isn't kept
 abbrev pub in_operator_slash : ℕ → Action
 in_operator_slash o =
-    if (o == 47) || (o == 42) then actions.Before kinds.Operator keeps.Nothing modes.Slash
-    else (if is_operator_octet o then actions.Go (modes.Operator (run_ending o)) (keeps.Two 47 o)
-    else actions.Before kinds.Operator (keeps.One 47) modes.Blank)
+    if (o == slash) || (o == asterisk) then actions.Before kinds.Operator keeps.Nothing modes.Slash
+    else (if is_operator_octet o then actions.Go (modes.Operator (run_ending o)) (keeps.Two slash o)
+    else actions.Before kinds.Operator (keeps.One slash) modes.Blank)
 
 -- behind a sign and `i`, `in` or `inf`
 abbrev pub in_infinity : Place → ℕ → ℕ → Action
 in_infinity p letters o =
-    if (letters == 1) && (o == 110) then go (modes.Infinity 2)
-    else (if (letters == 2) && (o == 102) then go (modes.Infinity 3)
+    if (letters == 1) && (o == lower_n) then go (modes.Infinity 2)
+    else (if (letters == 2) && (o == lower_f) then go (modes.Infinity 3)
     else (if (letters == 3) && not (is_word_octet o) then actions.Refuse reasons.Float
     else (if is_sexp p then actions.Split letters
     else refused)))
@@ -166,15 +146,15 @@ in_infinity p letters o =
 abbrev pub in_number : ℕ → Action
 in_number o =
     if is_stop o then before kinds.Number
-    else (if o == 47 then go modes.NumberSlash
+    else (if o == slash then go modes.NumberSlash
     else add modes.Number o)
 
 -- a comment ends the number before its /, which was taken up
 abbrev pub in_number_slash : ℕ → Action
 in_number_slash o =
-    if (o == 47) || (o == 42) then actions.Before kinds.Number keeps.Nothing modes.Slash
-    else (if is_stop o then actions.Before kinds.Number (keeps.One 47) modes.Blank
-    else actions.Go modes.Number (keeps.Two 47 o))
+    if (o == slash) || (o == asterisk) then actions.Before kinds.Number keeps.Nothing modes.Slash
+    else (if is_stop o then actions.Before kinds.Number (keeps.One slash) modes.Blank
+    else actions.Go modes.Number (keeps.Two slash o))
 
 -- the first octet of a character beyond ASCII
 abbrev pub lead : Style → ℕ → Action
@@ -197,15 +177,15 @@ close_long _ = actions.Give kinds.LongString keeps.DropQuotes
 
 -- an ASCII character that stands for itself in every style
 abbrev pub stands : ℕ → Bool
-stands o = (o == 9) || (o == 11) || (o == 12) || (nat_le 32 o && nat_le o 127)
+stands o = (o == tab) || (o == vertical_tab) || (o == form_feed) || (nat_le space o && nat_le o delete)
 
 -- an octet that stands for itself, or begins a character, an escape or the close
 abbrev pub raw : Style → ℕ → Action
 raw s o =
-    if o == 92 then go (modes.Text s within.Escape)
+    if o == backslash then go (modes.Text s within.Escape)
     else (if o == quote_of s then (if is_long s then add (modes.Text s within.OneQuote) o else close s)
-    else (if is_long s && (o == 13) then add (modes.Text s within.AfterReturn) 10
-    else (if stands o || (is_long s && (o == 10)) then add (modes.Text s within.Plain) o
+    else (if is_long s && (o == carriage_return) then add (modes.Text s within.AfterReturn) line_feed
+    else (if stands o || (is_long s && (o == line_feed)) then add (modes.Text s within.Plain) o
     else (if nat_lt o 128 || is_clob s then refused
     else lead s o))))
 
@@ -224,11 +204,11 @@ meant s (Some m) = add (modes.Text s within.Plain) m
 -- behind a backslash
 abbrev pub in_escape : Style → ℕ → Action
 in_escape s o =
-    if o == 10 then go (modes.Text s within.Plain)
-    else (if o == 13 then go (modes.Text s within.AfterReturn)
-    else (if o == 120 then go (modes.Text s (within.Hexadecimal digits.Octet 2 0))
-    else (if (o == 117) && not (is_clob s) then go (modes.Text s (within.Hexadecimal digits.Unit 4 0))
-    else (if (o == 85) && not (is_clob s) then go (modes.Text s (within.Hexadecimal digits.Scalar 8 0))
+    if o == line_feed then go (modes.Text s within.Plain)
+    else (if o == carriage_return then go (modes.Text s within.AfterReturn)
+    else (if o == lower_x then go (modes.Text s (within.Hexadecimal digits.Octet 2 0))
+    else (if (o == lower_u) && not (is_clob s) then go (modes.Text s (within.Hexadecimal digits.Unit 4 0))
+    else (if (o == upper_u) && not (is_clob s) then go (modes.Text s (within.Hexadecimal digits.Scalar 8 0))
     else meant s (escaped o)))))
 
 -- one more digit; from 0x110000 on the number only has to stay too great
@@ -266,46 +246,46 @@ in_hexadecimal s d left n o = with_digit s d left n (hexadecimal_digit o)
 
 abbrev pub in_text : Style → Within → ℕ → Action
 in_text s within.Plain o = raw s o
-in_text s within.AfterReturn o = if o == 10 then go (modes.Text s within.Plain) else raw s o
-in_text s within.OneQuote o = if o == 39 then add (modes.Text s within.TwoQuotes) o else raw s o
-in_text s within.TwoQuotes o = if o == 39 then close_long s else raw s o
+in_text s within.AfterReturn o = if o == line_feed then go (modes.Text s within.Plain) else raw s o
+in_text s within.OneQuote o = if o == single_quote then add (modes.Text s within.TwoQuotes) o else raw s o
+in_text s within.TwoQuotes o = if o == single_quote then close_long s else raw s o
 in_text s (within.Utf8 left least most) o = in_utf8 s left least most o
 in_text s within.Escape o = in_escape s o
 in_text s (within.Hexadecimal d left n) o = in_hexadecimal s d left n o
-in_text s (within.HighSurrogate h) o = if o == 92 then go (modes.Text s (within.HighSurrogateEscape h)) else actions.Refuse reasons.BadEscape
+in_text s (within.HighSurrogate h) o = if o == backslash then go (modes.Text s (within.HighSurrogateEscape h)) else actions.Refuse reasons.BadEscape
 in_text s (within.HighSurrogateEscape h) o =
-    if o == 117 then go (modes.Text s (within.Hexadecimal (digits.LowSurrogate h) 4 0)) else actions.Refuse reasons.BadEscape
+    if o == lower_u then go (modes.Text s (within.Hexadecimal (digits.LowSurrogate h) 4 0)) else actions.Refuse reasons.BadEscape
 
 -- one of the quotes that must be three
 abbrev pub third_quote : ℕ → Mode → Action
-third_quote o m = if o == 39 then go m else refused
+third_quote o m = if o == single_quote then go m else refused
 
 -- the second } of a lob's close
 abbrev pub second_brace : ℕ → TokenKind → Action
-second_brace o k = if o == 125 then actions.Give k keeps.Nothing else refused
+second_brace o k = if o == close_brace then actions.Give k keeps.Nothing else refused
 
 -- an octet of a blob's content, or its first brace
 abbrev pub in_blob : ℕ → Action
-in_blob o = if o == 125 then actions.EndBlob else (if is_base64 o then add (modes.Lob lobs.Base64) o else actions.Refuse reasons.BadBase64)
+in_blob o = if o == close_brace then actions.EndBlob else (if is_base64 o then add (modes.Lob lobs.Base64) o else actions.Refuse reasons.BadBase64)
 
 -- behind {{
 abbrev pub lob_start : ℕ → Action
 lob_start o =
     if is_white o then go (modes.Lob lobs.Start)
-    else (if o == 34 then go (modes.Text styles.ShortClob within.Plain)
-    else (if o == 39 then go (modes.Lob lobs.StartQuote)
+    else (if o == double_quote then go (modes.Text styles.ShortClob within.Plain)
+    else (if o == single_quote then go (modes.Lob lobs.StartQuote)
     else in_blob o))
 
 abbrev pub after_short : ℕ → Action
 after_short o =
     if is_white o then go (modes.Lob lobs.AfterShort)
-    else (if o == 125 then go (modes.Lob lobs.ClobClose)
+    else (if o == close_brace then go (modes.Lob lobs.ClobClose)
     else refused)
 
 abbrev pub after_long : ℕ → Action
 after_long o =
     if is_white o then go (modes.Lob lobs.AfterLong)
-    else (if o == 125 then go (modes.Lob lobs.ClobClose)
+    else (if o == close_brace then go (modes.Lob lobs.ClobClose)
     else third_quote o (modes.Lob lobs.AfterQuote))
 
 abbrev pub in_lob : Lob → ℕ → Action
@@ -321,21 +301,21 @@ in_lob lobs.AfterQuotes o = third_quote o (modes.Text styles.LongClob within.Pla
 in_lob lobs.ClobClose o = second_brace o kinds.Clob
 
 abbrev pub in_quote : ℕ → Action
-in_quote o = if o == 39 then go modes.Quotes else raw styles.QuotedSymbol o
+in_quote o = if o == single_quote then go modes.Quotes else raw styles.QuotedSymbol o
 
 -- behind '', the symbol of empty text unless a third quote opens a long string
 abbrev pub in_quotes : ℕ → Action
-in_quotes o = if o == 39 then go (modes.Text styles.LongString within.Plain) else before kinds.QuotedSymbol
+in_quotes o = if o == single_quote then go (modes.Text styles.LongString within.Plain) else before kinds.QuotedSymbol
 
 abbrev pub in_brace : ℕ → Action
-in_brace o = if o == 123 then go (modes.Lob lobs.Start) else before (kinds.Mark marks.FieldsOpen)
+in_brace o = if o == open_brace then go (modes.Lob lobs.Start) else before (kinds.Mark marks.FieldsOpen)
 
 -- what an octet does
 abbrev pub next : Place → Bool → Mode → ℕ → Action
 next p colon modes.Blank o = in_blank p colon o
 next p colon modes.Slash o = in_slash p o
 next p colon modes.LineComment o = go (if is_line_end o then modes.Blank else modes.LineComment)
-next p colon modes.BlockComment o = go (if o == 42 then modes.BlockCommentStar else modes.BlockComment)
+next p colon modes.BlockComment o = go (if o == asterisk then modes.BlockCommentStar else modes.BlockComment)
 next p colon modes.BlockCommentStar o = in_block_star o
 next p colon modes.Colon o = in_colon o
 next p colon modes.Word o = in_word o
@@ -359,14 +339,14 @@ operator_end p k = if is_sexp p then ends.Token kinds.Operator k else ends.Refus
 abbrev pub end_of : Place → Mode → End
 end_of p modes.Blank = ends.Blank
 end_of p modes.LineComment = ends.Blank
-end_of p modes.Slash = operator_end p (keeps.One 47)
-end_of p modes.OperatorSlash = operator_end p (keeps.One 47)
+end_of p modes.Slash = operator_end p (keeps.One slash)
+end_of p modes.OperatorSlash = operator_end p (keeps.One slash)
 end_of p (modes.Operator _) = operator_end p keeps.Nothing
 end_of p modes.Colon = ends.Token (kinds.Mark marks.Colon) keeps.Nothing
 end_of p modes.Word = ends.Token kinds.Word keeps.Nothing
 end_of p modes.KindName = ends.Token kinds.KindName keeps.Nothing
 end_of p modes.Number = ends.Token kinds.Number keeps.Nothing
-end_of p modes.NumberSlash = ends.Token kinds.Number (keeps.One 47)
+end_of p modes.NumberSlash = ends.Token kinds.Number (keeps.One slash)
 end_of p modes.Quotes = ends.Token kinds.QuotedSymbol keeps.Nothing
 end_of p modes.Brace = ends.Token (kinds.Mark marks.FieldsOpen) keeps.Nothing
 end_of p (modes.Infinity letters) = ends.Refuse (if letters == 3 then reasons.Float else reasons.Incomplete)

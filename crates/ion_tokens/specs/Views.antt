@@ -11,6 +11,11 @@ use Rattle.ion_tokens.specs.declared.mode.Style.TheVariants as styles
 use Rattle.ion_tokens.specs.declared.token.Begun.{Begun}
 use Rattle.ion_tokens.specs.declared.token.Form.{Form}
 use Rattle.ion_tokens.specs.declared.token.Form.TheVariants as forms
+use Rattle.ion_tokens.specs.declared.token.Foresight.{Foresight}
+use Rattle.ion_tokens.specs.declared.token.Foresight.TheVariants as foresights
+use Rattle.ion_tokens.specs.declared.mode.Mark.TheVariants as marks
+use Rattle.ion_tokens.specs.declared.mode.TokenKind.{TokenKind}
+use Rattle.ion_tokens.specs.declared.mode.TokenKind.TheVariants as kinds
 use Rattle.ion_tokens.specs.declared.scanner.Scanner.{Scanner}
 use Rattle.ion_tokens.specs.Bounds.{is_idle}
 use Rattle.ion_tokens.specs.Scanning.{Known, Lexeme, Outcome, Next, Given, Left, Refused}
@@ -69,3 +74,26 @@ held_in s = if is_idle s.mode then 0 else length s.kept
 -- how many octets were used since it began
 abbrev pub open_in : Known → ℕ
 open_in s = if is_idle s.mode then 0 else s.used - s.start
+
+-- what an octet shows that is used and ends no token
+abbrev pub foresight_by : Form → Foresight
+foresight_by forms.Other = foresights.Other
+foresight_by _ = foresights.Long
+
+-- what one shows that is the last of a token
+abbrev pub foresight_at : TokenKind → Foresight
+foresight_at (kinds.Mark marks.Colons) = foresights.Colons
+foresight_at kinds.LongString = foresights.Long
+foresight_at _ = foresights.Other
+
+-- what one shows before which a token ended
+abbrev pub foresight_behind : TokenKind → Foresight
+foresight_behind kinds.QuotedSymbol = foresights.Empty
+foresight_behind _ = foresights.Other
+
+-- what an octet of which this comes shows of a token that may go on
+abbrev pub foresight : Outcome → Foresight
+foresight (Next s) = if is_idle s.mode then foresights.Blank else foresight_by (form_of s.mode)
+foresight (Given l s) = foresight_at l.kind
+foresight (Left l s) = foresight_behind l.kind
+foresight (Refused at reason) = foresights.Other

@@ -4,7 +4,7 @@ ghost use Rattle.std.specs.Prelude.{◌≡◌};
 use ion_model::Reason;
 
 /// Where a token stands.
-#[derive(Clone, Copy)]
+#[derive(Clone, Copy, Debug, PartialEq, Eq)]
 pub enum Place {
     /// At the top level of a document.
     Top,
@@ -19,7 +19,7 @@ pub enum Place {
 }
 
 /// The marks, each a token of its own.
-#[derive(Clone, Copy)]
+#[derive(Clone, Copy, Debug, PartialEq, Eq)]
 pub enum Mark {
     /// `{`
     FieldsOpen,

@@ -6,7 +6,7 @@ ghost use Rattle.ion_tokens.specs.Octets.{is_white, is_line_end, is_digit, is_up
 pub fn is_white(octet: u8) -> bool
     ensures { result ≡ is_white octet }
 {
-    (9 <= octet && octet <= 13) || octet == 32
+    (b'\t' <= octet && octet <= b'\r') || octet == b' '
 }
 
 /// What ends a line comment.
@@ -119,10 +119,10 @@ pub fn escaped(octet: u8) -> Option<u8>
         b'0' => Some(0),
         b'a' => Some(7),
         b'b' => Some(8),
-        b't' => Some(9),
-        b'n' => Some(10),
+        b't' => Some(b'\t'),
+        b'n' => Some(b'\n'),
         b'f' => Some(12),
-        b'r' => Some(13),
+        b'r' => Some(b'\r'),
         b'v' => Some(11),
         b'"' | b'\'' | b'?' | b'\\' | b'/' => Some(octet),
         _ => None,

@@ -31,7 +31,7 @@ pub fn quote_of(style: Style) -> u8
 pub fn stands(octet: u8) -> bool
     ensures { result ≡ stands octet }
 {
-    matches!(octet, 9 | 11 | 12 | 32..=127)
+    matches!(octet, b'\t' | 11 | 12 | b' '..=127)
 }
 
 // The quote that ends a text of one quote.

@@ -1,18 +1,21 @@
 //! The scanner, to which the octets come in pieces.
 ghost use Rattle.std.specs.Prelude.{◌≡◌, ◌≢◌, ◌+◌, ◌-◌, ◌*◌, ◌≤◌, ◌<◌, ◌^◌, length, ◌++◌, [], IfOk, IfErr, IfSome, IfNone, IsNone, None, List, ℕ, true};
 ghost use Rattle.ion_model.specs.declared.refusal.Reason.TheVariants.{Memory};
-ghost use Rattle.ion_tokens.specs.Scanning.{run, at_end, initial, cut};
+ghost use Rattle.ion_tokens.specs.declared.mode.Place.{Place};
+ghost use Rattle.ion_tokens.specs.Scanning.{Known, run, at_end, initial, cut, acts, feed, start_of};
 ghost use Rattle.ion_tokens.specs.Bounds.{is_idle, IsSteady, StaysSteady};
 ghost use Rattle.ion_tokens.specs.Bodies.{content, IsBody};
-ghost use Rattle.ion_tokens.specs.Views.{known, lexeme_in, scanned, failure, looks, behind, form_of, begun_in, held_in, open_in};
+ghost use Rattle.ion_tokens.specs.Views.{known, lexeme_in, scanned, failure, looks, behind, form_of, begun_in, held_in, open_in, foresight};
 ghost use Rattle.ion_tokens.specs.Lexed.{Placed};
-ghost use Rattle.ion_tokens.specs.Scanned.{Scanned, Continues, Goes, NoDocument, EndsSo, NoEnd, ShowsBegun};
-ghost use Rattle.ion_tokens.specs.Steps.{Answers, Ends, IsToken, GivesToken, RefusesToken, is_step_reason};
+ghost use Rattle.ion_tokens.specs.Scanned.{Scanned, Goes, RefusesAt, EndsWith, NeverEnds, EndsFor, AlwaysShows};
+ghost use Rattle.ion_tokens.specs.Traces.{Places, IsTraced, AnswersTrace, EndsTrace};
+ghost use Rattle.ion_tokens.specs.Steps.{Answers, Ends, IsToken, GivesToken, RefusesToken, IsWithin, deciding, is_step_reason};
 
 use crate::body::body_of;
-use crate::machine::{Lexeme, Machine, Taken};
-use crate::mode::{Mode, Place, Style, TokenKind};
-use crate::token::{Begun, Body, Form, Scan, Token};
+use crate::machine::{Lexeme, Machine, Taken, start_of};
+use crate::mode::{Action, Mark, Mode, Place, Style, TokenKind};
+use crate::table::next;
+use crate::token::{Begun, Body, Foresight, Form, Scan, Token};
 use ion_model::{Reason, Refusal};
 use std::alloc::Global;
 
@@ -49,8 +52,10 @@ impl Machine {
         piece: &'p [u8],
     ) -> Result<Token<'p>, Refusal>
         ensures ok { IfOk result (λ token. IsToken (lexeme_in lexeme self.old) token) }
-        ensures err { IfErr result (λ refusal. refusal.reason ≢ Memory → RefusesToken (lexeme_in lexeme self.old) decided refusal) }
-        ensures memory { IfErr result (λ refusal. refusal.reason ≡ Memory → refusal.offset ≡ before) }
+        ensures err { IfErr result (λ refusal. refusal.reason ≢ Memory →
+            RefusesToken (lexeme_in lexeme self.old) decided refusal) }
+        ensures memory { IfErr result (λ refusal. refusal.reason ≡ Memory →
+            refusal.offset ≡ before) }
         ensures known { known self.new ≡ known self.old }
         ensures looked { self.new.looked ≡ self.old.looked }
     {
@@ -69,18 +74,22 @@ impl Machine {
         }
     }
 
-    // Judges the token to which a step led.
+    // Judges the token to which a step led, and which an octet ended that was left or not.
     fn given<'p>(
         &mut self,
         lexeme: Lexeme,
         before: u64,
-        decided: u64,
+        left: bool,
         piece: &'p [u8],
     ) -> Result<Scan<'p>, Refusal>
-        requires { before ≤ self.old.used }
-        ensures ok { IfOk result (λ scan. GivesToken (lexeme_in lexeme self.old) scan.token × (self.old.used ≡ before + scan.used)) }
-        ensures err { IfErr result (λ refusal. refusal.reason ≢ Memory → RefusesToken (lexeme_in lexeme self.old) decided refusal) }
-        ensures memory { IfErr result (λ refusal. refusal.reason ≡ Memory → refusal.offset ≡ before) }
+        requires before { before ≤ self.old.used }
+        requires room { self.old.used < 2 ^ 63 }
+        ensures ok { IfOk result (λ scan. GivesToken (lexeme_in lexeme self.old) scan.token ×
+            (self.old.used ≡ before + scan.used) × (scan.left ≡ left)) }
+        ensures err { IfErr result (λ refusal. refusal.reason ≢ Memory →
+            RefusesToken (lexeme_in lexeme self.old) (deciding self.old.used left) refusal) }
+        ensures memory { IfErr result (λ refusal. refusal.reason ≡ Memory →
+            refusal.offset ≡ before) }
         ensures known { known self.new ≡ known self.old }
         ensures looked { self.new.looked ≡ self.old.looked }
     {
@@ -94,21 +103,27 @@ impl Machine {
             return Ok(Scan {
                 used,
                 token: Some(token),
+                left,
             });
         }
+        let decided = if left { self.used + 1 } else { self.used };
         let token = self.judged(lexeme, before, decided, piece)?;
         Ok(Scan {
             used,
             token: Some(token),
+            left,
         })
     }
 
     // Takes up octets of a piece up to the first token, and judges it.
     fn scan<'p>(&mut self, piece: &'p [u8], place: Place) -> Result<Scan<'p>, Refusal>
         requires { self.old.used + length piece.now < 2 ^ 63 }
-        ensures answers { Answers self.old.used (run place piece.now (known self.old)) result (known self.new) }
-        ensures steady { IfOk result (λ _. IsSteady (known self.old) self.old.looked → IsSteady (known self.new) self.new.looked) }
-        ensures memory { IfErr result (λ refusal. refusal.reason ≡ Memory → refusal.offset ≡ self.old.used) }
+        ensures answers { Answers self.old.used (run place piece.now (known self.old)) result
+            (known self.new) }
+        ensures steady { IfOk result (λ _. IsSteady (known self.old) self.old.looked →
+            IsSteady (known self.new) self.new.looked) }
+        ensures memory { IfErr result (λ refusal. refusal.reason ≡ Memory →
+            refusal.offset ≡ self.old.used) }
     {
         let before = self.used;
         match self.run(place, piece) {
@@ -119,15 +134,10 @@ impl Machine {
             Ok(Taken::Next) => Ok(Scan {
                 used: piece.len(),
                 token: None,
+                left: false,
             }),
-            Ok(Taken::Given(lexeme)) => {
-                let decided = self.used;
-                self.given(lexeme, before, decided, piece)
-            }
-            Ok(Taken::Left(lexeme)) => {
-                let decided = self.used + 1;
-                self.given(lexeme, before, decided, piece)
-            }
+            Ok(Taken::Given(lexeme)) => self.given(lexeme, before, false, piece),
+            Ok(Taken::Left(lexeme)) => self.given(lexeme, before, true, piece),
             Ok(Taken::Refused(refusal)) => Err(refusal),
         }
     }
@@ -151,7 +161,8 @@ impl Machine {
     // Judges the token that the end of the octets shows to be whole, if one is open.
     fn finish<'p>(&mut self, place: Place) -> Result<Option<Token<'p>>, Refusal>
         ensures ends { Ends self.old.used (at_end place (known self.old)) result }
-        ensures memory { IfErr result (λ refusal. refusal.reason ≡ Memory → refusal.offset ≡ self.old.used) }
+        ensures memory { IfErr result (λ refusal. refusal.reason ≡ Memory →
+            refusal.offset ≡ self.old.used) }
     {
         let used = self.used;
         match self.end(place) {
@@ -173,6 +184,7 @@ impl Scanner {
         ensures looked { looks result ≡ 0 }
         ensures steady { IsSteady (scanned result) (looks result) }
         ensures begins { (place : Place) → Scanned place (scanned result) [] [] [] }
+        ensures traced { (places : Places) → IsTraced places (scanned result) [] [] [] }
     {
         Scanner {
             machine: Machine::new(alloc),
@@ -184,7 +196,7 @@ impl Scanner {
     /// token stands, which changes only after a token.
     ///
     /// A token may be given before the octet that showed its end, where that octet isn't part of it: then `used` doesn't
-    /// count the octet, and the next piece has to begin with it.
+    /// count the octet, `left` says so, and the next piece has to begin with it.
     ///
     /// A refusal's offset counts the octets of the document up to the one that decides. `Malformed`, `TooLarge` and
     /// `Float` come from numbers as in `number_of`, `Malformed` from `null.` without the name of a kind and `Float` from a
@@ -195,18 +207,29 @@ impl Scanner {
     pub fn step<'p>(&mut self, piece: &'p [u8], place: Place) -> Result<Scan<'p>, Refusal>
         requires { (scanned self.old).used + length piece.now < 2 ^ 63 }
         ensures answers { IsNone (failure self.old) →
-            Answers (scanned self.old).used (run place piece.now (scanned self.old)) result (scanned self.new) }
+            Answers (scanned self.old).used (run place piece.now (scanned self.old)) result
+            (scanned self.new) }
         ensures used { IfOk result (λ scan. scan.used ≤ length piece.now) }
         ensures all { IfOk result (λ scan. scan.token ≡ None → scan.used ≡ length piece.now) }
-        ensures counts { IfOk result (λ scan. (scanned self.new).used ≡ (scanned self.old).used + scan.used) }
-        ensures steady { IfOk result (λ _. IsSteady (scanned self.old) (looks self.old) → IsSteady (scanned self.new) (looks self.new)) }
-        ensures memory { IfErr result (λ refusal. refusal.reason ≡ Memory → IsNone (failure self.old) →
+        ensures counts { IfOk result (λ scan. (scanned self.new).used
+            ≡ (scanned self.old).used + scan.used) }
+        ensures steady { IfOk result (λ _. IsSteady (scanned self.old) (looks self.old) →
+            IsSteady (scanned self.new) (looks self.new)) }
+        ensures memory { IfErr result (λ refusal. refusal.reason ≡ Memory →
+            IsNone (failure self.old) →
             refusal.offset ≡ (scanned self.old).used) }
-        ensures reasons { IsNone (failure self.old) → IfErr result (λ refusal. is_step_reason refusal.reason ≡ true) }
-        ensures goes { IsNone (failure self.old) → IfOk result (λ scan. (u : List ℕ) (ts : List Placed) (ahead : List ℕ) → Scanned place (scanned self.old) u ts ahead → Continues piece.now ahead →
-            Goes place u piece.now ts scan.used scan.token (scanned self.new)) }
-        ensures refuses { IsNone (failure self.old) → IfErr result (λ refusal. refusal.reason ≢ Memory → (u : List ℕ) (ts : List Placed) (ahead : List ℕ) → Scanned place (scanned self.old) u ts ahead → Continues piece.now ahead →
-            NoDocument place (u ++ piece.now) ts) }
+        ensures reasons { IsNone (failure self.old) →
+            IfErr result (λ refusal. is_step_reason refusal.reason ≡ true) }
+        ensures goes { IsNone (failure self.old) →
+            IfOk result (λ scan. Goes place (scanned self.old) piece.now scan (scanned self.new)) }
+        ensures refuses { IsNone (failure self.old) →
+            IfErr result (λ refusal. refusal.reason ≢ Memory →
+            RefusesAt place (scanned self.old) piece.now refusal.offset) }
+        ensures within { IsNone (failure self.old) →
+            IfErr result (λ refusal. refusal.reason ≢ Memory →
+            IsWithin (scanned self.old).used (length piece.now) refusal) }
+        ensures traced { IsNone (failure self.old) →
+            AnswersTrace place (scanned self.old) piece.now result (scanned self.new) }
         ensures fails { IfErr result (λ refusal. failure self.new ≡ Some refusal) }
         ensures goes_on { IfOk result (λ _. failure self.new ≡ None) }
         ensures again { IfSome (failure self.old) (λ refusal. result ≡ Err refusal) }
@@ -224,11 +247,18 @@ impl Scanner {
     /// Ends the octets: the token that the end shows to be whole, if one is open.
     ///
     /// A refusal's offset is the number of octets used, or that of the step that refused before. `Incomplete` comes where
-    /// the open octets are no token and no blank.
+    /// the open octets are no token and no blank, `Float` from a sign with `inf`, `Malformed`, `TooLarge` and `Float` from
+    /// numbers as in `number_of`, `Malformed` from `null.` without the name of a kind, `Memory` from no octets.
     pub fn finish<'p>(self, place: Place) -> Result<Option<Token<'p>>, Refusal>
-        ensures ends { IsNone (failure self) → Ends (scanned self).used (at_end place (scanned self)) result }
-        ensures whole { IsNone (failure self) → IfOk result (λ token. (u : List ℕ) (ts : List Placed) → Scanned place (scanned self) u ts [] → EndsSo place u ts token) }
-        ensures refuses { IsNone (failure self) → IfErr result (λ refusal. refusal.reason ≢ Memory → (u : List ℕ) (ts : List Placed) → Scanned place (scanned self) u ts [] → NoEnd place u ts) }
+        ensures ends { IsNone (failure self) →
+            Ends (scanned self).used (at_end place (scanned self)) result }
+        ensures whole { IsNone (failure self) →
+            IfOk result (λ token. EndsWith place (scanned self) token) }
+        ensures refuses { IsNone (failure self) →
+            IfErr result (λ refusal. refusal.reason ≢ Memory → NeverEnds place (scanned self)) }
+        ensures reasons { IsNone (failure self) →
+            IfErr result (λ refusal. EndsFor place (scanned self) refusal.reason) }
+        ensures traced { IsNone (failure self) → EndsTrace place (scanned self) result }
         ensures memory { IfErr result (λ refusal. refusal.reason ≡ Memory → IsNone (failure self) →
             refusal.offset ≡ (scanned self).used) }
         ensures again { IfSome (failure self) (λ refusal. result ≡ Err refusal) }
@@ -240,11 +270,35 @@ impl Scanner {
         machine.finish(place)
     }
 
+    /// How many octets were used, by all steps together.
+    pub fn used(&self) -> u64
+        ensures { result ≡ (scanned self.now).used }
+    {
+        self.machine.used
+    }
+
+    /// Where a token begins that is open behind the next octet: the open one, or else one that begins there, or
+    /// with a `/` before it; in a comment, at the `/` with which it began or before it.
+    pub fn since(&self) -> u64
+        ensures { result ≡ start_of (scanned self.now).mode (scanned self.now).start (scanned self.now).used }
+    {
+        start_of(self.machine.mode, self.machine.start, self.machine.used)
+    }
+
+    /// The refusal that each call answers, if a step refused.
+    pub fn refusal(&self) -> Option<Refusal>
+        ensures { result ≡ failure self.now }
+    {
+        self.failed
+    }
+
     /// How many octets were taken up, each as often as it was: at least as many as were used, and at most twice as many.
     pub fn looked(&self) -> u64
         ensures looks { result ≡ looks self.now }
-        ensures each { IsSteady (scanned self.now) (looks self.now) → (scanned self.now).used ≤ result }
-        ensures twice { IsSteady (scanned self.now) (looks self.now) → result ≤ 2 * (scanned self.now).used }
+        ensures each { IsSteady (scanned self.now) (looks self.now) →
+            (scanned self.now).used ≤ result }
+        ensures twice { IsSteady (scanned self.now) (looks self.now) →
+            result ≤ 2 * (scanned self.now).used }
     {
         self.machine.looked
     }
@@ -252,7 +306,8 @@ impl Scanner {
     /// How many octets are kept of the open token.
     pub fn held(&self) -> usize
         ensures held { result ≡ held_in (scanned self.now) }
-        ensures open { IsSteady (scanned self.now) (looks self.now) → result ≤ open_in (scanned self.now) }
+        ensures open { IsSteady (scanned self.now) (looks self.now) →
+            result ≤ open_in (scanned self.now) }
     {
         if is_idle(self.machine.mode) {
             0
@@ -261,10 +316,17 @@ impl Scanner {
         }
     }
 
+    /// What an octet would show of a token that may go on. It isn't taken up.
+    pub fn foresee(&self, place: Place, octet: u8) -> Foresight
+        ensures { result ≡ foresight (feed place (scanned self.now) octet) }
+    {
+        shown(next(place, self.machine.colon, self.machine.mode, octet))
+    }
+
     /// The token that has begun and not ended: none in a blank, behind a `/` that may open a comment, and behind one colon.
     pub fn begun(&self) -> Option<Begun>
         ensures begun { result ≡ begun_in (scanned self.now) }
-        ensures shows { (place : Place) (u : List ℕ) (ts : List Placed) → Scanned place (scanned self.now) u ts [] → ShowsBegun place u ts result }
+        ensures shows { AlwaysShows (scanned self.now) result }
     {
         self.machine.begun()
     }
@@ -307,12 +369,20 @@ fn form_of(mode: Mode) -> Form
     }
 }
 
-#[cfg(test)]
-impl Scanner {
-    /// How many octets were used.
-    pub fn used(&self) -> u64
-        ensures { result ≡ (scanned self.now).used }
-    {
-        self.machine.used
+// What an octet shows of a token that may go on, by what the table says of it.
+fn shown(action: Action) -> Foresight
+    ensures { (place : Place) (s : Known) (octet : ℕ) →
+        result ≡ foresight (acts place s octet action) }
+{
+    match action {
+        Action::Go(mode, _) if is_idle(mode) => Foresight::Blank,
+        Action::Go(mode, _) => match form_of(mode) {
+            Form::Other => Foresight::Other,
+            Form::Quote | Form::Long => Foresight::Long,
+        },
+        Action::Give(TokenKind::Mark(Mark::Colons), _) => Foresight::Colons,
+        Action::Give(TokenKind::LongString, _) => Foresight::Long,
+        Action::Before(TokenKind::QuotedSymbol, _, _) => Foresight::Empty,
+        _ => Foresight::Other,
     }
 }

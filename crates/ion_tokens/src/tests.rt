@@ -1,5 +1,5 @@
 //! What the scanner answers on worked rows: whole, in single octets and at every cut.
-use crate::{Body, Form, Mark, Place, Scan, Scanner, Token};
+use crate::{Body, Foresight, Form, Mark, Place, Scan, Scanner, Token};
 use ion_model::{Reason, Refusal};
 use ion_scalar::Number;
 use std::alloc::Global;
@@ -112,7 +112,7 @@ impl Run {
             }
             match self.scanner.step(rest, place) {
                 Err(refusal) => return self.refusal(alloc, refusal),
-                Ok(Scan { used, token }) => {
+                Ok(Scan { used, token, .. }) => {
                     at = at.saturating_add(used);
                     match token {
                         None => return Ok(()),
@@ -501,6 +501,60 @@ fn refusal_stays(rt: HostRuntime) -> Result<(), Fail> {
     assert_eq!(rt; used(&mut scanner, b"\"\\q")?, Err(refusal));
     assert_eq!(rt; used(&mut scanner, b" ")?, Err(refusal));
     assert_eq!(rt; scanner.finish(Place::Top).err().ok_or("taken")?, refusal);
+    Ok(())
+}
+
+// What these octets show one by one, none of them taken up.
+fn foreseen(alloc: Global, scanner: &Scanner, octets: &[u8]) -> Result<String, Fail> {
+    let mut shown = String::new(alloc);
+    for octet in octets {
+        shown.push_str(match scanner.foresee(Place::Top, *octet) {
+            Foresight::Blank => "blank ",
+            Foresight::Colons => "colons ",
+            Foresight::Long => "long ",
+            Foresight::Empty => "empty ",
+            Foresight::Other => "other ",
+        })?;
+    }
+    Ok(shown)
+}
+
+/// What an octet would show behind a symbol, a colon, quotes and a segment of a long string.
+#[test]
+fn foresights(rt: HostRuntime) -> Result<(), Fail> {
+    let alloc = rt.alloc();
+    let mut scanner = Scanner::new(alloc);
+    assert_eq!(rt; used(&mut scanner, b"a ")?, Ok(1));
+    let shown = foreseen(alloc, &scanner, b" /:'b\"}!")?;
+    assert_eq!(rt;
+        shown.as_str(),
+        "blank blank blank long other other other other "
+    );
+    assert_eq!(rt; used(&mut scanner, b" :")?, Ok(2));
+    assert_eq!(rt; foreseen(alloc, &scanner, b": ")?.as_str(), "colons other ");
+    assert_eq!(rt; used(&mut scanner, b":''")?, Ok(1));
+    assert_eq!(rt; used(&mut scanner, b"''")?, Ok(2));
+    assert_eq!(rt;
+        foreseen(alloc, &scanner, b"' b")?.as_str(),
+        "long empty empty "
+    );
+    assert_eq!(rt; used(&mut scanner, b"'a''")?, Ok(4));
+    assert_eq!(rt; foreseen(alloc, &scanner, b"'b")?.as_str(), "long long ");
+    Ok(())
+}
+
+/// Where an octet ended a token and isn't part of it, the step says so.
+#[test]
+fn left_octets(rt: HostRuntime) -> Result<(), Fail> {
+    let mut scanner = Scanner::new(rt.alloc());
+    let scan = scanner.step(b"ab,", Place::Top).map_err(|_| "refused")?;
+    assert!(rt; scan.left && scan.token.is_some());
+    assert_eq!(rt; scan.used, 2);
+    let scan = scanner.step(b",c", Place::Top).map_err(|_| "refused")?;
+    assert!(rt; !scan.left && scan.token.is_some());
+    assert_eq!(rt; scan.used, 1);
+    let scan = scanner.step(b"c", Place::Top).map_err(|_| "refused")?;
+    assert!(rt; !scan.left && scan.token.is_none());
     Ok(())
 }
 

@@ -5,7 +5,7 @@ use ion_scalar::Number;
 use std::borrow::CowStr;
 
 /// A token, with its span: how many octets of the document stand before it and up to its end.
-#[derive(Drop)]
+#[derive(Debug, Drop, PartialEq, Eq)]
 pub struct Token<'p> {
     pub start: u64,
     pub end: u64,
@@ -13,7 +13,7 @@ pub struct Token<'p> {
 }
 
 /// What a token says.
-#[derive(Drop)]
+#[derive(Debug, Drop, PartialEq, Eq)]
 pub enum Body<'p> {
     /// A word that is no symbol id; `null`, `true`, `false` and `nan` are words too.
     Word(CowStr<'p>),
@@ -35,16 +35,18 @@ pub enum Body<'p> {
 }
 
 /// What a step used of its piece, and the token that it gave.
-#[derive(Drop)]
+#[derive(Debug, Drop, PartialEq, Eq)]
 pub struct Scan<'p> {
     /// How many octets of the piece were used, all of them where no token is given.
     pub used: usize,
     /// The next token, if the octets used, or the one behind them, end it.
     pub token: Option<Token<'p>>,
+    /// Whether the octet behind those used ended it, with which the next piece has to begin.
+    pub left: bool,
 }
 
 /// The token that has begun and not ended.
-#[derive(Clone, Copy)]
+#[derive(Clone, Copy, Debug, PartialEq, Eq)]
 pub struct Begun {
     /// How many octets of the document stand before it.
     pub start: u64,
@@ -54,11 +56,26 @@ pub struct Begun {
 }
 
 /// What is known of the token that has begun.
-#[derive(Clone, Copy)]
+#[derive(Clone, Copy, Debug, PartialEq, Eq)]
 pub enum Form {
     /// `'` or `''`: a quoted symbol or a long string.
     Quote,
     /// A segment of a long string, from its third quote on.
     Long,
+    Other,
+}
+
+/// What an octet shows of a token that may go on: a symbol with `::`, a long string with its next segment.
+#[derive(Clone, Copy, Debug, PartialEq, Eq)]
+pub enum Foresight {
+    /// No token: a blank, or a first colon.
+    Blank,
+    /// `::` ends here.
+    Colons,
+    /// `'` or `''` stands here, or a segment of a long string goes on or ends.
+    Long,
+    /// `''` ended before it, the symbol of empty text.
+    Empty,
+    /// Another token, or none that can stand there.
     Other,
 }

@@ -1,5 +1,9 @@
 use Rattle.ion_tokens.proofs.Cutting.{run-append}
+use Rattle.ion_tokens.proofs.Traced.{pieces_lead}
 use Rattle.ion_tokens.proofs.laws.any_cutting.Goals as goal
 
-pub returns : goal.returns
-returns c = run-append
+pub returns-clause-whole : goal.returns-clause-whole
+returns-clause-whole c = pieces_lead
+
+pub returns-clause-token : goal.returns-clause-token
+returns-clause-token c = run-append

@@ -1,5 +1,5 @@
 use Rattle.std.proofs.Common.{length, subst, refl, arith}
-use Rattle.std.specs.Prelude.{Ok, None}
+use Rattle.std.specs.Prelude.{Ok, None, false}
 use Rattle.ion_tokens.specs.Scanning.{Outcome}
 use Rattle.ion_tokens.specs.Views.{known}
 use Rattle.ion_tokens.specs.Steps.{Answers}
@@ -13,12 +13,6 @@ given-requires c =
     let used = given_used c.args.place c.args.piece.now (known c.args.self.now) (known c.run.new.self) _ e in
     omega arith
 
-pub overflow_add-decided : goal.overflow_add-decided
-overflow_add-decided c =
-    let e = rw c.in-Ok-Left.field-0-is at c.in-Ok-Left.ensures.does in
-    let used = left_used c.args.place c.args.piece.now (known c.args.self.now) (known c.run.new.self) _ e in
-    omega arith
-
 pub given-requires-in-Ok-Left : goal.given-requires-in-Ok-Left
 given-requires-in-Ok-Left c =
     let e = rw c.in-Ok-Left.field-0-is at c.in-Ok-Left.ensures.does in
@@ -29,8 +23,8 @@ pub returns-in-Ok-Next-clause-answers : goal.returns-in-Ok-Next-clause-answers
 returns-in-Ok-Next-clause-answers c =
     let e = rw c.in-Ok-Next.field-0-is at c.in-Ok-Next.ensures.does in
     let used = next_used c.args.place c.args.piece.now (known c.args.self.now) (known c.run.new.self) e in
-    subst (λ (x : Outcome). Answers c.args.self.now.used x (Ok (record { used = length c.args.piece.now; token = None })) (known c.run.new.self)) e
-    (record { known = refl; counted = used }, refl)
+    subst (λ (x : Outcome). Answers c.args.self.now.used x (Ok (record { used = length c.args.piece.now; token = None; left = false })) (known c.run.new.self)) e
+    (record { known = refl; counted = used }, refl, refl)
 
 pub returns-in-Ok-Refused-clause-memory : goal.returns-in-Ok-Refused-clause-memory
 returns-in-Ok-Refused-clause-memory c =

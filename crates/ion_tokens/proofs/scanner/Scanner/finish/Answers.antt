@@ -5,10 +5,12 @@ use Rattle.ion_model.specs.declared.refusal.Reason.TheVariants.{Memory}
 use Rattle.ion_tokens.specs.declared.token.Token.{Token}
 use Rattle.ion_tokens.specs.Scanning.{at_end}
 use Rattle.ion_tokens.specs.Lexed.{Placed}
-use Rattle.ion_tokens.specs.Scanned.{Scanned, EndsSo, NoEnd}
+use Rattle.ion_tokens.specs.Scanned.{Scanned, EndsSo, NoEnd, EndsFor}
 use Rattle.ion_tokens.specs.Steps.{Ends}
 use Rattle.ion_tokens.specs.Views.{known}
+use Rattle.ion_tokens.proofs.EndCauses.{end_fair, end_reason}
 use Rattle.ion_tokens.proofs.Stepped.{end_goes, end_refuses}
+use Rattle.ion_tokens.proofs.Traced.{end_traced}
 use Rattle.ion_tokens.proofs.scanner.Scanner.finish.Goals as goal
 
 pub returns-clause-whole : goal.returns-clause-whole
@@ -24,3 +26,13 @@ returns-clause-refuses c = λ none. by c.finish.result c.finish.ensures.ends whe
       → IfErr r (λ refusal. refusal.reason ≢ Memory → (u : List ℕ) (ts : List Placed) → Scanned c.args.place (known c.args.self.machine) u ts [] → NoEnd c.args.place u ts)
   by (Ok token) a = tt
   by (Err r) a = λ other u ts h. end_refuses c.args.place (known c.args.self.machine) u ts h _ r other refl a
+
+pub returns-clause-reasons : goal.returns-clause-reasons
+returns-clause-reasons c = λ none. by c.finish.result c.finish.ensures.ends where
+  by : (r : Result (Option Token) Refusal) → Ends c.args.self.machine.used (at_end c.args.place (known c.args.self.machine)) r
+      → IfErr r (λ refusal. EndsFor c.args.place (known c.args.self.machine) refusal.reason)
+  by (Ok token) a = tt
+  by (Err r) a = λ u ts h. end_reason (at_end c.args.place (known c.args.self.machine)) r c.args.self.machine.used (end_fair c.args.place (known c.args.self.machine) u ts h) a
+
+pub returns-clause-traced : goal.returns-clause-traced
+returns-clause-traced c = λ none. end_traced c.args.place (known c.args.self.machine) _ c.finish.result refl c.finish.ensures.ends

@@ -1,4 +1,5 @@
--- The octets of a number: it begins with a digit, or `-` directly before one, and has no stop character and no `/`.
+-- The octets of a number: it begins with a digit, or `-` directly before one, and has no stop character and no `/`. Crates above cite
+-- these names.
 use Rattle.std.proofs.Common.{◌≡◌, ◌⊎◌, inl, inr, ⊎_elim, ℕ, ℤ, ◌+◌, ◌<◌, ◌≤◌, Bool, true, false, List, [], ◌∷◌, ◌++◌, length, take, drop, get_or, refl, sym, ap, ◌∙◌, subst, arith, Ok}
 use Rattle.std.specs.Prelude.{◌==◌, ◌&&◌, ◌||◌, not}
 use Rattle.std.specs.Char.{digit_value}
@@ -18,15 +19,11 @@ use Rattle.ion_scalar.specs.declared.number.Number.TheVariants as numbers
 use Rattle.ion_model.specs.Timestamps.{TimestampParts}
 use Rattle.ion_tokens.specs.Octets.{is_digit, is_stop}
 use Rattle.ion_tokens.specs.Lexemes.{Each, begins, begins_number}
-use Rattle.ion_tokens.proofs.TurnsWords.{each_last, begins_more}
+use Rattle.ion_tokens.specs.EachLaws.{each_append, each_last, begins_more}
 
 -- what may stand in a numeric token: no stop character, and no `/`
 abbrev pub is_numeric_octet : ℕ → Bool
 is_numeric_octet o = not (is_stop o || (o == 47))
-
-each_append : (class : ℕ → Bool) (xs ys : List ℕ) → Each class xs → Each class ys → Each class (xs ++ ys)
-each_append class [] ys h k = k
-each_append class (x ∷ xs) ys h k = (h.0, each_append class xs ys h.1 k)
 
 -- digits of a base of up to 16, with `_`
 from_digit : (c : ℕ) → 48 ≤ c → c ≤ 57 → is_numeric_octet c ≡ true
