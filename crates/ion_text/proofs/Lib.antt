@@ -1,0 +1,11 @@
+mod Appended
+mod Gone
+pub mod Versions
+pub mod Sights
+pub mod Meetings
+pub mod Octets
+pub mod Leading
+pub mod Endings
+pub mod Further
+pub mod Stretches
+pub mod Prefixes

@@ -1,0 +1,189 @@
+-- One octet, as often as it comes.
+use Rattle.std.proofs.Common.{◌≡◌, ◌≢◌, ℕ, zero, suc, ◌+◌, ◌-◌, ◌<◌, Bool, true, false, List, [], ◌∷◌, Option, Some, None, Result, Ok, Err, refl, sym, ap, ◌∙◌, subst, arith}
+use Rattle.std.specs.Prelude.{nat_lt, if◌then◌else◌}
+use Rattle.std.proofs.lemmas.Bool.Decides.{nat_tests}
+use Rattle.ion_model.specs.declared.value.Value.{Value}
+use Rattle.ion_model.specs.declared.refusal.Reason.{Reason}
+use Rattle.ion_model.specs.declared.refusal.Reason.TheVariants as reasons
+use Rattle.ion_model.specs.Reasons.{reason_number}
+use Rattle.ion_symtab.specs.declared.limits.Limits.{Limits}
+use Rattle.ion_symtab.specs.declared.catalog.Catalog.{Catalog}
+use Rattle.ion_tokens.specs.declared.mode.Place.{Place}
+use Rattle.ion_tokens.specs.Views.{scanned}
+use Rattle.ion_tokens.specs.Scanning.{Known, Lexeme, Outcome, Next, Given, Left, Refused, feed, follow, run}
+use Rattle.ion_tokens.proofs.Runs.{feed_used, given_used, left_used}
+use Rattle.ion_text.specs.declared.reader.TextReader.{TextReader}
+use Rattle.ion_text.specs.declared.state.Taken.{Taken}
+use Rattle.ion_text.specs.declared.state.Taken.TheVariants as taken
+use Rattle.ion_text.specs.declared.state.Met.{Met}
+use Rattle.ion_text.specs.declared.state.Met.TheVariants as met
+use Rattle.ion_text.specs.Machine.{Reading, Turn, goes, gives, refuses, late, place, settle}
+use Rattle.ion_text.specs.Run.{State, Effect, uses, tells, leaves, fails, lesser, or_worse, waits, with_scan, on_scan, on_settled, on_octet, takes}
+use Rattle.ion_text.specs.Views.{state_of, Told, DidTake, DidMeet, Gave, IsBehind, Meets, is_left, comes_again, worse}
+
+told_same : (e f : Effect) (with_it : Value → State → Effect) (given : Option Value) (m : State) → e ≡ f → Told f with_it given m → Told e with_it given m
+told_same e f with_it None m h t = t
+told_same e f with_it (Some v) m h t = h ∙ t
+
+pub take_same : (e f : Effect) (result : Result Taken Reason) (r : TextReader) → e ≡ f → DidTake f result r → DidTake e result r
+take_same e f (Ok taken.Uses) r h d = h ∙ d
+take_same e f (Ok taken.Tells) r h d = told_same e f tells r.given (state_of r) h d
+take_same e f (Ok taken.Leaves) r h d = told_same e f leaves r.given (state_of r) h d
+take_same e f (Err reason) r h d = λ other. h ∙ d other
+
+-- memory that runs out answers for every other reason
+least : (e : Reason) → lesser e reasons.Memory ≡ reasons.Memory
+least reasons.Memory = refl
+least reasons.Incomplete = refl
+least reasons.TooLarge = refl
+least reasons.Malformed = refl
+least reasons.Float = refl
+least reasons.DuplicateTable = refl
+least reasons.BadTable = refl
+least reasons.SymbolRange = refl
+least reasons.ImportGap = refl
+least reasons.MissingImport = refl
+least reasons.RepeatedField = refl
+least reasons.TableTooLarge = refl
+least reasons.NullTable = refl
+least reasons.BadEscape = refl
+least reasons.BadUtf8 = refl
+least reasons.BadBase64 = refl
+least reasons.Ambiguous = refl
+least reasons.Unexpected = refl
+least reasons.Depth = refl
+least reasons.ItemTooLong = refl
+least reasons.Version = refl
+least reasons.KeywordAsName = refl
+
+told_worse : (reason : Reason) (e : Effect) (given : Option Value) (m : State) → Told e tells given m → or_worse reason e ≡ fails reason
+told_worse reason e (Some v) m h = ap (or_worse reason) h
+told_worse reason e None m h = absurd h
+
+left_worse : (reason : Reason) (e : Effect) (given : Option Value) (m : State) → Told e leaves given m → or_worse reason e ≡ fails reason
+left_worse reason e (Some v) m h = ap (or_worse reason) h
+left_worse reason e None m h = absurd h
+
+pub take_worse : (reason : Reason) (e : Effect) (again : Result Taken Reason) (r : TextReader) → DidTake e again r → (worse reason again ≢ reasons.Memory) → or_worse reason e ≡ fails (worse reason again)
+take_worse reason e (Ok taken.Uses) r d other = ap (or_worse reason) d
+take_worse reason e (Ok taken.Tells) r d other = told_worse reason e r.given (state_of r) d
+take_worse reason e (Ok taken.Leaves) r d other = left_worse reason e r.given (state_of r) d
+take_worse reason e (Err f) r d other = ap (or_worse reason) (d (λ m. other (ap (lesser reason) m ∙ least reason)))
+
+-- one octet at the scanner
+pub one_octet : (p : Place) (s : Known) (o : ℕ) → run p (o ∷ []) s ≡ feed p s o
+one_octet p s o = by (feed p s o) where
+  by : (x : Outcome) → follow x (λ t. Next t) ≡ x
+  by (Next t) = refl
+  by (Given l t) = refl
+  by (Left l t) = refl
+  by (Refused n e) = refl
+
+pub given_here : (p : Place) (o : ℕ) (s t : Known) (y : Lexeme) → feed p s o ≡ Given y t → t.used ≡ s.used + 1
+given_here p o s t y f = let h = given_used p (o ∷ []) s t y (sym (one_octet p s o ∙ f)) in omega (arith, h.0, h.1)
+
+pub left_here : (p : Place) (o : ℕ) (s t : Known) (y : Lexeme) → feed p s o ≡ Left y t → t.used ≡ s.used
+left_here p o s t y f = let h = left_used p (o ∷ []) s t y (sym (one_octet p s o ∙ f)) in omega (arith, h.0, h.1)
+
+used_by : (p : Place) (s : Known) (o : ℕ) (x : Outcome) (now : Known) → feed p s o ≡ x → IsBehind x now → is_left x ≡ false → now.used ≡ s.used + 1
+used_by p s o (Next t) now f b l = ap (λ (k : Known). k.used) b ∙ feed_used p s t o f
+used_by p s o (Given y t) now f b l = ap (λ (k : Known). k.used) b ∙ given_here p o s t y f
+used_by p s o (Left y t) now f b l = absurd cc
+used_by p s o (Refused n e) now f b l = absurd b
+
+-- how many octets are used behind one
+pub one_used : (p : Place) (s : Known) (o : ℕ) (m : Met) (now : Known) → IsBehind (run p (o ∷ []) s) now → is_left (run p (o ∷ []) s) ≡ comes_again m → comes_again m ≡ false → now.used ≡ s.used + 1
+one_used p s o m now b l f =
+    let same = one_octet p s o in
+    used_by p s o (feed p s o) now refl (subst (λ x. IsBehind x now) same b) (sym (ap is_left same) ∙ (l ∙ f))
+
+left_by : (p : Place) (s : Known) (o : ℕ) (x : Outcome) (now : Known) → feed p s o ≡ x → IsBehind x now → is_left x ≡ true → now.used ≡ s.used
+left_by p s o (Next t) now f b l = absurd cc
+left_by p s o (Given y t) now f b l = absurd cc
+left_by p s o (Left y t) now f b l = ap (λ (k : Known). k.used) b ∙ left_here p o s t y f
+left_by p s o (Refused n e) now f b l = absurd b
+
+pub one_left : (p : Place) (s : Known) (o : ℕ) (m : Met) (now : Known) → IsBehind (run p (o ∷ []) s) now → is_left (run p (o ∷ []) s) ≡ comes_again m → comes_again m ≡ true → now.used ≡ s.used
+one_left p s o m now b l f =
+    let same = one_octet p s o in
+    left_by p s o (feed p s o) now refl (subst (λ x. IsBehind x now) same b) (sym (ap is_left same) ∙ (l ∙ f))
+
+module _ (g : Catalog) (l : Limits) (o : ℕ) where
+  -- one token more may be left
+  pub takes_more : (n : ℕ) (m : State) → 0 < n → takes g l n m o ≡ on_octet g l (λ k. takes g l (n - 1) k o) m (feed (place m.reading) m.scan o)
+  takes_more zero m h = absurd (omega arith)
+  takes_more (suc n) m h = let e : n ≡ suc n - 1 = omega arith in ap (λ j. on_octet g l (λ k. takes g l j k o) m (feed (place m.reading) m.scan o)) e
+
+  -- what waits goes on
+  pub octet_goes_on : (again : State → Effect) (m : State) (x : Outcome) → waits m.reading x ≡ true → on_octet g l again m x ≡ on_scan g l again m.reading x
+  octet_goes_on again m x w = ap (λ b. if b then on_scan g l again m.reading x else on_settled g l again m.scan x (settle g l m.reading)) w
+
+  -- what waited is settled
+  pub octet_settles : (again : State → Effect) (m : State) (x : Outcome) (t : Turn) → waits m.reading x ≡ false → settle g l m.reading ≡ t → on_octet g l again m x ≡ on_settled g l again m.scan x t
+  octet_settles again m x t w e =
+      ap (λ b. if b then on_scan g l again m.reading x else on_settled g l again m.scan x (settle g l m.reading)) w
+      ∙ ap (on_settled g l again m.scan x) e
+
+-- what is done by a reader of the same setting
+same_scan : (g h : Catalog) (l k : Limits) (n : ℕ) (o : ℕ) (p : Place) (s t : Known) (r : Reading) → h ≡ g → k ≡ l → t ≡ s →
+    on_scan g l (λ m. takes g l n m o) r (feed p s o) ≡ on_scan h k (λ m. takes h k n m o) r (feed p t o)
+same_scan g h l k n o p s t r e f i =
+    ap (λ x. on_scan x l (λ m. takes x l n m o) r (feed p s o)) (sym e)
+    ∙ (ap (λ x. on_scan h x (λ m. takes h x n m o) r (feed p s o)) (sym f)
+    ∙ ap (λ x. on_scan h k (λ m. takes h k n m o) r (feed p x o)) (sym i))
+
+same_takes : (g h : Catalog) (l k : Limits) (n : ℕ) (o : ℕ) (m : State) → h ≡ g → k ≡ l → takes g l n m o ≡ takes h k n m o
+same_takes g h l k n o m e f = ap (λ x. takes x l n m o) (sym e) ∙ ap (λ x. takes h x n m o) (sym f)
+
+module _ (g : Catalog) (l : Limits) (n o : ℕ) where
+  -- the octet comes again
+  pub again_did : (r : Reading) (p : Place) (s : Known) (y : Met) (mid : TextReader) (result : Result Taken Reason) (new : TextReader) → y ≡ met.Again → Meets g l r (run p (o ∷ []) s) y mid
+      → mid.catalog.now ≡ g → mid.limits ≡ l → DidTake (takes mid.catalog.now mid.limits n (state_of mid) o) result new → DidTake (on_scan g l (λ m. takes g l n m o) r (feed p s o)) result new
+  again_did r p s y mid result new is h e f d =
+      let there = subst (λ (y : Met). Meets g l r (run p (o ∷ []) s) y mid) is h in
+      take_same (on_scan g l (λ m. takes g l n m o) r (feed p s o)) (takes mid.catalog.now mid.limits n (state_of mid) o) result new
+      (ap (on_scan g l (λ m. takes g l n m o) r) (sym (one_octet p s o)) ∙ (there.did (λ m. takes g l n m o) ∙ same_takes g mid.catalog.now l mid.limits n o (state_of mid) e f)) d
+
+  pub late_did : (r : Reading) (p : Place) (s : Known) (y : Met) (reason cause : Reason) (mid : TextReader) (result : Result Taken Reason) (new : TextReader) → y ≡ met.Late reason → Meets g l r (run p (o ∷ []) s) y mid
+      → mid.catalog.now ≡ g → mid.limits ≡ l → DidTake (takes mid.catalog.now mid.limits n (state_of mid) o) result new → cause ≡ worse reason result → cause ≢ reasons.Memory → on_scan g l (λ m. takes g l n m o) r (feed p s o) ≡ fails cause
+  late_did r p s y reason cause mid result new is h e f d same other =
+      let there = subst (λ (y : Met). Meets g l r (run p (o ∷ []) s) y mid) is h in
+      ap (on_scan g l (λ m. takes g l n m o) r) (sym (one_octet p s o))
+      ∙ (there.did (λ m. takes g l n m o)
+      ∙ (ap (or_worse reason) (same_takes g mid.catalog.now l mid.limits n o (state_of mid) e f)
+      ∙ (take_worse reason (takes mid.catalog.now mid.limits n (state_of mid) o) result new d (λ m. other (same ∙ m))
+      ∙ ap fails (sym same))))
+
+  module _ (m : State) (p : Place) (here : p ≡ place m.reading) (some : 0 < n) where
+    -- what waits goes on
+    pub goes_on_did : (result : Result Taken Reason) (new : TextReader) → waits m.reading (feed p m.scan o) ≡ true → DidTake (on_scan g l (λ k. takes g l (n - 1) k o) m.reading (feed p m.scan o)) result new → DidTake (takes g l n m o) result new
+    goes_on_did result new w d =
+        take_same (takes g l n m o) (on_scan g l (λ k. takes g l (n - 1) k o) m.reading (feed p m.scan o)) result new
+        (takes_more g l o n m some
+        ∙ (ap (λ q. on_octet g l (λ k. takes g l (n - 1) k o) m (feed q m.scan o)) (sym here)
+        ∙ octet_goes_on g l o (λ k. takes g l (n - 1) k o) m (feed p m.scan o) w)) d
+
+    -- it is settled
+    pub settles : (t : Turn) → waits m.reading (feed p m.scan o) ≡ false → settle g l m.reading ≡ t → takes g l n m o ≡ on_settled g l (λ k. takes g l (n - 1) k o) m.scan (feed p m.scan o) t
+    settles t w e =
+        takes_more g l o n m some
+        ∙ (ap (λ q. on_octet g l (λ k. takes g l (n - 1) k o) m (feed q m.scan o)) (sym here)
+        ∙ octet_settles g l o (λ k. takes g l (n - 1) k o) m (feed p m.scan o) t w e)
+
+    pub settles_goes : (r : Reading) (h : Catalog) (k : Limits) (s : Known) (result : Result Taken Reason) (new : TextReader) → waits m.reading (feed p m.scan o) ≡ false → settle g l m.reading ≡ goes r → h ≡ g → k ≡ l → s ≡ m.scan
+        → DidTake (on_scan h k (λ j. takes h k (n - 1) j o) r (feed p s o)) result new → DidTake (takes g l n m o) result new
+    settles_goes r h k s result new w e f i j d =
+        take_same (takes g l n m o) (on_scan h k (λ j. takes h k (n - 1) j o) r (feed p s o)) result new
+        (settles (goes r) w e ∙ same_scan g h l k (n - 1) o p m.scan s r f i j) d
+
+    pub settles_late : (reason cause : Reason) (r : Reading) (h : Catalog) (k : Limits) (s : Known) (result : Result Taken Reason) (new : TextReader) → waits m.reading (feed p m.scan o) ≡ false → settle g l m.reading ≡ late reason r → h ≡ g → k ≡ l → s ≡ m.scan
+        → DidTake (on_scan h k (λ j. takes h k (n - 1) j o) r (feed p s o)) result new → cause ≡ worse reason result → cause ≢ reasons.Memory → takes g l n m o ≡ fails cause
+    settles_late reason cause r h k s result new w e f i j d same other =
+        settles (late reason r) w e
+        ∙ (ap (or_worse reason) (same_scan g h l k (n - 1) o p m.scan s r f i j)
+        ∙ (take_worse reason (on_scan h k (λ j. takes h k (n - 1) j o) r (feed p s o)) result new d (λ m. other (same ∙ m))
+        ∙ ap fails (sym same)))
+
+    pub settles_gives : (given : Option Value) (now : State) (r : Reading) → waits m.reading (feed p m.scan o) ≡ false → Gave (settle g l m.reading) given r → now ≡ with_scan m.scan r → Told (takes g l n m o) leaves given now
+    settles_gives None now r w e same = absurd e
+    settles_gives (Some v) now r w e same = settles (gives v r) w e ∙ ap (leaves v) (sym same)

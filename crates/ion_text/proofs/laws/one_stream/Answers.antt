@@ -1,0 +1,5 @@
+use Rattle.ion_text.specs.Laws.{one_stream}
+use Rattle.ion_text.proofs.laws.one_stream.Goals as goal
+
+pub returns : goal.returns
+returns c = one_stream

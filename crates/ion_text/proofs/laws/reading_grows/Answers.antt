@@ -1,0 +1,5 @@
+use Rattle.ion_text.specs.Runs.{grows}
+use Rattle.ion_text.proofs.laws.reading_grows.Goals as goal
+
+pub returns : goal.returns
+returns c = grows

@@ -1,0 +1,5 @@
+use Rattle.ion_text.specs.Laws.{exact}
+use Rattle.ion_text.proofs.laws.reading_is_exact.Goals as goal
+
+pub returns : goal.returns
+returns c = exact

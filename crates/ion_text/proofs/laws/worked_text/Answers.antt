@@ -1,0 +1,5 @@
+use Rattle.ion_text.specs.Rows.{worked_text}
+use Rattle.ion_text.proofs.laws.worked_text.Goals as goal
+
+pub returns : goal.returns
+returns c = worked_text

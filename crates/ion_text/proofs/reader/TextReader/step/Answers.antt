@@ -1,0 +1,16 @@
+use Rattle.ion_text.specs.Views.{state_of}
+use Rattle.ion_text.proofs.Further.{step_answers, step_stands}
+use Rattle.ion_text.proofs.reader.TextReader.step.Goals as goal
+
+pub returns-in-Err-clause-answers : goal.returns-in-Err-clause-answers
+returns-in-Err-clause-answers c =
+    λ u s h. step_answers c.args.self.now (state_of c.advance-result.new.self) c.advance-result.new.self.awaited u s c.args.piece.now c.advance-result.result h c.requires.begins c.advance-result.ensures.does
+
+pub returns-in_default-result-clause-answers : goal.returns-in_default-result-clause-answers
+returns-in_default-result-clause-answers c =
+    λ u s h. step_answers c.args.self.now (state_of c.advance-result.new.self) c.advance-result.new.self.awaited u s c.args.piece.now c.advance-result.result h c.requires.begins c.advance-result.ensures.does
+
+pub returns-in_default-result-clause-stands : goal.returns-in_default-result-clause-stands
+returns-in_default-result-clause-stands c =
+    step_stands c.args.self.now c.advance-result.new.self c.args.piece.now c.advance-result.result c.requires.begins c.advance-result.ensures.does
+    c.advance-result.ensures.used c.advance-result.ensures.fine c.advance-result.ensures.steady c.advance-result.ensures.setting

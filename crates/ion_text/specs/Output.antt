@@ -1,0 +1,149 @@
+-- The one text document that is written for a stream of values (Ion 1.0, "Ion Text Encoding"): each value on a line of its own, in its
+-- one spelling.
+use Rattle.std.specs.Prelude.{ℕ, ◌+◌, ◌-◌, ◌/◌, ◌%◌, ◌==◌, Bool, true, false, not, ◌&&◌, ◌||◌, nat_le, nat_lt, List, [], ◌∷◌, ◌++◌, Option, None, Some, codes, if◌then◌else◌}
+use Rattle.std.specs.List.{flat_map, list_all}
+use Rattle.ion_model.specs.declared.kind.Kind.{Kind}
+use Rattle.ion_model.specs.declared.kind.Kind.TheVariants as kinds
+use Rattle.ion_model.specs.Kinds.{kind_name}
+use Rattle.ion_model.specs.declared.value.Value.{Value}
+use Rattle.ion_model.specs.declared.value.Payload.TheOpen.{Payload-F}
+use Rattle.ion_model.specs.declared.value.Payload.TheFolds.{fold-Value}
+use Rattle.ion_scalar.specs.declared.number.Number.TheVariants as numbers
+use Rattle.ion_scalar.specs.Texts.{number_text}
+use Rattle.ion_tokens.specs.Ascii.{tab, line_feed, carriage_return, space, double_quote, single_quote, digit_0, backslash, underscore, lower_a, lower_n, lower_r, lower_t, delete}
+use Rattle.ion_tokens.specs.Octets.{is_letter, is_word_octet}
+use Rattle.ion_tokens.specs.Blobs.{base64_of}
+use Rattle.ion_text.specs.Grammar.{is_keyword}
+use Rattle.ion_text.specs.declared.escape.Quotes.{Quotes}
+
+-- 1. Texts between quotes ("Strings", "Symbols", "Clobs"). A text is its octets in UTF-8, and a character from 80 on stands as it is.
+
+-- those of strings, of symbols, and of clobs, which are ASCII alone
+abbrev pub of_string : Quotes
+of_string = record { delimiter = double_quote; ascii = false }
+
+abbrev pub of_symbol : Quotes
+of_symbol = record { delimiter = single_quote; ascii = false }
+
+abbrev pub of_clob : Quotes
+of_clob = record { delimiter = double_quote; ascii = true }
+
+-- the letter behind a backslash that stands for an octet: a backslash, the delimiter, `n`, `r` or `t`; no letter stands for another
+abbrev pub letter_for : ℕ → ℕ → Option ℕ
+letter_for delimiter o =
+    if (o == backslash) || (o == delimiter) then Some o
+    else (if o == line_feed then Some lower_n
+    else (if o == carriage_return then Some lower_r
+    else (if o == tab then Some lower_t
+    else None)))
+
+-- `0` to `9`, `a` to `f`
+abbrev pub hexadecimal_of : ℕ → ℕ
+hexadecimal_of d = if nat_lt d 10 then digit_0 + d else lower_a + (d - 10)
+
+-- `\x` and two digits
+abbrev pub hexadecimal_escape : ℕ → List ℕ
+hexadecimal_escape o = codes "\\x" ++ hexadecimal_of (o / 16) ∷ hexadecimal_of (o % 16) ∷ []
+
+-- an octet without such a letter stands as it is from the space on, but for 7F and, in ASCII, those from 80 on
+abbrev pub stands_raw : Bool → ℕ → Bool
+stands_raw ascii o = nat_le space o && (not (o == delete) && not (ascii && nat_le 0x80 o))
+
+abbrev pub escape_by : Bool → ℕ → Option ℕ → List ℕ
+escape_by ascii o (Some letter) = codes "\\" ++ letter ∷ []
+escape_by ascii o None = if stands_raw ascii o then o ∷ [] else hexadecimal_escape o
+
+-- how an octet is written between these quotes
+abbrev pub escape : Quotes → ℕ → List ℕ
+escape quotes o = escape_by quotes.ascii o (letter_for quotes.delimiter o)
+
+abbrev pub escaped_text : Quotes → List ℕ → List ℕ
+escaped_text quotes text = flat_map (escape quotes) text
+
+-- a text, or the octets of a clob, and the quotes
+abbrev pub quoted : Quotes → List ℕ → List ℕ
+quoted quotes text = (quotes.delimiter ∷ escaped_text quotes text) ++ quotes.delimiter ∷ []
+
+-- 2. Symbols.
+
+-- a letter or `_`
+abbrev pub begins_identifier : ℕ → Bool
+begins_identifier o = is_letter o || (o == underscore)
+
+-- such, then also digits or `$`
+abbrev pub is_identifier : List ℕ → Bool
+is_identifier [] = false
+is_identifier (o ∷ os) = begins_identifier o && list_all is_word_octet os
+
+-- the text stands without quotes: such a word, but for `null`, `true`, `false` and `nan`
+abbrev pub is_unquoted : List ℕ → Bool
+is_unquoted w = is_identifier w && not (is_keyword w)
+
+abbrev pub known_text : List ℕ → List ℕ
+known_text w = if is_unquoted w then w else quoted of_symbol w
+
+-- a symbol, wherever it stands: as a value, an annotation or a field's name
+unfoldable pub symbol_text : Option (List ℕ) → List ℕ
+symbol_text None = codes "$0"
+symbol_text (Some w) = known_text w
+
+-- 3. Values.
+
+abbrev pub null_text : Kind → List ℕ
+null_text kinds.Null = codes "null"
+null_text k = codes "null." ++ kind_name k
+
+abbrev pub truth_text : Bool → List ℕ
+truth_text false = codes "false"
+truth_text true = codes "true"
+
+abbrev pub clob_text : List ℕ → List ℕ
+clob_text octets = codes "{{" ++ quoted of_clob octets ++ codes "}}"
+
+abbrev pub blob_text : List ℕ → List ℕ
+blob_text octets = codes "{{" ++ base64_of octets ++ codes "}}"
+
+-- annotations, each with `::`
+abbrev pub notes_text : List (Option (List ℕ)) → List ℕ
+notes_text ss = flat_map (λ s. symbol_text s ++ codes "::") ss
+
+-- a field's name before the text of its value
+abbrev pub named : Option (List ℕ) → List ℕ → List ℕ
+named s w = symbol_text s ++ (codes ":" ++ w)
+
+-- texts one behind the other, with something between
+abbrev pub separated : List ℕ → List (List ℕ) → List ℕ
+separated between [] = []
+separated between (w ∷ ws) = w ++ flat_map (λ x. between ++ x) ws
+
+abbrev pub enclosed : List ℕ → List ℕ → List ℕ → List (List ℕ) → List ℕ
+enclosed before between behind ws = (before ++ separated between ws) ++ behind
+
+-- of one level, in which each value inside is its text already; numbers have the spelling of `ion_scalar`
+abbrev pub text_step : Payload-F (List ℕ) (List ℕ) (List ℕ) → List ℕ
+text_step (Payload-F.Null k) = null_text k
+text_step (Payload-F.Truth b) = truth_text b
+text_step (Payload-F.Int z) = number_text (numbers.Int z)
+text_step (Payload-F.Decimal d) = number_text (numbers.Decimal d)
+text_step (Payload-F.Timestamp t) = number_text (numbers.Timestamp t)
+text_step (Payload-F.Symbol s) = symbol_text s
+text_step (Payload-F.Str text) = quoted of_string text
+text_step (Payload-F.Clob octets) = clob_text octets
+text_step (Payload-F.Blob octets) = blob_text octets
+text_step (Payload-F.List vs) = enclosed (codes "[") (codes ",") (codes "]") vs
+text_step (Payload-F.Sexp vs) = enclosed (codes "(") (codes " ") (codes ")") vs
+text_step (Payload-F.Fields fs) = enclosed (codes "{") (codes ",") (codes "}") fs
+
+-- the text of a value, its fields in the order in which they stand
+unfoldable pub value_text : Value → List ℕ
+value_text v = fold-Value (List ℕ) (List ℕ) (List ℕ) text_step (λ f. named f.name f.value) (λ v. notes_text v.annotations ++ v.payload) v
+
+-- 4. Streams.
+
+-- what a value adds to the document: its text and LF
+abbrev pub adds : Value → List ℕ
+adds v = value_text v ++ codes "\n"
+
+-- the document of the stream
+abbrev pub text_of : List Value → List ℕ
+text_of s = flat_map adds s

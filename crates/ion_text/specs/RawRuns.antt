@@ -1,0 +1,54 @@
+-- Octets that stand for themselves between quotes.
+use Rattle.std.proofs.Common.{◌≡◌, ℕ, Bool, true, cond, List, [], ◌∷◌, ◌++◌, take, drop, None, refl, sym, ap, ap₂, ◌∙◌, append_assoc, arith, ◌+◌, ◌<◌, length, get_or, subst}
+use Rattle.std.specs.Prelude.{◌==◌, ◌&&◌, not, nat_le}
+use Rattle.std.specs.List.{AllByRecursion}
+use Rattle.std.proofs.lemmas.Bool.{and_parts}
+use Rattle.std.proofs.lemmas.Bool.Decides.{nat_tests}
+use Rattle.std.proofs.lemmas.Grind.{flat_map-append}
+use Rattle.std.proofs.lemmas.List.{take_more, take-append-drop}
+use Rattle.ion_text.specs.declared.escape.Quotes.{Quotes}
+use Rattle.ion_text.specs.Output.{letter_for, stands_raw, escape_by, escape, escaped_text, hexadecimal_escape}
+
+-- no escape stands for the octet
+abbrev pub is_raw : Quotes → ℕ → Bool
+is_raw quotes o = not (o == 92) && (not (o == quotes.delimiter) && stands_raw quotes.ascii o)
+
+abbrev pub AreRaw : Quotes → List ℕ → Type 0
+AreRaw quotes octets = AllByRecursion (λ o. is_raw quotes o ≡ true) octets
+
+raw_last : (quotes : Quotes) (octets : List ℕ) (o : ℕ) → AreRaw quotes octets → is_raw quotes o ≡ true → AreRaw quotes (octets ++ o ∷ [])
+raw_last quotes [] o h e = (e, tt)
+raw_last quotes (x ∷ octets) o h e = (h.0, raw_last quotes octets o h.1 e)
+
+-- one more at the front stands for itself
+pub raw_more : (quotes : Quotes) (octets : List ℕ) (at : ℕ) → at < length octets → AreRaw quotes (take at octets) → is_raw quotes (get_or octets at 0) ≡ true → AreRaw quotes (take (at + 1) octets)
+raw_more quotes octets at k h e = subst (AreRaw quotes) (sym (take_more octets at 0 k)) (raw_last quotes (take at octets) (get_or octets at 0) h e)
+
+raw_letter : (quotes : Quotes) (o : ℕ) → is_raw quotes o ≡ true → letter_for quotes.delimiter o ≡ None
+raw_letter quotes o h = let a = and_parts _ _ h in let b = and_parts _ _ a.1 in let c = and_parts _ _ b.1 in by a.0 b.0 c.0 where
+  by : not (o == 92) ≡ true → not (o == quotes.delimiter) ≡ true → nat_le 32 o ≡ true → letter_for quotes.delimiter o ≡ None
+  by x y z = grind (arith, nat_tests)
+
+raw_escape : (quotes : Quotes) (o : ℕ) → is_raw quotes o ≡ true → escape quotes o ≡ o ∷ []
+raw_escape quotes o h =
+    let b = and_parts _ _ (and_parts _ _ h).1 in
+    ap (escape_by quotes.ascii o) (raw_letter quotes o h) ∙ ap (λ x. cond x (o ∷ []) (hexadecimal_escape o)) b.1
+
+pub raw_text : (quotes : Quotes) (octets : List ℕ) → AreRaw quotes octets → escaped_text quotes octets ≡ octets
+raw_text quotes [] h = refl
+raw_text quotes (o ∷ os) h = ap₂ (λ (a b : List ℕ). a ++ b) (raw_escape quotes o h.0) (raw_text quotes os h.1)
+
+-- what is left of octets behind raw ones
+pub raw_then : (quotes : Quotes) (n : ℕ) (octets : List ℕ) → AreRaw quotes (take n octets) → escaped_text quotes octets ≡ take n octets ++ escaped_text quotes (drop n octets)
+raw_then quotes n octets h =
+    ap (escaped_text quotes) (sym (take-append-drop n octets)) ∙ (flat_map-append (escape quotes) (take n octets) (drop n octets) ∙ ap (λ (x : List ℕ). x ++ escaped_text quotes (drop n octets)) (raw_text quotes (take n octets) h))
+
+-- raw octets, and then what is left
+pub raw_goes : (quotes : Quotes) (rest raw others out new all : List ℕ) (n : ℕ) → raw ≡ take n rest → others ≡ drop n rest → AreRaw quotes (take n rest) → out ++ escaped_text quotes rest ≡ all → new ≡ out ++ raw → new ++ escaped_text quotes others ≡ all
+raw_goes quotes rest raw others out new all n front back h whole e =
+    rw (e, front, back) (append_assoc out (take n rest) (escaped_text quotes (drop n rest)) ∙ (ap (λ (x : List ℕ). out ++ x) (sym (raw_then quotes n rest h)) ∙ whole))
+
+-- one octet, and then what is left
+pub octet_goes : (quotes : Quotes) (others more out new all : List ℕ) (o : ℕ) → others ≡ o ∷ more → out ++ escaped_text quotes others ≡ all → new ≡ out ++ escape quotes o → new ++ escaped_text quotes more ≡ all
+octet_goes quotes others more out new all o first whole e =
+    rw e (append_assoc out (escape quotes o) (escaped_text quotes more) ∙ rw first at whole)

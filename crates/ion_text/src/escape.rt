@@ -1,0 +1,136 @@
+//! Texts and octets of clobs between quotes (Ion 1.0, "Ion Text Encoding", strings, symbols and clobs). Each
+//! function appends to `out`, and its only fault is `Memory`, on which some of the octets may stand there.
+ghost use Rattle.std.specs.Prelude.{◌≡◌, ◌<◌, ◌≤◌, ◌++◌, OnOk, IsOkUnless, length, take};
+ghost use Rattle.ion_symtab.specs.declared.fault.Fault.TheVariants as faults;
+ghost use Rattle.ion_text.specs.RawRuns.{is_raw, AreRaw};
+ghost use Rattle.ion_text.specs.Output.{hexadecimal_of, letter_for, stands_raw, escape, escaped_text, quoted};
+
+use ion_symtab::Fault;
+
+/// What stands around a text, and so what is escaped in it.
+#[derive(Clone, Copy)]
+pub struct Quotes {
+    /// The octet before and behind the text.
+    pub delimiter: u8,
+    /// Whether octets from 80 on are escaped.
+    pub ascii: bool,
+}
+
+/// Those of strings.
+pub const OF_STRING: Quotes = Quotes {
+    delimiter: b'"',
+    ascii: false,
+};
+
+/// Those of symbols.
+pub const OF_SYMBOL: Quotes = Quotes {
+    delimiter: b'\'',
+    ascii: false,
+};
+
+/// Those of clobs.
+pub const OF_CLOB: Quotes = Quotes {
+    delimiter: b'"',
+    ascii: true,
+};
+
+/// The digit `0` to `9` or `a` to `f`.
+fn hexadecimal_of(digit: u8) -> u8
+    requires { digit < 16 }
+    ensures { result ≡ hexadecimal_of digit }
+{
+    if digit < 10 {
+        b'0' + digit
+    } else {
+        b'a' + (digit - 10)
+    }
+}
+
+/// The letter behind a backslash that stands for an octet, if there is one.
+fn letter_for(delimiter: u8, octet: u8) -> Option<u8>
+    ensures { result ≡ letter_for delimiter octet }
+{
+    if octet == b'\\' || octet == delimiter {
+        Some(octet)
+    } else if octet == b'\n' {
+        Some(b'n')
+    } else if octet == b'\r' {
+        Some(b'r')
+    } else if octet == b'\t' {
+        Some(b't')
+    } else {
+        None
+    }
+}
+
+/// Whether an octet without such a letter stands for itself.
+fn stands_raw(ascii: bool, octet: u8) -> bool
+    ensures { result ≡ stands_raw ascii octet }
+{
+    octet >= 32 && (octet != 0x7F && !(ascii && octet >= 0x80))
+}
+
+/// Whether an octet stands for itself.
+fn is_raw(quotes: Quotes, octet: u8) -> bool
+    ensures { result ≡ is_raw quotes octet }
+{
+    octet != b'\\' && (octet != quotes.delimiter && stands_raw(quotes.ascii, octet))
+}
+
+/// How many octets at the front stand for themselves.
+fn raw_front(quotes: Quotes, octets: &[u8]) -> usize
+    ensures within { result ≤ length octets.now }
+    ensures raw { AreRaw quotes (take result octets.now) }
+{
+    let mut count = 0;
+    while count < octets.len() && is_raw(quotes, octets[count]) {
+        count += 1;
+    }
+    count
+}
+
+/// Appends what an octet is written as.
+fn put_octet(quotes: Quotes, octet: u8, out: &mut Vec<u8>) -> Result<(), Fault>
+    ensures ok { OnOk result (out.new.items ≡ out.old.items ++ escape quotes octet) }
+    ensures memory { IsOkUnless result faults.Memory }
+{
+    if let Some(letter) = letter_for(quotes.delimiter, octet) {
+        out.extend_from_slice(&[b'\\', letter])?;
+    } else if stands_raw(quotes.ascii, octet) {
+        out.push(octet)?;
+    } else {
+        let high = hexadecimal_of(octet / 16);
+        let low = hexadecimal_of(octet % 16);
+        out.extend_from_slice(&[b'\\', b'x', high, low])?;
+    }
+    Ok(())
+}
+
+/// Appends octets as they are written between quotes; what stands for itself is copied at once.
+fn put_escaped(quotes: Quotes, octets: &[u8], out: &mut Vec<u8>) -> Result<(), Fault>
+    ensures ok { OnOk result (out.new.items ≡ out.old.items ++ escaped_text quotes octets.now) }
+    ensures memory { IsOkUnless result faults.Memory }
+{
+    let mut rest = octets;
+    while !rest.is_empty() {
+        let (raw, others) = rest.split_at(raw_front(quotes, rest));
+        out.extend_from_slice(raw)?;
+        rest = others;
+        if let Some((octet, others)) = rest.split_first() {
+            put_octet(quotes, *octet, out)?;
+            rest = others;
+        }
+    }
+    Ok(())
+}
+
+/// Appends a text, or the octets of a clob, between quotes.
+pub fn put_quoted(quotes: Quotes, octets: &[u8], out: &mut Vec<u8>) -> Result<(), Fault>
+    ensures ok { OnOk result (out.new.items ≡ out.old.items ++ quoted quotes octets.now) }
+    ensures memory { IsOkUnless result faults.Memory }
+{
+    out.push(quotes.delimiter)?;
+    put_escaped(quotes, octets, out)?;
+    out.push(quotes.delimiter)?;
+    Ok(())
+}

@@ -1,0 +1,107 @@
+//! Laws of text documents. Each stands on an empty function: its contract is the law. What they say of
+//! reading is said of the definitions of `specs/Run.antt`, which read octet by octet; `TextReader` is
+//! proved to answer what they say.
+ghost use Rattle.std.specs.Prelude.{◌≡◌, ◌≢◌, ◌↔◌, ◌≤◌, ◌++◌, ℕ, List, length, take, codes, Some, None, Err};
+ghost use Rattle.ion_model.specs.declared.value.Value.{Value};
+ghost use Rattle.ion_model.specs.declared.refusal.Reason.TheVariants.{Incomplete};
+ghost use Rattle.ion_model.specs.declared.refusal.Refusal.{Refusal};
+ghost use Rattle.ion_model.specs.Kept.{AreKept};
+ghost use Rattle.ion_symtab.specs.declared.limits.Limits.{Limits};
+ghost use Rattle.ion_symtab.specs.Tables.{Table};
+ghost use Rattle.ion_symtab.specs.Promises.{BeginsNone, GivesNoTable, HasReasons, IsSmall, NoTables, Shown, Shows};
+ghost use Rattle.ion_symtab.specs.Trace.{Grows, Streams, plain};
+ghost use Rattle.ion_symtab.specs.ContextTexts.{AreTextTables};
+ghost use Rattle.ion_text.specs.Grammar.{Document, OpenRest, Whole};
+ghost use Rattle.ion_text.specs.Output.{text_of};
+ghost use Rattle.ion_text.specs.RoundTrip.{FitsIn};
+ghost use Rattle.ion_text.specs.Rows.{worked};
+ghost use Rattle.ion_text.specs.Run.{trace};
+
+/// What is written of values that the types keep, none of them a local symbol table, is a document
+/// with these values, under every catalog and all limits that admit it; so what is written of the
+/// values of a document is, where the catalog's texts are UTF-8.
+pub fn round_trip()
+    ensures written { (g : List Table) (l : Limits) (s : List Value) →
+        AreKept s → NoTables s → FitsIn l s → Document g l (text_of s) s }
+    ensures again { (g h : List Table) (l m : Limits) (u : List ℕ) (s : List Value) →
+        AreTextTables g → Document g l u s → FitsIn m s → Document h m (text_of s) s }
+{}
+
+/// The values of a document are such as the types keep, where the catalog's texts are UTF-8, and none
+/// of them is a local symbol table.
+pub fn document_values()
+    ensures kept { (g : List Table) (l : Limits) (u : List ℕ) (s : List Value) →
+        AreTextTables g → Document g l u s → AreKept s }
+    ensures no_tables { (g : List Table) (l : Limits) (u : List ℕ) (s : List Value) →
+        Document g l u s → NoTables s }
+{}
+
+/// What is written of worked values: a symbol with the text of a version marker, the sign of a zero, a year,
+/// an unknown symbol, a control character, the symbol of no text, annotations, lists, operators, fields, lobs.
+pub fn worked_text()
+    ensures { text_of worked ≡
+        codes "'$ion_1_0'\n-0d0\n2007T\n$0\n\"a'\\x07\"\n''\na::[null.int,('+' b)]\n"
+        ++ codes "{a:15d-1}\n{{\"\\x00\\\"\\xc8\"}}\n{{AQIDBA==}}\n" }
+{}
+
+/// Octets are a document with these values exactly where the reading of them, octet by octet, ends well and
+/// gives these values.
+pub fn reading_is_exact()
+    ensures { (g : List Table) (l : Limits) (u : List ℕ) (s : List Value) →
+        Streams (trace g l u) s ↔ Document g l u s }
+{}
+
+/// Octets are a document with one list of values at most.
+pub fn one_stream()
+    ensures { (g : List Table) (l : Limits) (u : List ℕ) (s t : List Value) →
+        Document g l u s → Document g l u t → s ≡ t }
+{}
+
+/// Further octets take back no value that the reading gave, and no refusal.
+pub fn reading_grows()
+    ensures { (g : List Table) (l : Limits) (u w : List ℕ) →
+        Grows (trace g l u) (trace g l (u ++ w)) }
+{}
+
+/// Where an octet is refused, no document begins with the octets up to it, and the end repeats the refusal; a
+/// refusal at the end alone counts all octets; neither is for want of memory or a fault of the catalog, and the
+/// first is not for want of more octets.
+pub fn reading_refuses()
+    ensures within { (g : List Table) (l : Limits) (u : List ℕ) (r : Refusal) →
+        (trace g l u).refused ≡ Some r → r.offset ≤ length u }
+    ensures none { (g : List Table) (l : Limits) (u : List ℕ) (r : Refusal) →
+        (trace g l u).refused ≡ Some r → BeginsNone (Document g l) (take r.offset u) }
+    ensures ends { (g : List Table) (l : Limits) (u : List ℕ) (r : Refusal) →
+        (trace g l u).refused ≡ Some r → (trace g l u).ends ≡ Err r }
+    ensures unfinished { (g : List Table) (l : Limits) (u : List ℕ) (r : Refusal) →
+        (trace g l u).refused ≡ None → (trace g l u).ends ≡ Err r → r.offset ≡ length u }
+    ensures before_end { (g : List Table) (l : Limits) (u : List ℕ) (r : Refusal) →
+        (trace g l u).refused ≡ Some r → r.reason ≢ Incomplete }
+    ensures reasons { (g : List Table) (l : Limits) (u : List ℕ) → HasReasons (trace g l u) }
+{}
+
+/// No value that the reading gives is a local symbol table.
+pub fn reading_gives_no_table()
+    ensures { (g : List Table) (l : Limits) (u : List ℕ) → GivesNoTable (trace g l u) }
+{}
+
+/// A value that the reading gives has at most as many nodes as its item has octets, and its item at most as
+/// many octets as the limit on items allows.
+pub fn reading_is_small()
+    ensures { (g : List Table) (l : Limits) (u : List ℕ) → IsSmall l.item u (trace g l u) }
+{}
+
+/// Octets show one stream: the values of the longest whole pieces at their front, whatever follows.
+pub fn one_shown()
+    ensures { (g : List Table) (l : Limits) (u : List ℕ) (s t : List Value) →
+        Shown (Whole g l) u s → Shown (Whole g l) u t → s ≡ t }
+{}
+
+/// Where the reading refuses no octet, the octets show the values given: those of the longest list of whole
+/// pieces at their front that remain pieces whatever follows. What is left of them is at most one open item,
+/// within the limit on items, and what may stand open behind it.
+pub fn reading_has_pieces()
+    ensures shown { (g : List Table) (l : Limits) (u : List ℕ) →
+        (trace g l u).refused ≡ None →
+        Shows (Whole g l) (λ front rest. OpenRest l rest) u (plain (trace g l u).given) }
+{}

@@ -1,0 +1,19 @@
+//! Documents of Ion text (Ion 1.0, "Ion Text Encoding"): their reader and their writer.
+#![tactic(auto)]
+
+mod escape;
+pub mod laws;
+mod reader;
+mod scalar;
+mod spelling;
+mod state;
+#[cfg(test)]
+mod tests;
+mod words;
+mod writer;
+#[cfg(test)]
+mod writer_tests;
+
+pub use reader::TextReader;
+pub use scalar::symbol_text;
+pub use writer::TextWriter;

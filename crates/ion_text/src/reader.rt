@@ -1,0 +1,153 @@
+//! The reader of text documents: what it holds, and what each token does.
+ghost use Rattle.std.specs.Prelude.{◌≡◌, ◌∷◌, [], nat_lt, length};
+ghost use Rattle.ion_model.specs.Measures.{annotated};
+ghost use Rattle.ion_text.specs.Machine.{place, begun_at, ended};
+ghost use Rattle.ion_text.specs.Views.{open_frames, reading_of, Does, SameSetting};
+
+use crate::state::{Effect, Frame, Now};
+use ion_model::{Field, Payload, Reason, Refusal, Sequence, Symbol, Value};
+use ion_symtab::{Catalog, Context, Limits};
+use ion_tokens::{Place, Scanner};
+use std::alloc::Global;
+use std::mem;
+
+mod closes;
+mod ends;
+mod items;
+mod octets;
+mod steps;
+mod stretches;
+mod turns;
+mod waiting;
+
+/// A reader of a text document that comes in pieces (Ion 1.0, "Ion Text Encoding").
+///
+/// It keeps the open containers, and the octets of the token that is open. Local symbol tables change
+/// what symbol ids stand for and aren't given; a version marker sets that back to the system symbols.
+#[derive(Drop)]
+pub struct TextReader<'a> {
+    alloc: Global,
+    catalog: &'a Catalog,
+    limits: Limits,
+    scanner: Scanner,
+    /// Where the open item of the top level begins.
+    start: u64,
+    /// What symbol ids stand for.
+    context: Context,
+    /// The open containers, the innermost last.
+    frames: Vec<Frame>,
+    /// The annotations read of the value that is read now.
+    notes: Sequence<Symbol>,
+    stage: Now,
+    /// The value of the top level that has ended, until it is taken.
+    given: Option<Value>,
+    /// The octet that showed the end of the value given last, and wasn't used.
+    awaited: Option<u8>,
+    /// The refusal that each call answers from now on.
+    failed: Option<Refusal>,
+}
+
+impl TextReader<'_> {
+    /// Where the next token stands.
+    fn place(&self) -> Place
+        ensures { result ≡ place (reading_of self.now) }
+    {
+        match self.frames.last() {
+            None => Place::Top,
+            Some(Frame::List(_, _)) => Place::List,
+            Some(Frame::Sexp(_, _)) => Place::Sexp,
+            Some(Frame::Named(_, _, _)) => Place::FieldValue,
+            Some(Frame::Fields(_, _)) => match &self.stage {
+                Now::After => Place::FieldValue,
+                _ => Place::Name,
+            },
+        }
+    }
+
+    /// Where the item of a token begins that begins at `begin`.
+    fn begun_at(&self, begin: u64) -> u64
+        ensures { result ≡ begun_at self.now.start begin (open_frames self.now) self.now.notes }
+    {
+        match (self.frames.last(), self.notes.as_slice().first()) {
+            (None, None) => begin,
+            _ => self.start,
+        }
+    }
+
+    /// Whether the limit on depth admits one more list, s-expression or struct.
+    fn may_deepen(&self) -> bool
+        ensures { result ≡ nat_lt (length (open_frames self.now)) self.now.limits.depth }
+    {
+        self.frames.len() < self.limits.depth as usize
+    }
+
+    /// The annotations and a payload are a whole value, which ended at `end`.
+    fn whole(&mut self, payload: Payload, end: u64) -> Result<Effect, Reason>
+        ensures does { Does (ended self.old.catalog.now self.old.limits.item end self.old.start self.old.context (open_frames self.old) (annotated self.old.notes payload)) result self.new }
+        ensures setting { SameSetting self.old self.new }
+    {
+        let annotations = mem::replace(&mut self.notes, Sequence::new(self.alloc));
+        self.deliver(
+            Value {
+                annotations,
+                payload,
+            },
+            end,
+        )
+    }
+
+    /// Hands a whole value, which ended at `end`, to the innermost container.
+    fn deliver(&mut self, value: Value, end: u64) -> Result<Effect, Reason>
+        requires notes { self.old.notes ≡ [] }
+        ensures does { Does (ended self.old.catalog.now self.old.limits.item end self.old.start self.old.context (open_frames self.old) value) result self.new }
+        ensures setting { SameSetting self.old self.new }
+    {
+        match self.frames.pop() {
+            None => self.give(value, end),
+            Some(Frame::List(annotations, mut items)) => {
+                items.push(value)?;
+                self.frames.push(Frame::List(annotations, items))?;
+                self.stage = Now::After;
+                Ok(Effect::Goes)
+            }
+            Some(Frame::Sexp(annotations, mut items)) => {
+                items.push(value)?;
+                self.frames.push(Frame::Sexp(annotations, items))?;
+                self.stage = Now::Ready;
+                Ok(Effect::Goes)
+            }
+            Some(Frame::Named(annotations, mut fields, name)) => {
+                fields.push(Field { name, value })?;
+                self.frames.push(Frame::Fields(annotations, fields))?;
+                self.stage = Now::After;
+                Ok(Effect::Goes)
+            }
+            Some(Frame::Fields(_, _)) => Err(Reason::Unexpected),
+        }
+    }
+
+    /// Gives a value of the top level. A local symbol table isn't given: it changes the context (Ion
+    /// 1.0, "Symbols", "Local Symbol Tables").
+    fn give(&mut self, value: Value, end: u64) -> Result<Effect, Reason>
+        requires top { open_frames self.old ≡ [] }
+        requires notes { self.old.notes ≡ [] }
+        ensures does { Does (ended self.old.catalog.now self.old.limits.item end self.old.start self.old.context [] value) result self.new }
+        ensures setting { SameSetting self.old self.new }
+    {
+        let last = self.start.saturating_add(self.limits.item);
+        self.stage = Now::Ready;
+        self.start = 0;
+        if value.is_table() {
+            self.context.apply(&value, self.catalog)?;
+            if end > last {
+                return Err(Reason::ItemTooLong);
+            }
+            return Ok(Effect::Goes);
+        }
+        if end > last {
+            return Err(Reason::ItemTooLong);
+        }
+        self.given = Some(value);
+        Ok(Effect::Gives)
+    }
+}

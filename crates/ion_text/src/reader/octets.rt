@@ -1,0 +1,245 @@
+//! What each octet does: the scanner takes it up, and behind it the reader of tokens.
+ghost use Rattle.std.specs.Prelude.{◌≡◌, ◌≢◌, ◌+◌, ◌<◌, ◌≤◌, ◌^◌, length, get_or, Ok, Err, IfOk, IfErr, true, false};
+ghost use Rattle.ion_model.specs.declared.refusal.Reason.TheVariants.{Memory};
+ghost use Rattle.ion_tokens.specs.Views.{scanned, failure};
+ghost use Rattle.ion_tokens.specs.Scanning.{run, feed};
+ghost use Rattle.ion_text.specs.Machine.{turn};
+ghost use Rattle.ion_text.specs.Run.{is_top, reaches, noticed, waits, lesser, behind_given, behind_left, on_scan, takes};
+ghost use Rattle.ion_text.specs.Progress.{StaysSteady};
+ghost use Rattle.ion_text.specs.Views.{comes_again, count_of, worse, open_frames, reading_of, state_of, goes_on_symbol, goes_on_long, token_in, IsFine, MeetsWith, Notices, DidTake, DidMeet, SameSetting, SameReader};
+
+use super::TextReader;
+use crate::state::{Effect, Met, Now, Taken};
+use ion_model::{Reason, Refusal};
+use ion_tokens::{Foresight, Form, Place, Scan, Token};
+
+/// The reason of the smaller number.
+fn lesser(first: Reason, second: Reason) -> Reason
+    ensures { result ≡ lesser first second }
+{
+    if second.number() < first.number() {
+        second
+    } else {
+        first
+    }
+}
+
+/// Whether what is seen of an octet may go on a symbol.
+fn goes_on_symbol(foresight: Foresight) -> bool
+    ensures { result ≡ goes_on_symbol foresight }
+{
+    matches!(foresight, Foresight::Blank | Foresight::Colons)
+}
+
+/// Whether it may go on a long string, for whose segment `''` counts or not.
+fn goes_on_long(quotes: bool, foresight: Foresight) -> bool
+    ensures { result ≡ goes_on_long quotes foresight }
+{
+    match foresight {
+        Foresight::Blank | Foresight::Long => true,
+        Foresight::Empty => quotes,
+        _ => false,
+    }
+}
+
+/// The reason for which an octet is refused that was refused already, and comes again.
+pub(super) fn worse(reason: Reason, again: Result<Taken, Reason>) -> Reason
+    ensures { result ≡ worse reason again }
+{
+    match again {
+        Ok(_) => reason,
+        Err(other) => lesser(reason, other),
+    }
+}
+
+impl TextReader<'_> {
+    /// How many octets the open item has now, as far as it is known to go.
+    fn reach(&self) -> u64
+        ensures { result ≡ reaches (open_frames self.now) (reading_of self.now) (scanned self.now.scanner) }
+    {
+        let begun = self.scanner.begun();
+        match (self.frames.last(), &self.stage, begun) {
+            (Some(_), _, _) => self.scanner.used().saturating_sub(self.start),
+            (None, Now::Ready, None) => match self.notes.as_slice().first() {
+                None => 0,
+                Some(_) => self.scanner.used().saturating_sub(self.start),
+            },
+            (None, Now::Ready, Some(begun)) => match self.notes.as_slice().first() {
+                None => begun.end.saturating_sub(begun.start),
+                Some(_) => begun.end.saturating_sub(self.start),
+            },
+            (None, Now::Pending(_, end), _) => end.saturating_sub(self.start),
+            (None, Now::Long(_, end), None) => end.saturating_sub(self.start),
+            (None, Now::Long(_, end), Some(begun)) => match begun.form {
+                Form::Long => begun.end.saturating_sub(self.start),
+                _ => end.saturating_sub(self.start),
+            },
+            _ => 0,
+        }
+    }
+
+    /// Octets were used and ended no value. A token that begins where none may is refused with its first
+    /// octet, and an item that is too long with the first octet too many.
+    fn notice(&self) -> Result<(), Reason>
+        ensures { Notices (noticed self.now.limits (reading_of self.now) (scanned self.now.scanner)) result (state_of self.now) }
+    {
+        match &self.stage {
+            Now::After | Now::Keyed(_) if self.scanner.begun().is_some() => {
+                return Err(Reason::Unexpected);
+            }
+            _ => {}
+        }
+        if self.reach() > self.limits.item {
+            return Err(Reason::ItemTooLong);
+        }
+        Ok(())
+    }
+
+    /// Whether no container is open.
+    fn is_top(&self) -> bool
+        ensures { result ≡ is_top (open_frames self.now) }
+    {
+        match self.frames.last() {
+            None => true,
+            Some(_) => false,
+        }
+    }
+
+    /// Whether what waits may go on with the octet.
+    #[tactic(auto, using(crate::proofs::Sights::symbol_sights, crate::proofs::Sights::long_sights))]
+    fn goes_on(&self, place: Place, octet: u8) -> bool
+        ensures { result ≡ waits (reading_of self.now) (feed place (scanned self.now.scanner) octet) }
+    {
+        match &self.stage {
+            Now::Pending(_, _) => goes_on_symbol(self.scanner.foresee(place, octet)),
+            Now::Long(_, _) => goes_on_long(self.is_top(), self.scanner.foresee(place, octet)),
+            Now::LongName(_) => goes_on_long(false, self.scanner.foresee(place, octet)),
+            _ => false,
+        }
+    }
+
+    /// A token ended with the last octet.
+    fn given(&mut self, token: Token<'_>) -> Result<Met, Reason>
+        ensures did { DidMeet (λ _. behind_given self.old.limits (scanned self.old.scanner) (turn self.old.catalog.now self.old.limits (reading_of self.old) (token_in token.entry))) result self.new }
+        ensures ends { IfOk result (λ met. comes_again met ≡ false) }
+        ensures setting { SameSetting self.old self.new }
+    {
+        match self.turn(token)? {
+            Effect::Gives => Ok(Met::Tells),
+            Effect::Goes => {
+                self.notice()?;
+                Ok(Met::Uses)
+            }
+            Effect::Late(reason) => match self.notice() {
+                Err(other) => Err(lesser(reason, other)),
+                Ok(()) => Err(reason),
+            },
+        }
+    }
+
+    /// A token ended before the last octet.
+    fn left(&mut self, token: Token<'_>) -> Result<Met, Reason>
+        ensures did { DidMeet (λ again. behind_left again (scanned self.old.scanner) (turn self.old.catalog.now self.old.limits (reading_of self.old) (token_in token.entry))) result self.new }
+        ensures again { IfOk result (λ met. comes_again met ≡ true) }
+        ensures setting { SameSetting self.old self.new }
+    {
+        match self.turn(token)? {
+            Effect::Gives => Ok(Met::Leaves),
+            Effect::Goes => Ok(Met::Again),
+            Effect::Late(reason) => Ok(Met::Late(reason)),
+        }
+    }
+
+    /// A refusal behind so many octets more than are used.
+    fn refused(&self, more: u64, reason: Reason) -> Refusal
+        requires { (scanned self.now.scanner).used + more < 2 ^ 64 }
+        ensures { result ≡ record { offset = (scanned self.now.scanner).used + more; reason = reason } }
+    {
+        let offset = self.scanner.used() + more;
+        Refusal { offset, reason }
+    }
+
+    /// Hands octets to the scanner, up to the next token, which is looked for at `place`: how many are
+    /// used, and what they did.
+    pub(super) fn meet(&mut self, place: Place, piece: &[u8]) -> Result<(usize, Met), Refusal>
+        requires room { (scanned self.old.scanner).used + length piece.now < 2 ^ 63 }
+        ensures met { IsFine self.old → MeetsWith self.old.catalog.now self.old.limits (reading_of self.old) (run place piece.now (scanned self.old.scanner)) result self.new }
+        ensures used { IfOk result (λ met. (scanned self.new.scanner).used ≡ (scanned self.old.scanner).used + met.0) }
+        ensures within { IfOk result (λ met. met.0 ≤ length piece.now) }
+        ensures fine { IfOk result (λ _. IsFine self.new) }
+        ensures steady { IfOk result (λ _. StaysSteady self.old self.new) }
+        ensures same { SameReader self.old self.new }
+    {
+        match self.scanner.step(piece, place) {
+            Err(refusal) => Err(refusal),
+            Ok(Scan { used, token, left }) => match token {
+                None => match self.notice() {
+                    Ok(()) => Ok((used, Met::Uses)),
+                    Err(reason) => Err(self.refused(0, reason)),
+                },
+                Some(token) if left => match self.left(token) {
+                    Ok(met) => Ok((used, met)),
+                    Err(reason) => Err(self.refused(1, reason)),
+                },
+                Some(token) => match self.given(token) {
+                    Ok(met) => Ok((used, met)),
+                    Err(reason) => Err(self.refused(0, reason)),
+                },
+            },
+        }
+    }
+
+    /// Takes up an octet, which may be left behind fewer than so many tokens that it ends.
+    #[cycle(octet)]
+    pub(super) fn take_octet(&mut self, tokens: u8, octet: u8) -> Result<Taken, Reason>
+        requires fine { IsFine self.old }
+        requires room { (scanned self.old.scanner).used + 1 < 2 ^ 63 }
+        ensures did { DidTake (takes self.old.catalog.now self.old.limits tokens (state_of self.old) octet) result self.new }
+        ensures used { IfOk result (λ taken. (scanned self.new.scanner).used ≡ (scanned self.old.scanner).used + count_of taken) }
+        ensures fine { IfOk result (λ _. IsFine self.new) }
+        ensures steady { IfOk result (λ _. StaysSteady self.old self.new) }
+        ensures same { SameReader self.old self.new }
+    {
+        if tokens == 0 {
+            return Err(Reason::Unexpected);
+        }
+        let place = self.place();
+        if self.goes_on(place, octet) {
+            return self.scan_octet(tokens - 1, place, octet);
+        }
+        match self.settle() {
+            Err(reason) => Err(reason),
+            Ok(Effect::Goes) => self.scan_octet(tokens - 1, place, octet),
+            Ok(Effect::Gives) => Ok(Taken::Leaves),
+            Ok(Effect::Late(reason)) => {
+                let again = self.scan_octet(tokens - 1, place, octet);
+                Err(worse(reason, again))
+            }
+        }
+    }
+
+    /// Hands an octet to the scanner, which comes again behind a token that it ended and left.
+    #[cycle(octet)]
+    fn scan_octet(&mut self, tokens: u8, place: Place, octet: u8) -> Result<Taken, Reason>
+        requires fine { IsFine self.old }
+        requires room { (scanned self.old.scanner).used + 1 < 2 ^ 63 }
+        ensures did { DidTake (on_scan self.old.catalog.now self.old.limits (λ m. takes self.old.catalog.now self.old.limits tokens m octet) (reading_of self.old) (feed place (scanned self.old.scanner) octet)) result self.new }
+        ensures used { IfOk result (λ taken. (scanned self.new.scanner).used ≡ (scanned self.old.scanner).used + count_of taken) }
+        ensures fine { IfOk result (λ _. IsFine self.new) }
+        ensures steady { IfOk result (λ _. StaysSteady self.old self.new) }
+        ensures same { SameReader self.old self.new }
+    {
+        let piece = [octet];
+        match self.meet(place, &piece) {
+            Err(refusal) => Err(refusal.reason),
+            Ok((_, Met::Uses)) => Ok(Taken::Uses),
+            Ok((_, Met::Tells)) => Ok(Taken::Tells),
+            Ok((_, Met::Leaves)) => Ok(Taken::Leaves),
+            Ok((_, Met::Again)) => self.take_octet(tokens, octet),
+            Ok((_, Met::Late(reason))) => {
+                let again = self.take_octet(tokens, octet);
+                Err(worse(reason, again))
+            }
+        }
+    }
+}

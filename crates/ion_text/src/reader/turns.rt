@@ -1,0 +1,266 @@
+//! What each token does (Ion 1.0, "Ion Text Encoding").
+ghost use Rattle.std.specs.Prelude.{◌≡◌, [], ◌∷◌, ◌++◌, MatchResult};
+ghost use Rattle.ion_model.specs.declared.refusal.Reason.TheVariants as reasons;
+ghost use Rattle.ion_text.specs.declared.state.Now.TheVariants as nows;
+ghost use Rattle.ion_text.specs.Machine.{at, goes, turn, on_ready, on_pending, on_long, on_name, on_long_name, on_after, on_keyed, number_payload};
+ghost use Rattle.ion_tokens.specs.Bodies.{content, Word, Mark'};
+ghost use Rattle.ion_text.specs.Views.{open_frames, reading_of, token_in, Does, SameSetting};
+
+use super::TextReader;
+use crate::state::{Effect, Held, Now};
+use crate::words::{held_word, is_keyword};
+use ion_model::{Payload, Reason, Sequence, Symbol, Text};
+use ion_scalar::Number;
+use ion_tokens::{Body, Mark, Token};
+use std::mem;
+
+fn number_payload(number: Number) -> Payload
+    ensures { result ≡ number_payload number }
+{
+    match number {
+        Number::Int(whole) => Payload::Int(whole),
+        Number::Decimal(decimal) => Payload::Decimal(decimal),
+        Number::Timestamp(timestamp) => Payload::Timestamp(timestamp),
+    }
+}
+
+impl TextReader<'_> {
+    /// What a token does.
+    pub(super) fn turn(&mut self, token: Token<'_>) -> Result<Effect, Reason>
+        ensures does { Does (turn self.old.catalog.now self.old.limits (reading_of self.old) (token_in token.entry)) result self.new }
+        ensures setting { SameSetting self.old self.new }
+    {
+        let Token { start, end, body } = token;
+        match mem::replace(&mut self.stage, Now::Ready) {
+            Now::Ready => {
+                self.start = self.begun_at(start);
+                self.on_ready(end, body)
+            }
+            Now::Pending(held, _) => self.on_pending(held, body),
+            Now::Long(text, _) => self.on_long(text, end, body),
+            Now::After => {
+                self.notes = Sequence::new(self.alloc);
+                self.on_after(end, body)
+            }
+            Now::Name => {
+                self.notes = Sequence::new(self.alloc);
+                self.on_name(end, body)
+            }
+            Now::LongName(text) => {
+                self.notes = Sequence::new(self.alloc);
+                self.on_long_name(text, body)
+            }
+            Now::Keyed(name) => {
+                self.notes = Sequence::new(self.alloc);
+                self.on_keyed(name, body)
+            }
+        }
+    }
+
+    /// A token where a value or an annotation may come.
+    fn on_ready(&mut self, end: u64, body: Body<'_>) -> Result<Effect, Reason>
+        requires stage { self.old.stage ≡ nows.Ready }
+        ensures does { Does (on_ready self.old.catalog.now self.old.limits.depth self.old.limits.item end self.old.start self.old.context (open_frames self.old) self.old.notes (content body.entry)) result self.new }
+        ensures setting { SameSetting self.old self.new }
+    {
+        match body {
+            Body::Word(word) => {
+                let held = held_word(self.alloc, word.as_str())?;
+                self.wait(held, end)
+            }
+            Body::Id(id) => {
+                let symbol = self.context.resolve(id)?;
+                self.wait(Held::Symbol(symbol), end)
+            }
+            Body::Quoted(text) => {
+                let symbol = Symbol::known(self.alloc, text.as_str())?;
+                self.wait(Held::Symbol(symbol), end)
+            }
+            Body::TypedNull(kind) => self.wait(Held::Null(kind), end),
+            Body::Long(text) => {
+                self.stage = Now::Long(text, end);
+                Ok(Effect::Goes)
+            }
+            Body::Short(text) => self.whole(Payload::Str(text), end),
+            Body::Number(number) => self.whole(number_payload(number), end),
+            Body::Operator(word) => {
+                let symbol = Symbol::known(self.alloc, word.as_str())?;
+                self.whole(Payload::Symbol(symbol), end)
+            }
+            Body::Clob(bytes) => self.whole(Payload::Clob(bytes), end),
+            Body::Blob(bytes) => self.whole(Payload::Blob(bytes), end),
+            Body::Mark(mark) => self.on_mark(end, mark),
+        }
+    }
+
+    /// A mark where a value or an annotation may come.
+    fn on_mark(&mut self, end: u64, mark: Mark) -> Result<Effect, Reason>
+        requires stage { self.old.stage ≡ nows.Ready }
+        ensures does { Does (on_ready self.old.catalog.now self.old.limits.depth self.old.limits.item end self.old.start self.old.context (open_frames self.old) self.old.notes (Mark' mark)) result self.new }
+        ensures setting { SameSetting self.old self.new }
+    {
+        match (mark, self.notes.as_slice().first()) {
+            (Mark::ListOpen, _) => self.open_list(),
+            (Mark::SexpOpen, _) => self.open_sexp(),
+            (Mark::FieldsOpen, _) => self.open_struct(),
+            (Mark::ListClose, None) => self.close_list(end),
+            (Mark::SexpClose, None) => self.close_sexp(end),
+            _ => Err(Reason::Unexpected),
+        }
+    }
+
+    /// What may be an annotation has come.
+    fn wait(&mut self, held: Held, end: u64) -> Result<Effect, Reason>
+        ensures does { Does (goes (at self.old.start self.old.context (open_frames self.old) self.old.notes (nows.Pending held end))) result self.new }
+        ensures setting { SameSetting self.old self.new }
+    {
+        self.stage = Now::Pending(held, end);
+        Ok(Effect::Goes)
+    }
+
+    /// A token behind what may be an annotation.
+    fn on_pending(&mut self, held: Held, body: Body<'_>) -> Result<Effect, Reason>
+        requires stage { self.old.stage ≡ nows.Ready }
+        ensures does { Does (on_pending self.old.start self.old.context (open_frames self.old) self.old.notes held (content body.entry)) result self.new }
+        ensures setting { SameSetting self.old self.new }
+    {
+        match (body, held) {
+            (Body::Mark(Mark::Colons), Held::Symbol(symbol)) => {
+                self.notes.push(symbol)?;
+                Ok(Effect::Goes)
+            }
+            (Body::Mark(Mark::Colons), Held::Version(_, symbol)) => {
+                self.notes.push(symbol)?;
+                Ok(Effect::Goes)
+            }
+            (Body::Mark(Mark::Colons), _) => {
+                self.notes.push(Symbol::unknown())?;
+                Ok(Effect::Late(Reason::KeywordAsName))
+            }
+            _ => Err(Reason::Unexpected),
+        }
+    }
+
+    /// A token behind the segments of a long string.
+    fn on_long(&mut self, text: Text, end: u64, body: Body<'_>) -> Result<Effect, Reason>
+        ensures does { Does (on_long end self.old.start self.old.context (open_frames self.old) self.old.notes text (content body.entry)) result self.new }
+        ensures setting { SameSetting self.old self.new }
+    {
+        match body {
+            Body::Long(more) => {
+                self.stage = Now::Long(joined(text, &more)?, end);
+                Ok(Effect::Goes)
+            }
+            _ => Err(Reason::Unexpected),
+        }
+    }
+
+    /// A token behind the segments of a long string that is a field's name.
+    fn on_long_name(&mut self, text: Text, body: Body<'_>) -> Result<Effect, Reason>
+        requires notes { self.old.notes ≡ [] }
+        ensures does { Does (on_long_name self.old.start self.old.context (open_frames self.old) text (content body.entry)) result self.new }
+        ensures setting { SameSetting self.old self.new }
+    {
+        match body {
+            Body::Long(more) => {
+                self.stage = Now::LongName(joined(text, &more)?);
+                Ok(Effect::Goes)
+            }
+            _ => Err(Reason::Unexpected),
+        }
+    }
+
+    /// A token where a field's name or the close of a struct may come.
+    fn on_name(&mut self, end: u64, body: Body<'_>) -> Result<Effect, Reason>
+        requires notes { self.old.notes ≡ [] }
+        ensures does { Does (on_name self.old.catalog.now self.old.limits.item end self.old.start self.old.context (open_frames self.old) (content body.entry)) result self.new }
+        ensures setting { SameSetting self.old self.new }
+    {
+        match body {
+            Body::Word(word) => self.word_named(word.as_str()),
+            Body::TypedNull(_) => {
+                self.stage = Now::Keyed(Symbol::unknown());
+                Ok(Effect::Late(Reason::KeywordAsName))
+            }
+            Body::Id(id) => {
+                self.stage = Now::Keyed(self.context.resolve(id)?);
+                Ok(Effect::Goes)
+            }
+            Body::Quoted(text) => {
+                self.stage = Now::Keyed(Symbol::known(self.alloc, text.as_str())?);
+                Ok(Effect::Goes)
+            }
+            Body::Short(text) => {
+                self.stage = Now::Keyed(Symbol::known(self.alloc, text.as_str())?);
+                Ok(Effect::Goes)
+            }
+            Body::Long(text) => {
+                self.stage = Now::LongName(text);
+                Ok(Effect::Goes)
+            }
+            Body::Mark(Mark::FieldsClose) => self.close_struct(end),
+            _ => Err(Reason::Unexpected),
+        }
+    }
+
+    /// A word that is a field's name. The octet behind a keyword may be refused for a smaller reason.
+    fn word_named(&mut self, word: &str) -> Result<Effect, Reason>
+        requires notes { self.old.notes ≡ [] }
+        ensures does { Does (on_name self.old.catalog.now self.old.limits.item 0 self.old.start self.old.context (open_frames self.old) (Word word.now)) result self.new }
+        ensures setting { SameSetting self.old self.new }
+    {
+        self.stage = Now::Keyed(Symbol::known(self.alloc, word)?);
+        if is_keyword(word) {
+            return Ok(Effect::Late(Reason::KeywordAsName));
+        }
+        Ok(Effect::Goes)
+    }
+
+    /// A token behind an element of a list or a field.
+    fn on_after(&mut self, end: u64, body: Body<'_>) -> Result<Effect, Reason>
+        requires notes { self.old.notes ≡ [] }
+        ensures does { Does (on_after self.old.catalog.now self.old.limits.item end self.old.start self.old.context (open_frames self.old) (content body.entry)) result self.new }
+        ensures setting { SameSetting self.old self.new }
+    {
+        match body {
+            Body::Mark(mark) => self.on_mark_after(end, mark),
+            _ => Err(Reason::Unexpected),
+        }
+    }
+
+    /// A mark there.
+    fn on_mark_after(&mut self, end: u64, mark: Mark) -> Result<Effect, Reason>
+        requires notes { self.old.notes ≡ [] }
+        ensures does { Does (on_after self.old.catalog.now self.old.limits.item end self.old.start self.old.context (open_frames self.old) (Mark' mark)) result self.new }
+        ensures setting { SameSetting self.old self.new }
+    {
+        match mark {
+            Mark::Comma => self.on_comma(),
+            Mark::ListClose => self.close_list(end),
+            Mark::FieldsClose => self.close_struct(end),
+            _ => Err(Reason::Unexpected),
+        }
+    }
+
+    /// A token behind a field's name.
+    fn on_keyed(&mut self, name: Symbol, body: Body<'_>) -> Result<Effect, Reason>
+        requires notes { self.old.notes ≡ [] }
+        requires stage { self.old.stage ≡ nows.Ready }
+        ensures does { Does (on_keyed self.old.start self.old.context (open_frames self.old) name (content body.entry)) result self.new }
+        ensures setting { SameSetting self.old self.new }
+    {
+        match body {
+            Body::Mark(Mark::Colon) => self.named(name),
+            _ => Err(Reason::Unexpected),
+        }
+    }
+}
+
+// One text behind the other, without a copy of the first.
+fn joined(text: Text, more: &Text) -> Result<Text, Reason>
+    ensures { MatchResult result (λ t. t ≡ text ++ more.now) (λ r. r ≡ reasons.Memory) }
+{
+    let mut all = text.into_string();
+    all.push_str(more.as_str())?;
+    Ok(Text::from_string(all))
+}

@@ -1,0 +1,86 @@
+//! What unquoted words are (Ion 1.0, "Symbols" and "Ion Text Encoding").
+ghost use Rattle.std.specs.Prelude.{◌≡◌, MatchResult};
+ghost use Rattle.std.specs.List.{list_all};
+ghost use Rattle.ion_model.specs.declared.refusal.Reason.TheVariants as reasons;
+ghost use Rattle.ion_tokens.specs.Octets.{is_digit};
+ghost use Rattle.ion_text.specs.Grammar.{is_keyword, is_version, version_parts, some_digits};
+ghost use Rattle.ion_text.specs.Machine.{held_word};
+
+use crate::state::Held;
+use ion_model::{Kind, Reason, Symbol};
+use std::alloc::Global;
+
+fn is_digit(octet: u8) -> bool
+    ensures { result ≡ is_digit octet }
+{
+    b'0' <= octet && octet <= b'9'
+}
+
+fn are_digits(octets: &[u8]) -> bool
+    ensures { result ≡ list_all is_digit octets.now }
+{
+    octets.iter().all(|octet| is_digit(*octet))
+}
+
+/// Whether these are digits, at least one.
+fn some_digits(octets: &[u8]) -> bool
+    ensures { result ≡ some_digits octets.now }
+{
+    !octets.is_empty() && are_digits(octets)
+}
+
+/// Whether these are digits, `_` and digits.
+fn version_parts(octets: &[u8]) -> bool
+    ensures { result ≡ version_parts octets.now }
+{
+    let mut rest = octets;
+    let mut some = false;
+    while let Some((octet, behind)) = rest.split_first() {
+        if !is_digit(*octet) {
+            return some && *octet == b'_' && some_digits(behind);
+        }
+        some = true;
+        rest = behind;
+    }
+    false
+}
+
+/// Whether a word has the form of a version marker: `$ion_`, digits, `_` and digits.
+fn is_version(word: &[u8]) -> bool
+    ensures { result ≡ is_version word.now }
+{
+    match word.strip_prefix(b"$ion_") {
+        None => false,
+        Some(parts) => version_parts(parts),
+    }
+}
+
+/// Whether a word is no symbol unquoted; `nan` is a float.
+pub(crate) fn is_keyword(word: &str) -> bool
+    ensures { result ≡ is_keyword word.now }
+{
+    (word == "null" || word == "true") || (word == "false" || word == "nan")
+}
+
+/// What a word is as a value, or as an annotation. The only refusal is `Memory`.
+pub(crate) fn held_word(alloc: Global, word: &str) -> Result<Held, Reason>
+    ensures { MatchResult result (λ held. held ≡ held_word word.now) (λ r. r ≡ reasons.Memory) }
+{
+    if word == "null" {
+        return Ok(Held::Null(Kind::Null));
+    }
+    if word == "true" {
+        return Ok(Held::Truth(true));
+    }
+    if word == "false" {
+        return Ok(Held::Truth(false));
+    }
+    if word == "nan" {
+        return Ok(Held::Nan);
+    }
+    let symbol = Symbol::known(alloc, word)?;
+    if is_version(word.as_bytes()) {
+        return Ok(Held::Version(word == "$ion_1_0", symbol));
+    }
+    Ok(Held::Symbol(symbol))
+}
