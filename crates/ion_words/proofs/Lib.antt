@@ -1,0 +1,5 @@
+mod Found
+mod InputOnce
+mod Names
+mod Numbers
+mod Rows

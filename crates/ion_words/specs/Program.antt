@@ -1,0 +1,37 @@
+-- The command line as data: what its library is told of it.
+use Rattle.std.specs.Prelude.{true, Some, [], codes}
+use Rattle.clap.specs.Words.{App, Rule, Shape, Text, new_app, new_rule, with_rule, with_subcommand}
+
+-- a name that must be given, by its place
+abbrev pub place : Text → Rule
+place id = record (new_rule id) { required = true }
+
+-- `--id VALUE`
+abbrev pub option : Text → Rule
+option id = record (new_rule id) { long = Some id }
+
+abbrev pub needed_option : Text → Rule
+needed_option id = record (option id) { required = true }
+
+-- `--catalog FILE`, `--depth N` and `--item N`
+abbrev pub with_options : App → App
+with_options app = with_rule (with_rule (with_rule app (option (codes "catalog"))) (option (codes "depth"))) (option (codes "item"))
+
+abbrev pub check : Shape
+check = (with_options (with_rule (new_app (codes "check")) (place (codes "FILE")))).top
+
+abbrev pub show : Shape
+show = (with_options (with_rule (new_app (codes "show")) (place (codes "FILE")))).top
+
+abbrev pub convert : Shape
+convert = (with_options (with_rule (with_rule (new_app (codes "convert")) (place (codes "FILE"))) (needed_option (codes "to")))).top
+
+abbrev pub compare : Shape
+compare = (with_options (with_rule (with_rule (new_app (codes "compare")) (place (codes "LEFT"))) (place (codes "RIGHT")))).top
+
+-- a program that is no command itself
+abbrev pub bare : App
+bare = record { top = record (new_app (codes "ion_cmd")).top { no_binary_name = true; subcommand_required = true }; subs = [] }
+
+abbrev pub program : App
+program = with_subcommand (with_subcommand (with_subcommand (with_subcommand bare check) show) convert) compare

@@ -1,0 +1,71 @@
+//! What the program is asked for, and why words ask for nothing.
+ghost use Rattle.std.specs.Prelude.{◌≡◌, ◌↔◌};
+ghost use Rattle.clap.specs.Words.{kind_of};
+ghost use Rattle.clap.specs.declared.error.ErrorKind.TheVariants.{OutOfMemory};
+ghost use Rattle.ion_words.specs.declared.request.WordsError.TheVariants.{Memory};
+
+use clap::Error;
+use clap::error::ErrorKind;
+use ion_symtab::Limits;
+use std::alloc::AllocError;
+
+/// An encoding of Ion 1.0 that a document is converted to.
+#[derive(Clone, Copy, Debug, PartialEq, Eq)]
+pub enum Encoding {
+    /// The text encoding (Ion 1.0, "Ion Text Encoding").
+    Text,
+    /// The binary encoding (Ion 1.0, "Ion Binary Encoding").
+    Binary,
+}
+
+/// What is to be done, with the names of the documents; `-` names the standard input.
+#[derive(Clone, Copy, Debug, PartialEq, Eq)]
+pub enum Task<'a> {
+    /// Whether the document of this name is one.
+    Check(&'a str),
+    /// A line for each value of the document of this name.
+    Show(&'a str),
+    /// The document of this name, converted to that encoding.
+    Convert(&'a str, Encoding),
+    /// The documents of these names compared, the left one first.
+    Compare(&'a str, &'a str),
+}
+
+/// What the words ask for.
+#[derive(Clone, Copy, Debug, PartialEq, Eq)]
+pub struct Request<'a> {
+    /// What is to be done.
+    pub task: Task<'a>,
+    /// The name of the document that holds the shared symbol tables, if one was given.
+    pub catalog: Option<&'a str>,
+    /// Within which limits each document is read, that of the catalog too.
+    pub limits: Limits,
+}
+
+/// Why the words ask for nothing.
+#[derive(Clone, Copy, Debug, PartialEq, Eq)]
+pub enum WordsError {
+    /// They are no words of the program, or a call for help.
+    Usage,
+    /// A growth was refused.
+    Memory,
+}
+
+impl From<AllocError> for WordsError {
+    ghost from_gives = { λ _ e. e ≡ Memory };
+
+    fn from(_error: AllocError) -> WordsError {
+        WordsError::Memory
+    }
+}
+
+impl From<Error> for WordsError {
+    ghost from_gives = { λ error e. (e ≡ Memory) ↔ (kind_of error ≡ OutOfMemory) };
+
+    fn from(error: Error) -> WordsError {
+        match error.kind() {
+            ErrorKind::OutOfMemory => WordsError::Memory,
+            _ => WordsError::Usage,
+        }
+    }
+}
