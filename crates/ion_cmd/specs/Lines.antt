@@ -1,11 +1,13 @@
 -- The lines that the program writes, each with its line feed.
-use Rattle.std.specs.Prelude.{◌≡◌, ℕ, List, ◌++◌, codes, decimal, Option, Bool, true, false, ⊤}
-use Rattle.std.specs.Io.KnownBytes.{Appends}
-use Rattle.ion_symtab.specs.Took.{TookFront}
+use Rattle.std.specs.Prelude.{◌≡◌, ℕ, List, [], ◌∷◌, ◌++◌, codes, decimal, Bool, true, false, ⊤}
+use Rattle.ion_symtab.specs.Took.{Took, TookFront}
+use Rattle.ion_symtab.specs.declared.outlet.Outlet.{Ghosts as Outlet}
 use Rattle.ion_model.specs.declared.refusal.Refusal.{Refusal}
 use Rattle.ion_model.specs.Reasons.{reason_name}
 use Rattle.ion_symtab.specs.declared.fault.Fault.{Fault}
 use Rattle.ion_symtab.specs.declared.fault.Fault.TheVariants.{Memory, Read, Write, TooManyReads, TooLarge, Open}
+use Rattle.ion_model.specs.declared.path.Part.{Part}
+use Rattle.ion_docs.specs.Paths.{path_text}
 use Rattle.ion_docs.specs.declared.comparison.Side.TheVariants.{Left, Right}
 use Rattle.ion_cmd.specs.declared.lines.Whose.{Whose}
 use Rattle.ion_cmd.specs.declared.lines.Whose.TheVariants.{Only, One}
@@ -33,9 +35,14 @@ refusal_line whose refusal = codes "refused " ++ (whose_word whose ++ (decimal r
 abbrev pub equivalent_line : ℕ → List ℕ
 equivalent_line values = codes "equivalent " ++ decimal values ++ codes "\n"
 
--- of two documents that part at this value, counted from 1
-abbrev pub different_line : ℕ → List ℕ
-different_line index = codes "different " ++ decimal index ++ codes "\n"
+-- a path behind a space; nothing of an empty one
+abbrev pub path_behind : List Part → List ℕ
+path_behind [] = []
+path_behind (part ∷ path) = codes " " ++ path_text (part ∷ path)
+
+-- of two documents that part at this value, counted from 1, and within it at this path
+abbrev pub different_line : ℕ → List Part → List ℕ
+different_line index path = codes "different " ++ (decimal index ++ (path_behind path ++ codes "\n"))
 
 -- what a fault of a command says of the output: whether it has failed
 abbrev pub IsCause : Bool → Fault → Type 0
@@ -46,15 +53,17 @@ IsCause failed TooManyReads = ⊤
 IsCause failed TooLarge = ⊤
 IsCause failed Open = ⊤
 
--- between old and new a device took a front of this line, and the whole of it unless it has failed
-pub record Reports {S : Type 0} (took : S → Option (List ℕ)) (failed : S → Bool) (old new : S) (line : List ℕ) : Type 0 where
-  pub front : TookFront took old new line
-  pub whole : failed new ≡ false → Appends (took old) (took new) line
+module _ {T : Type 0} (W : Outlet T) where
+  -- between old and new a device took a front of this line, and unless it has failed it took the whole of it and passed it on
+  pub record Reports (old new : T) (line : List ℕ) : Type 0 where
+    pub front : TookFront W.took W.written old new line
+    pub whole : W.has_failed new ≡ false → Took W.took W.written old new line
+    pub passed_on : W.has_failed new ≡ false → W.passed new ≡ W.written new
 
--- the line of a refusal went to the errors
-abbrev pub ReportsRefusal : {S : Type 0} → (S → Option (List ℕ)) → (S → Bool) → S → S → Type 0
-ReportsRefusal took failed old new = (whose : Whose) × (refusal : Refusal) × Reports took failed old new (refusal_line whose refusal)
+  -- the line of a refusal went to the errors
+  abbrev pub ReportsRefusal : T → T → Type 0
+  ReportsRefusal old new = (whose : Whose) × (refusal : Refusal) × Reports old new (refusal_line whose refusal)
 
--- the line of a fault of a command went to the errors
-abbrev pub ReportsFault : {S : Type 0} → (S → Option (List ℕ)) → (S → Bool) → S → S → Bool → Type 0
-ReportsFault took failed old new out_failed = (fault : Fault) × Reports took failed old new (fault_line fault) × IsCause out_failed fault
+  -- the line of a fault of a command went to the errors
+  abbrev pub ReportsFault : T → T → Bool → Type 0
+  ReportsFault old new out_failed = (fault : Fault) × Reports old new (fault_line fault) × IsCause out_failed fault

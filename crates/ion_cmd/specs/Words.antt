@@ -7,21 +7,27 @@ use Rattle.ion_symtab.specs.declared.limits.Limits.{Limits}
 use Rattle.ion_symtab.specs.Limits.{AreLimits}
 use Rattle.ion_cmd.specs.declared.words.Task.{Task}
 use Rattle.ion_cmd.specs.declared.words.Task.TheVariants.{Check, Show, Convert, Compare}
-use Rattle.ion_docs.specs.declared.conversion.Target.TheVariants.{Binary}
+use Rattle.ion_docs.specs.declared.conversion.Target.{Target}
+use Rattle.ion_docs.specs.declared.conversion.Target.TheVariants.{Binary, Text}
+
+-- the word for an encoding
+abbrev pub target_word : Target → List ℕ
+target_word Binary = codes "binary"
+target_word Text = codes "text"
 
 -- the task is that of the command of this name, over the documents that were found for it; the standard input is named once at most
 abbrev pub IsTaskOf : List ℕ → Found → Task → Type 0
 IsTaskOf command found (Check file) = (command ≡ codes "check") × (first_value found (codes "FILE") ≡ Some file.now)
 IsTaskOf command found (Show file) = (command ≡ codes "show") × (first_value found (codes "FILE") ≡ Some file.now)
-IsTaskOf command found (Convert file Binary) = (command ≡ codes "convert") × (first_value found (codes "FILE") ≡ Some file.now) × (first_value found (codes "to") ≡ Some (codes "binary"))
+IsTaskOf command found (Convert file target) = (command ≡ codes "convert") × (first_value found (codes "FILE") ≡ Some file.now) × (first_value found (codes "to") ≡ Some (target_word target))
 IsTaskOf command found (Compare left right) = (command ≡ codes "compare") × (first_value found (codes "LEFT") ≡ Some left.now)
     × (first_value found (codes "RIGHT") ≡ Some right.now) × (left.now ≡ codes "-" → right.now ≡ codes "-" → ⊥)
 
--- there is no command of this name, or a document isn't named, or the target isn't, or both documents are the standard input
+-- there is no command of this name, or a document isn't named, or no encoding is, or both documents are the standard input
 pub record HasNoTask (command : List ℕ) (found : Found) : Type 0 where
   pub check : command ≡ codes "check" → first_value found (codes "FILE") ≡ None
   pub show : command ≡ codes "show" → first_value found (codes "FILE") ≡ None
-  pub convert : command ≡ codes "convert" → (first_value found (codes "FILE") ≡ None) ⊎ (first_value found (codes "to") ≢ Some (codes "binary"))
+  pub convert : command ≡ codes "convert" → (first_value found (codes "FILE") ≡ None) ⊎ ((target : Target) → first_value found (codes "to") ≢ Some (target_word target))
   pub compare : command ≡ codes "compare" → (first_value found (codes "LEFT") ≡ None) ⊎ (first_value found (codes "RIGHT") ≡ None)
       ⊎ (first_value found (codes "LEFT") ≡ Some (codes "-")) × (first_value found (codes "RIGHT") ≡ Some (codes "-"))
 

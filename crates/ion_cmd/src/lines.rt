@@ -2,12 +2,12 @@
 //!
 //! Lines that have to come even where memory is short are texts that stand ready.
 
-ghost use Rattle.std.specs.Prelude.{◌≡◌, IfOk, string_bytes};
+ghost use Rattle.std.specs.Prelude.{◌≡◌, IfOk, IfErr, string_bytes};
 ghost use Rattle.ion_cmd.specs.Lines.{fault_line, whose_word, refusal_line, equivalent_line, different_line};
 ghost use Rattle.ion_docs.specs.Listing.{accepted_line};
 
-use ion_docs::Side;
-use ion_model::Refusal;
+use ion_docs::{Side, path_text};
+use ion_model::{Path, Refusal};
 use ion_symtab::Fault;
 use std::alloc::{AllocError, Global};
 
@@ -76,9 +76,15 @@ pub fn equivalent_line(alloc: Global, values: u64) -> Result<String, AllocError>
     format!(in alloc; "equivalent {values}\n")
 }
 
-/// The line of two documents that part at this value, counted from 1.
-pub fn different_line(alloc: Global, index: u64) -> Result<String, AllocError>
-    ensures { IfOk result (λ line. string_bytes line ≡ different_line index) }
+/// The line of two documents that part at this value, counted from 1, and within it at this path. The
+/// only fault is `Memory`.
+pub fn different_line(alloc: Global, index: u64, path: &Path) -> Result<String, Fault>
+    ensures line { IfOk result (λ line. string_bytes line ≡ different_line index path.now) }
+    ensures memory { IfErr result (λ fault. fault ≡ Fault.Memory) }
 {
-    format!(in alloc; "different {index}\n")
+    if path.parts().is_empty() {
+        return Ok(format!(in alloc; "different {index}\n")?);
+    }
+    let place = path_text(alloc, path).map_err(|_| Fault::Memory)?;
+    Ok(format!(in alloc; "different {index} {place}\n")?)
 }

@@ -1,16 +1,17 @@
 //! What the program does.
-ghost use Rattle.std.specs.Prelude.{◌≡◌, ◌≢◌, ◌≤◌, ◌⊎◌, ℕ, true, IfOk, OnOk, IfErr, Result};
-ghost use Rattle.std.specs.Io.KnownBytes.{Appends, Keeps};
+ghost use Rattle.std.specs.Prelude.{◌≡◌, ◌≢◌, ◌≤◌, ◌⊎◌, ℕ, true, [], IfOk, OnOk, IfErr, Result};
 ghost use Rattle.ion_model.specs.declared.refusal.Refusal.{Refusal};
 ghost use Rattle.ion_symtab.specs.Cause.{IsReadCause};
+ghost use Rattle.ion_symtab.specs.Took.{Took};
 ghost use Rattle.ion_docs.specs.declared.comparison.Verdict.{Verdict};
-ghost use Rattle.ion_docs.specs.Documents.{Denotes, Pieces};
+ghost use Rattle.ion_docs.specs.Encodings.{encoding_of};
+ghost use Rattle.ion_docs.specs.Formats.{documents};
 ghost use Rattle.ion_docs.specs.Checked.{IsChecked};
 ghost use Rattle.ion_docs.specs.Listing.{IsShown, IsWriteCause};
 ghost use Rattle.ion_docs.specs.Compared.{IsCompared};
 ghost use Rattle.ion_docs.specs.Converted.{IsConverted};
 ghost use Rattle.ion_cmd.specs.Lines.{fault_line, refusal_line, IsCause, Reports, ReportsRefusal, ReportsFault};
-ghost use Rattle.ion_cmd.specs.Endings.{EndsChecked, EndsShown, EndsCompared, TellsAccepted, TellsDifferent, TellsEnding};
+ghost use Rattle.ion_cmd.specs.Endings.{EndsChecked, EndsShown, EndsCompared, TellsAccepted, TellsDifferent, TellsEnding, PassesOn};
 
 use crate::lines::{
     USAGE, Whose, accepted_line, different_line, equivalent_line, fault_line, refusal_line,
@@ -28,9 +29,13 @@ use std::convert::AsStr;
 pub enum Status {
     /// The document was accepted, or the two are equivalent.
     Accepted = 0,
+    /// Both are documents, and they aren't equivalent.
     Different = 1,
+    /// A document was refused.
     Refused = 2,
+    /// The words ask for nothing that the program does.
     WrongWords = 3,
+    /// A fault came before there was an answer.
     Fault = 4,
 }
 
@@ -39,7 +44,9 @@ pub enum Status {
 enum Ending {
     /// The document was accepted, or the two are equivalent.
     Accepted,
+    /// Both are documents, and they aren't equivalent.
     Different,
+    /// This document was refused so.
     Refused(Whose, Refusal),
 }
 
@@ -57,12 +64,14 @@ pub fn run<S: AsStr, N: Sources, O: Outlet, E: Outlet>(
     err: &mut E,
 ) -> u8
     ensures status { result ≤ 4 }
-    ensures accepted { result ≡ 0 → TellsAccepted (O.took out.old) (O.took out.new) }
-    ensures different { result ≡ 1 → TellsDifferent (O.took out.old) (O.took out.new) }
-    ensures refused { result ≡ 2 → ReportsRefusal E.took E.has_failed err.old err.new }
-    ensures wrong_words { result ≡ 3 → Keeps (O.took out.old) (O.took out.new) × Reports E.took E.has_failed err.old err.new USAGE.now }
-    ensures fault { result ≡ 4 → ReportsFault E.took E.has_failed err.old err.new (O.has_failed out.new) }
-    ensures quiet { result ≤ 1 → Keeps (E.took err.old) (E.took err.new) }
+    ensures accepted { result ≡ 0 → TellsAccepted O.Outlet out.old out.new }
+    ensures different { result ≡ 1 → TellsDifferent O.Outlet out.old out.new }
+    ensures refused { result ≡ 2 → ReportsRefusal E.Outlet err.old err.new }
+    ensures wrong_words { result ≡ 3 → Took O.took O.written out.old out.new []
+        × Reports E.Outlet err.old err.new USAGE.now }
+    ensures fault { result ≡ 4 → ReportsFault E.Outlet err.old err.new (O.has_failed out.new) }
+    ensures quiet { result ≤ 1 → Took E.took E.written err.old err.new [] }
+    ensures passed_on { result ≤ 3 → PassesOn O.Outlet out.old out.new }
 {
     let status = match parse(alloc, words) {
         Ok(request) => answer(alloc, &request, sources, out, err),
@@ -73,8 +82,8 @@ pub fn run<S: AsStr, N: Sources, O: Outlet, E: Outlet>(
 
 /// Tells on `err` why the words ask for nothing, and answers the status.
 pub fn refuse_words<E: Outlet>(error: WordsError, err: &mut E) -> Status
-    ensures usage { error ≡ WordsError.Usage → (result ≡ Status.WrongWords) × Reports E.took E.has_failed err.old err.new USAGE.now }
-    ensures memory { error ≡ WordsError.Memory → (result ≡ Status.Fault) × Reports E.took E.has_failed err.old err.new (fault_line Fault.Memory) }
+    ensures usage { error ≡ WordsError.Usage → (result ≡ Status.WrongWords) × Reports E.Outlet err.old err.new USAGE.now }
+    ensures memory { error ≡ WordsError.Memory → (result ≡ Status.Fault) × Reports E.Outlet err.old err.new (fault_line Fault.Memory) }
 {
     match error {
         WordsError::Usage => {
@@ -87,7 +96,7 @@ pub fn refuse_words<E: Outlet>(error: WordsError, err: &mut E) -> Status
 
 fn tell_fault<E: Outlet>(fault: Fault, err: &mut E) -> Status
     ensures status { result ≡ Status.Fault }
-    ensures told { Reports E.took E.has_failed err.old err.new (fault_line fault) }
+    ensures told { Reports E.Outlet err.old err.new (fault_line fault) }
 {
     report(err, fault_line(fault));
     Status::Fault
@@ -95,8 +104,8 @@ fn tell_fault<E: Outlet>(fault: Fault, err: &mut E) -> Status
 
 fn tell_refusal<E: Outlet>(alloc: Global, whose: Whose, refusal: Refusal, err: &mut E) -> Status
     ensures status { result ≡ Status.Refused ⊎ result ≡ Status.Fault }
-    ensures refused { result ≡ Status.Refused → Reports E.took E.has_failed err.old err.new (refusal_line whose refusal) }
-    ensures fault { result ≡ Status.Fault → Reports E.took E.has_failed err.old err.new (fault_line Fault.Memory) }
+    ensures refused { result ≡ Status.Refused → Reports E.Outlet err.old err.new (refusal_line whose refusal) }
+    ensures fault { result ≡ Status.Fault → Reports E.Outlet err.old err.new (fault_line Fault.Memory) }
 {
     match refusal_line(alloc, whose, refusal) {
         Ok(line) => {
@@ -107,11 +116,14 @@ fn tell_refusal<E: Outlet>(alloc: Global, whose: Whose, refusal: Refusal, err: &
     }
 }
 
-/// Writes the line as far as the device takes it: a write that fails changes no status.
+/// Writes the line as far as the device takes it, and passes it on: a write or a flush that fails
+/// changes no status.
 fn report<E: Outlet>(err: &mut E, line: &str)
-    ensures { Reports E.took E.has_failed err.old err.new line.now }
+    ensures { Reports E.Outlet err.old err.new line.now }
 {
-    let _ = write_whole(err, line.as_bytes());
+    if write_whole(err, line.as_bytes()).is_ok() {
+        let _ = flushed(err);
+    }
 }
 
 fn answer<N: Sources, O: Outlet, E: Outlet>(
@@ -122,11 +134,13 @@ fn answer<N: Sources, O: Outlet, E: Outlet>(
     err: &mut E,
 ) -> Status
     ensures words { result ≢ Status.WrongWords }
-    ensures accepted { result ≡ Status.Accepted → TellsAccepted (O.took out.old) (O.took out.new) }
-    ensures different { result ≡ Status.Different → TellsDifferent (O.took out.old) (O.took out.new) }
-    ensures refused { result ≡ Status.Refused → ReportsRefusal E.took E.has_failed err.old err.new }
-    ensures fault { result ≡ Status.Fault → ReportsFault E.took E.has_failed err.old err.new (O.has_failed out.new) }
-    ensures quiet { result ≡ Status.Accepted ⊎ result ≡ Status.Different → Keeps (E.took err.old) (E.took err.new) }
+    ensures accepted { result ≡ Status.Accepted → TellsAccepted O.Outlet out.old out.new }
+    ensures different { result ≡ Status.Different → TellsDifferent O.Outlet out.old out.new }
+    ensures refused { result ≡ Status.Refused → ReportsRefusal E.Outlet err.old err.new }
+    ensures fault { result ≡ Status.Fault → ReportsFault E.Outlet err.old err.new (O.has_failed out.new) }
+    ensures quiet { result ≡ Status.Accepted ⊎ result ≡ Status.Different →
+        Took E.took E.written err.old err.new [] }
+    ensures passed_on { result ≢ Status.Fault → PassesOn O.Outlet out.old out.new }
 {
     match carry_out(alloc, request, sources, out) {
         Ok(Ending::Accepted) => Status::Accepted,
@@ -143,7 +157,8 @@ fn carry_out<N: Sources, O: Outlet>(
     sources: &mut N,
     out: &mut O,
 ) -> Result<Ending, Fault>
-    ensures ending { IfOk result (TellsEnding (O.took out.old) (O.took out.new)) }
+    ensures ending { IfOk result (TellsEnding O.Outlet out.old out.new) }
+    ensures passed_on { OnOk result (PassesOn O.Outlet out.old out.new) }
     ensures cause { IfErr result (IsCause (O.has_failed out.new)) }
 {
     let catalog = Catalog::new(alloc);
@@ -158,7 +173,8 @@ fn ending_of<N: Sources, O: Outlet>(
     out: &mut O,
     catalog: &Catalog,
 ) -> Result<Ending, Fault>
-    ensures ending { IfOk result (TellsEnding (O.took out.old) (O.took out.new)) }
+    ensures ending { IfOk result (TellsEnding O.Outlet out.old out.new) }
+    ensures passed_on { OnOk result (PassesOn O.Outlet out.old out.new) }
     ensures cause { IfErr result (IsCause (O.has_failed out.new)) }
 {
     let limits = request.limits;
@@ -184,10 +200,12 @@ fn checked<R: Inlet, O: Outlet>(
     catalog: &Catalog,
     limits: Limits,
 ) -> Result<Ending, Fault>
-    ensures ending { IfOk result (λ ending. (answer : Result ℕ Refusal) × IsChecked R.tells (Denotes catalog.now limits) (Pieces catalog.now limits) reader.old answer
-        × EndsChecked (O.took out.old) (O.took out.new) answer ending) }
-    ensures cause { IfErr result (λ fault. IsReadCause R.calls_made R.has_failed R.has_ended limits.reads reader.old reader.new fault
-        ⊎ IsWriteCause O.has_failed out.new fault) }
+    ensures ending { IfOk result (λ ending. (answer : Result ℕ Refusal)
+        × IsChecked R.Inlet (documents catalog.now limits) reader.old reader.new answer
+        × EndsChecked O.Outlet out.old out.new answer ending) }
+    ensures passed_on { OnOk result (PassesOn O.Outlet out.old out.new) }
+    ensures cause { IfErr result (λ fault. IsReadCause R.Inlet limits.reads reader.old reader.new fault
+        ⊎ IsWriteCause O.Outlet out.new fault) }
 {
     match check(alloc, reader, catalog, limits)? {
         Ok(values) => {
@@ -206,9 +224,12 @@ fn shown<R: Inlet, O: Outlet>(
     limits: Limits,
 ) -> Result<Ending, Fault>
     ensures ending { IfOk result (λ ending. (answer : Result ℕ Refusal)
-        × IsShown R.tells (Denotes catalog.now limits) (Pieces catalog.now limits) reader.old (O.took out.old) (O.took out.new) answer × EndsShown answer ending) }
-    ensures cause { IfErr result (λ fault. IsReadCause R.calls_made R.has_failed R.has_ended limits.reads reader.old reader.new fault
-        ⊎ IsWriteCause O.has_failed out.new fault) }
+        × IsShown R.Inlet O.Outlet (documents catalog.now limits)
+        reader.old reader.new out.old out.new answer
+        × EndsShown answer ending) }
+    ensures passed_on { OnOk result (PassesOn O.Outlet out.old out.new) }
+    ensures cause { IfErr result (λ fault. IsReadCause R.Inlet limits.reads reader.old reader.new fault
+        ⊎ IsWriteCause O.Outlet out.new fault) }
 {
     match show(alloc, reader, out, catalog, limits)? {
         Ok(_) => Ok(Ending::Accepted),
@@ -225,7 +246,10 @@ fn converted<R: Inlet, O: Outlet>(
     limits: Limits,
 ) -> Result<Ending, Fault>
     ensures ending { IfOk result (λ ending. (answer : Result ℕ Refusal)
-        × IsConverted R.tells (Denotes catalog.now limits) (Pieces catalog.now limits) reader.old (O.took out.old) (O.took out.new) answer × EndsShown answer ending) }
+        × IsConverted R.Inlet O.Outlet (encoding_of target) (documents catalog.now limits)
+        reader.old reader.new out.old out.new answer
+        × EndsShown answer ending) }
+    ensures passed_on { OnOk result (PassesOn O.Outlet out.old out.new) }
     ensures cause { IfErr result (IsCause (O.has_failed out.new)) }
 {
     match convert(alloc, reader, out, target, catalog, limits)? {
@@ -243,19 +267,21 @@ fn compared<L: Inlet, R: Inlet, O: Outlet>(
     limits: Limits,
 ) -> Result<Ending, Fault>
     ensures ending { IfOk result (λ ending. (verdict : Verdict)
-        × IsCompared (Denotes catalog.now limits) (Pieces catalog.now limits) (Denotes catalog.now limits) (Pieces catalog.now limits) L.tells R.tells left.old right.old verdict
-        × EndsCompared (O.took out.old) (O.took out.new) verdict ending) }
-    ensures cause { IfErr result (λ fault. IsReadCause L.calls_made L.has_failed L.has_ended limits.reads left.old left.new fault
-        ⊎ IsReadCause R.calls_made R.has_failed R.has_ended limits.reads right.old right.new fault
-        ⊎ IsWriteCause O.has_failed out.new fault) }
+        × IsCompared L.Inlet R.Inlet (documents catalog.now limits) (documents catalog.now limits)
+        left.old left.new right.old right.new verdict
+        × EndsCompared O.Outlet out.old out.new verdict ending) }
+    ensures passed_on { OnOk result (PassesOn O.Outlet out.old out.new) }
+    ensures cause { IfErr result (λ fault. IsReadCause L.Inlet limits.reads left.old left.new fault
+        ⊎ IsReadCause R.Inlet limits.reads right.old right.new fault
+        ⊎ IsWriteCause O.Outlet out.new fault) }
 {
     match compare(alloc, left, right, catalog, limits)? {
         Verdict::Equivalent { values } => {
             tell(out, equivalent_line(alloc, values)?.as_str())?;
             Ok(Ending::Accepted)
         }
-        Verdict::Different { index } => {
-            tell(out, different_line(alloc, index)?.as_str())?;
+        Verdict::Different { index, path } => {
+            tell(out, different_line(alloc, index, &path)?.as_str())?;
             Ok(Ending::Different)
         }
         Verdict::Refused { side, refusal } => Ok(Ending::Refused(Whose::One(side), refusal)),
@@ -264,7 +290,8 @@ fn compared<L: Inlet, R: Inlet, O: Outlet>(
 
 /// Writes the line, and passes it on at once.
 fn tell<O: Outlet>(out: &mut O, line: &str) -> Result<(), Fault>
-    ensures told { OnOk result (Appends (O.took out.old) (O.took out.new) line.now) }
+    ensures told { OnOk result (Took O.took O.written out.old out.new line.now) }
+    ensures passed_on { OnOk result (O.passed out.new ≡ O.written out.new) }
     ensures cause { IfErr result (λ fault. (fault ≡ Fault.Write) × (O.has_failed out.new ≡ true)) }
 {
     write_whole(out, line.as_bytes())?;

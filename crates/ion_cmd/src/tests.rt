@@ -30,7 +30,7 @@ static FILES: [(&str, &[u8]); 9] = [
     ("nested", b"\xE0\x01\x00\xEA\xB3\xB2\xB1\x20"),
 ];
 
-static ROWS: [Row; 20] = [
+static ROWS: [Row; 21] = [
     Row {
         words: &[],
         out: "accepted 0\n",
@@ -58,6 +58,12 @@ static ROWS: [Row; 20] = [
     Row {
         words: &["show", "null"],
         out: "1 int depth 0 nodes 1\n2 float depth 0 nodes 1\naccepted 2\n",
+        err: "",
+        status: 0,
+    },
+    Row {
+        words: &["convert", "null", "--to", "text"],
+        out: "5\nnull.float\n",
         err: "",
         status: 0,
     },
@@ -157,7 +163,7 @@ static ROWS: [Row; 20] = [
 const USAGE: &str =
     "usage: ion_cmd check|show|convert|compare FILE.. [--to text|binary] [--catalog FILE] [--depth N] [--item N]\n";
 
-static WRONG_WORDS: [&[&str]; 25] = [
+static WRONG_WORDS: [&[&str]; 26] = [
     &[""],
     &["--help"],
     &["-h"],
@@ -180,7 +186,8 @@ static WRONG_WORDS: [&[&str]; 25] = [
     &["check", "list", "--item", "1073741825"],
     &["check", "list", "--to", "text"],
     &["convert", "list"],
-    &["convert", "list", "--to", "text"],
+    &["convert", "list", "--to", "Text"],
+    &["convert", "list", "--to", "text", "--to", "text"],
     &["convert", "--to", "binary"],
     &["list"],
 ];
@@ -208,20 +215,37 @@ fn rows(rt: HostRuntime) -> Result<(), Fail> {
     Ok(())
 }
 
-/// A document that is converted, the octets that go out, the line of the errors and the status.
-type Converted = (&'static str, &'static [u8], &'static str, u8);
+/// A document, what it is converted to, the octets that go out, the line of the errors and the
+/// status.
+type Converted = (&'static str, &'static str, &'static [u8], &'static str, u8);
 
-static CONVERTED: [Converted; 4] = [
-    ("-", b"\xE0\x01\x00\xEA", "", 0),
-    ("spelled", b"\xE0\x01\x00\xEA\xB3\x21\x05\x11", "", 0),
-    ("bad", b"\xE0\x01\x00\xEA", "refused 5 Malformed\n", 2),
-    ("absent", b"", "fault Open\n", 4),
+static CONVERTED: [Converted; 8] = [
+    ("-", "binary", b"\xE0\x01\x00\xEA", "", 0),
+    ("-", "text", b"", "", 0),
+    (
+        "spelled",
+        "binary",
+        b"\xE0\x01\x00\xEA\xB3\x21\x05\x11",
+        "",
+        0,
+    ),
+    ("spelled", "text", b"[5,true]\n", "", 0),
+    (
+        "bad",
+        "binary",
+        b"\xE0\x01\x00\xEA",
+        "refused 5 Malformed\n",
+        2,
+    ),
+    ("bad", "text", b"", "refused 5 Malformed\n", 2),
+    ("absent", "binary", b"", "fault Open\n", 4),
+    ("absent", "text", b"", "fault Open\n", 4),
 ];
 
 #[test]
 fn converts(rt: HostRuntime) -> Result<(), Fail> {
     let alloc = rt.alloc();
-    for row in &CONVERTED {
+    for (name, target, wanted, line, ending) in &CONVERTED {
         let mut shelf = Shelf {
             files: FILES.as_slice(),
         };
@@ -229,14 +253,14 @@ fn converts(rt: HostRuntime) -> Result<(), Fail> {
         let mut err = Vec::new(alloc);
         let status = run(
             alloc,
-            &["convert", row.0, "--to", "binary"],
+            &["convert", name, "--to", target],
             &mut shelf,
             &mut ToWrite::new(&mut out),
             &mut ToWrite::new(&mut err),
         );
-        assert_eq!(rt; status, row.3, "{}", row.0);
-        assert_eq!(rt; out.as_slice(), row.1, "{}", row.0);
-        assert_eq!(rt; err.as_slice(), row.2.as_bytes(), "{}", row.0);
+        assert_eq!(rt; status, *ending, "{name} to {target}");
+        assert_eq!(rt; out.as_slice(), *wanted, "{name} to {target}");
+        assert_eq!(rt; err.as_slice(), line.as_bytes(), "{name} to {target}");
     }
     Ok(())
 }
@@ -301,7 +325,7 @@ fn each_read_fails(rt: HostRuntime) -> Result<(), Fail> {
 #[test]
 fn each_write_fails(rt: HostRuntime) -> Result<(), Fail> {
     let alloc = rt.alloc();
-    for row in &ROWS[..8] {
+    for row in &ROWS[..9] {
         let calls = if row.out.is_empty() {
             0
         } else {

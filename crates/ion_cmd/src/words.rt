@@ -18,16 +18,22 @@ use std::convert::AsStr;
 /// What is to be done, with the names of the documents.
 #[derive(Clone, Copy, Debug, PartialEq, Eq)]
 pub enum Task<'a> {
+    /// Whether the document of this name is one.
     Check(&'a str),
+    /// A line for each value of the document of this name.
     Show(&'a str),
+    /// The document of this name, converted to that encoding.
     Convert(&'a str, Target),
+    /// The documents of these names compared, the left one first.
     Compare(&'a str, &'a str),
 }
 
 /// What the words ask for.
 #[derive(Clone, Copy, Debug, PartialEq, Eq)]
 pub struct Request<'a> {
+    /// What is to be done.
     pub task: Task<'a>,
+    /// Within which limits each document is read.
     pub limits: Limits,
 }
 
@@ -94,6 +100,7 @@ fn task_of<'a>(name: &str, matches: &ArgMatches<'a>) -> Result<Task<'a>, WordsEr
             let file = given(matches, "FILE")?;
             match given(matches, "to")? {
                 "binary" => Ok(Task::Convert(file, Target::Binary)),
+                "text" => Ok(Task::Convert(file, Target::Text)),
                 _ => Err(WordsError::Usage),
             }
         }

@@ -20,14 +20,14 @@ use Rattle.ion_docs.specs.DocLaws.{binary-append, chosen_binary}
 inside : (d : DocReader) (f : Format) (u : List ℕ) (s : List (Value × ℕ)) → d.format ≡ f → DocStands d u s → FormatStands d f u s
 inside d f u s is h = let P : Format → Type 0 = λ f. FormatStands d f u s in subst P is h
 
-pub forward_far : (d : DocReader) (old new : BinaryReader) (piece : List ℕ) (result : Result Step Refusal) → d.format ≡ Binary old →
+pub forward_stands : (d : DocReader) (old new : BinaryReader) (piece : List ℕ) (result : Result Step Refusal) → d.format ≡ Binary old →
     IfOk result (λ step. (u : List ℕ) (s : List (Value × ℕ)) → Stands old u s → Stands new (u ++ take step.used piece) (s ++ given_at step.value (length u + step.used))) →
     new.limits ≡ old.limits → new.catalog.now ≡ old.catalog.now →
     IfOk result (λ step. (u : List ℕ) (s : List (Value × ℕ)) → DocStands d u s → FormatStands d (Binary new) (u ++ take step.used piece) (s ++ given_at step.value (length u + step.used)))
-forward_far d old new piece (Ok step) is far limits catalog = λ u s stands.
+forward_stands d old new piece (Ok step) is onward limits catalog = λ u s stands.
     let h = inside d (Binary old) u s is stands in
-    (far u s h.0, binary-append u (take step.used piece) h.1, limits ∙ h.2, catalog ∙ h.3)
-forward_far d old new piece (Err refusal) is far limits catalog = tt
+    (onward u s h.0, binary-append u (take step.used piece) h.1, limits ∙ h.2, catalog ∙ h.3)
+forward_stands d old new piece (Err refusal) is onward limits catalog = tt
 
 same_trace : (g h : Catalog) (l k : Limits) → g ≡ h → l ≡ k → trace g l ≡ trace h k
 same_trace g h l k e f = cc
@@ -55,17 +55,17 @@ binary_front (first ∷ rest) zero h some = absurd (omega arith)
 binary_front (first ∷ rest) (suc used) h some = h
 
 -- the first step of all: nothing was read before it
-pub first_far : (d : DocReader) (old new : BinaryReader) (piece : List ℕ) (result : Result Step Refusal) → d.format ≡ Unbegun → is_binary piece ≡ true → Stands old [] [] →
+pub first_stands : (d : DocReader) (old new : BinaryReader) (piece : List ℕ) (result : Result Step Refusal) → d.format ≡ Unbegun → is_binary piece ≡ true → Stands old [] [] →
     IfOk result (λ step. 0 < step.used) →
     IfOk result (λ step. (u : List ℕ) (s : List (Value × ℕ)) → Stands old u s → Stands new (u ++ take step.used piece) (s ++ given_at step.value (length u + step.used))) →
     new.limits ≡ d.limits → new.catalog.now ≡ d.catalog.now →
     IfOk result (λ step. (u : List ℕ) (s : List (Value × ℕ)) → DocStands d u s → FormatStands d (Binary new) (u ++ take step.used piece) (s ++ given_at step.value (length u + step.used)))
-first_far d old new piece (Ok step) is binary begun some far limits catalog = λ u s stands.
+first_stands d old new piece (Ok step) is binary begun some onward limits catalog = λ u s stands.
     let h = inside d Unbegun u s is stands in
     let P : List ℕ → Type 0 = λ u. FormatStands d (Binary new) (u ++ take step.used piece) (s ++ given_at step.value (length u + step.used)) in
     let Q : List (Value × ℕ) → Type 0 = λ s. FormatStands d (Binary new) (take step.used piece) (s ++ given_at step.value (0 + step.used)) in
-    subst P (sym h.0) (subst Q (sym h.1) (far [] [] begun, binary_front piece step.used binary some, limits, catalog))
-first_far d old new piece (Err refusal) is binary begun some far limits catalog = tt
+    subst P (sym h.0) (subst Q (sym h.1) (onward [] [] begun, binary_front piece step.used binary some, limits, catalog))
+first_stands d old new piece (Err refusal) is binary begun some onward limits catalog = tt
 
 pub first_answers : (d : DocReader) (old : BinaryReader) (piece : List ℕ) (result : Result Step Refusal) → d.format ≡ Unbegun → is_binary piece ≡ true → Stands old [] [] →
     ((u : List ℕ) (s : List (Value × ℕ)) → Stands old u s → Answers (trace old.catalog.now old.limits) u s piece result) →

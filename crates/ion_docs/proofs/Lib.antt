@@ -6,3 +6,5 @@ pub mod Chosen
 pub mod Fronts
 pub mod Verdicts
 pub mod Conversions
+pub mod Loads
+pub mod Described

@@ -1,9 +1,11 @@
 -- Pieces of octets that are used from the front.
-use Rattle.std.proofs.Common.{◌≡◌, ℕ, ◌+◌, ◌-◌, ◌≤◌, List, [], ◌++◌, take, drop, refl, ap, sym, ◌∙◌, arith, Option, Some, None, option_to_list, append_assoc}
-use Rattle.std.proofs.lemmas.List.{take-append-drop, map-append, drop-take, drop-drop}
+use Rattle.std.proofs.Common.{◌≡◌, ℕ, ◌+◌, ◌-◌, ◌≤◌, List, [], ◌++◌, take, drop, ap, sym, subst, ◌∙◌, arith, Option, Some, None, append_assoc}
+use Rattle.std.proofs.lemmas.List.{take-append-drop, drop-take, drop-drop}
 use Rattle.ion_model.specs.declared.value.Value.{Value}
-use Rattle.ion_symtab.specs.Trace.{plain, given_at}
-use Rattle.ion_docs.specs.Reading.{between, Begins, Went}
+use Rattle.ion_symtab.specs.Trace.{given_at}
+use Rattle.ion_symtab.specs.declared.items.Items.{Ghosts as Items}
+use Rattle.ion_docs.specs.Reading.{between, left_of, Begins, Went}
+use Rattle.ion_docs.specs.declared.source.Source.{Source}
 
 pub between_drop : (piece : List ℕ) (at end used : ℕ) → used ≤ end - at → drop used (between piece at end) ≡ between piece (at + used) end
 between_drop piece at end used h =
@@ -16,18 +18,12 @@ between_cut piece at end used h = ap (λ x. take used (between piece at end) ++ 
 pub between_nil : (piece : List ℕ) (at end : ℕ) → end ≤ at → between piece at end ≡ []
 between_nil piece at end h = let e : end - at ≡ 0 = omega arith in ap (λ n. take n (drop at piece)) e
 
-plain_at : (value : Option Value) (to : ℕ) → plain (given_at value to) ≡ option_to_list value
-plain_at None to = refl
-plain_at (Some v) to = refl
-
-pub went : {X : Type 0} (stands : X → List ℕ → List (Value × ℕ) → Type 0) (items : X) (u : List ℕ) (given : List (Value × ℕ)) (piece : List ℕ) (at end used to : ℕ) (value : Option Value) →
-    used ≤ end - at → stands items (u ++ take used (between piece at end)) (given ++ given_at value to) → Went stands u given (between piece at end) (between piece (at + used) end) value items
-went stands items u given piece at end used to value fits h = record {
+pub went : {X : Type 0} (I : Items X) (u : List ℕ) (given : List (Value × ℕ)) (piece : List ℕ) (at end used total : ℕ) (after : Source X) (value : Option Value) →
+    used ≤ end - at → left_of after ≡ between piece (at + used) end → total ≡ after.used → I.stands after.items (u ++ take used (between piece at end)) (given ++ given_at value total) → Went I u given (between piece at end) after value
+went I u given piece at end used total after value fits rest same h = record {
   to = u ++ take used (between piece at end);
-  all = given ++ given_at value to;
-  stood = h;
-  octets = append_assoc u (take used (between piece at end)) (between piece (at + used) end) ∙ ap (λ x. u ++ x) (between_cut piece at end used fits);
-  values = map-append (λ (x : Value × ℕ). x.0) given (given_at value to) ∙ ap (λ x. plain given ++ x) (plain_at value to);
+  stood = subst (λ (n : ℕ). I.stands after.items (u ++ take used (between piece at end)) (given ++ given_at value n)) same h;
+  octets = ap (λ x. (u ++ take used (between piece at end)) ++ x) rest ∙ (append_assoc u (take used (between piece at end)) (between piece (at + used) end) ∙ ap (λ x. u ++ x) (between_cut piece at end used fits));
 }
 
 pub begins_drop : (awaits : Option ℕ) (piece : List ℕ) (at end used : ℕ) → used ≤ end - at → Begins awaits (drop used (between piece at end)) → Begins awaits (between piece (at + used) end)

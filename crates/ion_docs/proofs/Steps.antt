@@ -1,16 +1,20 @@
 -- How far a document has been read, step by step.
-use Rattle.std.proofs.Common.{◌≡◌, ℕ, ◌+◌, ◌^◌, ◌≤◌, List, [], ◌++◌, length, refl, ap, sym, subst, ◌∙◌, arith, Bool, Option, Some, None, option_to_list, append-nil, length-append, Result, Ok, Err, IfOk, OnErr}
+use Rattle.std.proofs.Common.{◌≡◌, ℕ, ◌+◌, ◌^◌, ◌≤◌, List, [], ◌∷◌, ◌++◌, length, refl, ap, sym, subst, ◌∙◌, arith, Bool, true, false, Option, Some, None, option_map, option_to_list, append-nil, length-append, Result, Ok, Err, IfOk, OnErr}
+use Rattle.std.proofs.lemmas.List.{map-append}
 use Rattle.ion_model.specs.declared.value.Value.{Value}
 use Rattle.ion_model.specs.declared.refusal.Refusal.{Refusal}
 use Rattle.ion_symtab.specs.declared.catalog.Catalog.{Catalog}
 use Rattle.ion_symtab.specs.declared.limits.Limits.{Limits}
-use Rattle.ion_symtab.specs.Trace.{plain}
-use Rattle.ion_symtab.specs.Told.{Told}
-use Rattle.ion_symtab.specs.ToldLaws.{Told-nil, Told-trans, Told-end}
+use Rattle.ion_symtab.specs.declared.inlet.Inlet.{Ghosts as Inlet}
+use Rattle.ion_symtab.specs.declared.items.Items.{Ghosts as Items}
+use Rattle.ion_symtab.specs.Trace.{plain, given_at}
+use Rattle.ion_symtab.specs.Heard.{Heard}
+use Rattle.ion_symtab.specs.HeardLaws.{Heard-nil, Heard-trans, Heard-end}
 use Rattle.ion_symtab.specs.CauseLaws.{WereMade-nil}
-use Rattle.ion_docs.specs.Reading.{left_of, Begins, IsReady, IsWithin, Went, Reads}
-use Rattle.ion_docs.specs.Outcomes.{ToldDocument, IsRefused, ToldRefused}
-use Rattle.ion_docs.specs.Place.{MatchClosed, Stood}
+use Rattle.ion_docs.specs.Formats.{format_of}
+use Rattle.ion_docs.specs.Reading.{left_of, Begins, IsReady, IsWithin, Went, GaveEach, Reads, ReadsEach}
+use Rattle.ion_docs.specs.Outcomes.{EndsWell, EndsRefused, ToldEach, ToldRefusedEach}
+use Rattle.ion_docs.specs.Place.{MatchClosed, Stood, StoodEach}
 use Rattle.ion_docs.specs.declared.source.Source.{Source}
 use Rattle.ion_docs.specs.declared.source.Place.{Place}
 use Rattle.ion_docs.specs.declared.source.Place.TheVariants as ThePlace
@@ -20,134 +24,151 @@ pub on_err : {A E : Type 0} (result : Result A E) (P : Type 0) → P → OnErr r
 on_err (Ok a) P p = tt
 on_err (Err e) P p = p
 
-module _ {S X : Type 0} (tells : S → List ℕ → Type 0) (stands : X → List ℕ → List (Value × ℕ) → Type 0) (catalog : X → Catalog) (limits : X → Limits) (g : Catalog) (l : Limits) where
-  pub reads_went : (first now : S) (source after : Source X) (s : List Value) (value : Option Value) → Reads tells stands catalog limits g l first now source s →
-      ((u : List ℕ) (given : List (Value × ℕ)) → stands source.items u given → Went stands u given (left_of source) (left_of after) value after.items) →
-      catalog after.items ≡ catalog source.items → limits after.items ≡ limits source.items → Reads tells stands catalog limits g l first now after (s ++ option_to_list value)
-  reads_went first now source after s value h go under within =
-      let w = go h.u h.given h.stood in
+plain_more : (given : List (Value × ℕ)) (found : Option (Value × ℕ)) → plain (given ++ option_to_list found) ≡ plain given ++ option_to_list (option_map (λ (x : Value × ℕ). x.0) found)
+plain_more given None = map-append (λ (x : Value × ℕ). x.0) given []
+plain_more given (Some x) = map-append (λ (x : Value × ℕ). x.0) given (x ∷ [])
+
+module _ {S X : Type 0} (R : Inlet S) (I : Items X) (g : Catalog) (l : Limits) where
+  -- some octets were used
+  pub reads_went : (first now : S) (source after : Source X) (given : List (Value × ℕ)) (value : Option Value) → ReadsEach R I g l first now source given →
+      ((u : List ℕ) (given : List (Value × ℕ)) → I.stands source.items u given → Went I u given (left_of source) after value) →
+      I.catalog after.items ≡ I.catalog source.items → I.limits after.items ≡ I.limits source.items → ReadsEach R I g l first now after (given ++ given_at value after.used)
+  reads_went first now source after given value h go under within =
+      let w = go h.u given h.stood in
       record {
         u = w.to;
-        given = w.all;
-        told = subst (λ (x : List ℕ). Told tells first now x) (sym w.octets) h.told;
+        heard = subst (λ (x : List ℕ). Heard R first now x false) (sym w.octets) h.heard;
         stood = w.stood;
-        gave = w.values ∙ ap (λ x. x ++ option_to_list value) h.gave;
         under = under ∙ h.under;
         within = within ∙ h.within;
       }
 
-  -- nothing was left, and the device told more
-  pub reads_filled : (first now new : S) (source after : Source X) (more : List ℕ) (s : List Value) → Reads tells stands catalog limits g l first now source s → left_of source ≡ [] → Told tells now new more →
-      left_of after ≡ more → after.items ≡ source.items → Reads tells stands catalog limits g l first new after s
-  reads_filled first now new source after more s h empty told rest same =
+  -- nothing was left, and the device was asked again
+  reads_filled : (first now new : S) (source after : Source X) (more : List ℕ) (ended : Bool) (given : List (Value × ℕ)) → ReadsEach R I g l first now source given → left_of source ≡ [] → Heard R now new more ended →
+      left_of after ≡ more → after.items ≡ source.items → GaveEach R I g l first new after.items (left_of after) ended given
+  reads_filled first now new source after more ended given h empty heard rest same =
       record {
         u = h.u;
-        given = h.given;
-        told = subst (λ (x : List ℕ). Told tells first new x) (ap (λ x. (h.u ++ x) ++ more) empty ∙ (ap (λ x. x ++ more) (append-nil h.u) ∙ ap (λ x. h.u ++ x) (sym rest)))
-            (Told-trans tells first now new (h.u ++ left_of source) more h.told told);
-        stood = subst (λ (x : X). stands x h.u h.given) (sym same) h.stood;
-        gave = h.gave;
-        under = ap catalog same ∙ h.under;
-        within = ap limits same ∙ h.within;
+        heard = subst (λ (x : List ℕ). Heard R first new x ended) (ap (λ x. (h.u ++ x) ++ more) empty ∙ (ap (λ x. x ++ more) (append-nil h.u) ∙ ap (λ x. h.u ++ x) (sym rest)))
+            (Heard-trans R first now new (h.u ++ left_of source) more ended h.heard heard);
+        stood = subst (λ (x : X). I.stands x h.u given) (sym same) h.stood;
+        under = ap (λ (x : X). I.catalog x) same ∙ h.under;
+        within = ap (λ (x : X). I.limits x) same ∙ h.within;
       }
 
   -- the device told nothing more
-  pub reads_kept : (first now new : S) (source : Source X) (s : List Value) → Reads tells stands catalog limits g l first now source s → Told tells now new [] → Reads tells stands catalog limits g l first new source s
-  reads_kept first now new source s h told =
+  pub reads_kept : (first now new : S) (source : Source X) (given : List (Value × ℕ)) → ReadsEach R I g l first now source given → Heard R now new [] false → ReadsEach R I g l first new source given
+  reads_kept first now new source given h heard =
       record {
         u = h.u;
-        given = h.given;
-        told = subst (λ (x : List ℕ). Told tells first new x) (append-nil (h.u ++ left_of source)) (Told-trans tells first now new (h.u ++ left_of source) [] h.told told);
+        heard = subst (λ (x : List ℕ). Heard R first new x false) (append-nil (h.u ++ left_of source)) (Heard-trans R first now new (h.u ++ left_of source) [] false h.heard heard);
         stood = h.stood;
-        gave = h.gave;
         under = h.under;
         within = h.within;
       }
 
-  pub reads_failed : (denotes : List ℕ → List Value → Type 0) (pieces : List ℕ → List ℕ → List Value → Type 0) (first now : S) (source : Source X) (s : List Value) (r : Refusal) → ((d : S) → (later : List ℕ) × tells d later) →
-      Reads tells stands catalog limits g l first now source s →
-      ((u : List ℕ) (given : List (Value × ℕ)) → stands source.items u given → (more : List ℕ) → IsRefused denotes pieces ((u ++ left_of source) ++ more) (plain given) r) → ToldRefused tells denotes pieces first s r
-  reads_failed denotes pieces first now source s r some h refused =
-      let more = some now in
+  -- a step refused
+  pub reads_failed : (first now : S) (source : Source X) (given : List (Value × ℕ)) (r : Refusal) → ReadsEach R I g l first now source given →
+      ((u : List ℕ) (given : List (Value × ℕ)) → I.stands source.items u given → (more : List ℕ) → EndsRefused (format_of I g l) ((u ++ left_of source) ++ more) given r) → ToldRefusedEach R (format_of I g l) first now given r
+  reads_failed first now source given r h refused =
+      record { octets = h.u ++ left_of source; ended = false; heard = h.heard; ends = λ more _. refused h.u given h.stood more }
+
+  heard_all : (first now : S) (u rest : List ℕ) → Heard R first now (u ++ rest) true → rest ≡ [] → Heard R first now u true
+  heard_all first now u rest heard empty = subst (λ (x : List ℕ). Heard R first now x true) (ap (λ x. u ++ x) empty ∙ append-nil u) heard
+
+  reads_ended : (first now : S) (items : X) (left : List ℕ) (given all : List (Value × ℕ)) → GaveEach R I g l first now items left true given → left ≡ [] →
+      ((u : List ℕ) → I.stands items u given → EndsWell (format_of I g l) u all) → ToldEach R (format_of I g l) first now all
+  reads_ended first now items left given all h empty go =
+      let heard = heard_all first now h.u left h.heard empty in
+      record { octets = h.u; told = Heard-end R first now h.u heard; heard = heard; ends = go h.u h.stood }
+
+  reads_stopped : (first now : S) (items : X) (left : List ℕ) (given : List (Value × ℕ)) (r : Refusal) → GaveEach R I g l first now items left true given → left ≡ [] →
+      ((u : List ℕ) → I.stands items u given → EndsRefused (format_of I g l) u given r) → ToldRefusedEach R (format_of I g l) first now given r
+  reads_stopped first now items left given r h empty refused =
       record {
-        octets = (h.u ++ left_of source) ++ more.0;
-        told = h.told.told more.0 more.1;
-        refused = subst (λ (x : List Value). IsRefused denotes pieces ((h.u ++ left_of source) ++ more.0) x r) h.gave (refused h.u h.given h.stood more.0);
+        octets = h.u;
+        ended = true;
+        heard = heard_all first now h.u left h.heard empty;
+        ends = λ more none. subst (λ (x : List ℕ). EndsRefused (format_of I g l) x given r) (sym (ap (λ x. h.u ++ x) (none refl) ∙ append-nil h.u)) (refused h.u h.stood);
       }
 
-  told_all : (first now : S) (u rest : List ℕ) → Told tells first now (u ++ rest) → rest ≡ [] → tells now [] → tells first u
-  told_all first now u rest told empty end = subst (λ (x : List ℕ). tells first x) (ap (λ x. u ++ x) empty ∙ append-nil u) (Told-end tells first now (u ++ rest) told end)
-
-  pub reads_ended : (denotes : List ℕ → List Value → Type 0) (first now : S) (source : Source X) (s : List Value) (last : Option Value) → Reads tells stands catalog limits g l first now source s → left_of source ≡ [] → tells now [] →
-      ((u : List ℕ) (given : List (Value × ℕ)) → stands source.items u given → denotes u (plain given ++ option_to_list last)) → ToldDocument tells denotes first (s ++ option_to_list last)
-  reads_ended denotes first now source s last h empty end go =
-      record { octets = h.u; told = told_all first now h.u (left_of source) h.told empty end; denoted = subst (λ (x : List Value). denotes h.u (x ++ option_to_list last)) h.gave (go h.u h.given h.stood) }
-
-  pub reads_stopped : (denotes : List ℕ → List Value → Type 0) (pieces : List ℕ → List ℕ → List Value → Type 0) (first now : S) (source : Source X) (s : List Value) (r : Refusal) → Reads tells stands catalog limits g l first now source s →
-      left_of source ≡ [] → tells now [] → ((u : List ℕ) (given : List (Value × ℕ)) → stands source.items u given → IsRefused denotes pieces u (plain given) r) → ToldRefused tells denotes pieces first s r
-  reads_stopped denotes pieces first now source s r h empty end refused =
-      record { octets = h.u; told = told_all first now h.u (left_of source) h.told empty end; refused = subst (λ (x : List Value). IsRefused denotes pieces h.u x r) h.gave (refused h.u h.given h.stood) }
-
-  -- a step gave no value and left nothing, and the device told more
-  pub reads_on : (first now new : S) (source mid after : Source X) (more : List ℕ) (s : List Value) → Reads tells stands catalog limits g l first now source s →
-      ((u : List ℕ) (given : List (Value × ℕ)) → stands source.items u given → Went stands u given (left_of source) (left_of mid) None mid.items) → catalog mid.items ≡ catalog source.items → limits mid.items ≡ limits source.items →
-      left_of mid ≡ [] → Told tells now new more → left_of after ≡ more → after.items ≡ mid.items → Reads tells stands catalog limits g l first new after s
-  reads_on first now new source mid after more s h go under within empty told rest same =
-      let w : Reads tells stands catalog limits g l first now mid s = rw append-nil at (reads_went first now source mid s None h go under within) in
-      reads_filled first now new mid after more s w empty told rest same
+  -- a step gave no value and left nothing, and the device was asked again
+  pub reads_on : (first now new : S) (source mid after : Source X) (more : List ℕ) (ended : Bool) (given : List (Value × ℕ)) → ReadsEach R I g l first now source given →
+      ((u : List ℕ) (given : List (Value × ℕ)) → I.stands source.items u given → Went I u given (left_of source) mid None) → I.catalog mid.items ≡ I.catalog source.items → I.limits mid.items ≡ I.limits source.items →
+      left_of mid ≡ [] → Heard R now new more ended → left_of after ≡ more → after.items ≡ mid.items → GaveEach R I g l first new after.items (left_of after) ended given
+  reads_on first now new source mid after more ended given h go under within empty heard rest same =
+      let w : ReadsEach R I g l first now mid given = rw append-nil at (reads_went first now source mid given None h go under within) in
+      reads_filled first now new mid after more ended given w empty heard rest same
 
   -- the end of a document whose octets were all used
-  pub last_gives : (denotes : Catalog → Limits → List ℕ → List Value → Type 0) (pieces : Catalog → Limits → List ℕ → List ℕ → List Value → Type 0) (first now : S) (source : Source X) (s : List Value) (place : Place X) (last : Option Value) →
-      left_of source ≡ [] → tells now [] →
-      ((u : List ℕ) (given : List (Value × ℕ)) → stands source.items u given → MatchClosed place (denotes (catalog source.items) (limits source.items) u (plain given ++ option_to_list last))
-      (λ r. (last ≡ None) × IsRefused (denotes (catalog source.items) (limits source.items)) (pieces (catalog source.items) (limits source.items)) u (plain given) r)) →
-      Reads tells stands catalog limits g l first now source s → Stood tells stands catalog limits denotes pieces g l first now place (s ++ option_to_list last)
-  last_gives denotes pieces first now source s (ThePlace.Open after) last empty end ends h = absurd (ends h.u h.given h.stood)
-  last_gives denotes pieces first now source s ThePlace.Ended last empty end ends h = reads_ended (denotes g l) first now source s last h empty end (rw (h.under, h.within) at ends)
-  last_gives denotes pieces first now source s (ThePlace.Refused r) last empty end ends h =
+  last_gives : (first now : S) (source : Source X) (given : List (Value × ℕ)) (place : Place X) (last : Option (Value × ℕ)) → left_of source ≡ [] →
+      ((u : List ℕ) (given : List (Value × ℕ)) → I.stands source.items u given → MatchClosed place (EndsWell (format_of I (I.catalog source.items) (I.limits source.items)) u (given ++ option_to_list last))
+      (λ r. (last ≡ None) × EndsRefused (format_of I (I.catalog source.items) (I.limits source.items)) u given r)) →
+      GaveEach R I g l first now source.items (left_of source) true given → StoodEach R I g l first now place (given ++ option_to_list last)
+  last_gives first now source given (ThePlace.Open after) last empty ends h = absurd (ends h.u given h.stood)
+  last_gives first now source given ThePlace.Ended last empty ends h =
       let ended = rw (h.under, h.within) at ends in
-      let nothing : option_to_list last ≡ [] = ap (λ (x : Option Value). option_to_list x) (ended h.u h.given h.stood).0 in
-      subst (λ (x : List Value). ToldRefused tells (denotes g l) (pieces g l) first x r) (sym (ap (λ x. s ++ x) nothing ∙ append-nil s))
-      (reads_stopped (denotes g l) (pieces g l) first now source s r h empty end (λ u given stood. (ended u given stood).1))
+      reads_ended first now source.items (left_of source) given (given ++ option_to_list last) h empty (λ u stood. ended u given stood)
+  last_gives first now source given (ThePlace.Refused r) last empty ends h =
+      let ended = rw (h.under, h.within) at ends in
+      let nothing : option_to_list last ≡ [] = ap (λ (x : Option (Value × ℕ)). option_to_list x) (ended h.u given h.stood).0 in
+      subst (λ (x : List (Value × ℕ)). ToldRefusedEach R (format_of I g l) first now x r) (sym (ap (λ x. given ++ x) nothing ∙ append-nil given))
+      (reads_stopped first now source.items (left_of source) given r h empty (λ u stood. (ended u given stood).1))
 
-pub last_for : {S X : Type 0} (tells : S → List ℕ → Type 0) (stands : X → List ℕ → List (Value × ℕ) → Type 0) (catalog : X → Catalog) (limits : X → Limits)
-    (denotes : Catalog → Limits → List ℕ → List Value → Type 0) (pieces : Catalog → Limits → List ℕ → List ℕ → List Value → Type 0) (now : S) (source : Source X) (result : Result (Place X × Option Value) Fault) → left_of source ≡ [] → tells now [] →
-    IfOk result (λ next. (u : List ℕ) (given : List (Value × ℕ)) → stands source.items u given → MatchClosed next.0 (denotes (catalog source.items) (limits source.items) u (plain given ++ option_to_list next.1))
-    (λ r. (next.1 ≡ None) × IsRefused (denotes (catalog source.items) (limits source.items)) (pieces (catalog source.items) (limits source.items)) u (plain given) r)) →
-    (Q : Catalog → Limits → S → List Value → Type 0) → ((g : Catalog) (l : Limits) (first : S) (s : List Value) → Q g l first s → Reads tells stands catalog limits g l first now source s) →
-    IfOk result (λ next. (g : Catalog) (l : Limits) (first : S) (s : List Value) → Q g l first s → Stood tells stands catalog limits denotes pieces g l first now next.0 (s ++ option_to_list next.1))
-last_for tells stands catalog limits denotes pieces now source (Err e) empty end ends Q start = tt
-last_for tells stands catalog limits denotes pieces now source (Ok next) empty end ends Q start = λ g l first s q.
-    last_gives tells stands catalog limits g l denotes pieces first now source s next.0 next.1 empty end ends (start g l first s q)
+  -- the values alone, wherever the document stands
+  stood_plain : (first now : S) (place : Place X) (given : List (Value × ℕ)) → StoodEach R I g l first now place given → Stood R I g l first now place (plain given)
+  stood_plain first now (ThePlace.Open source) given h = record { given = given; each = h; values = refl }
+  stood_plain first now ThePlace.Ended given h = record { octets = h.octets; told = h.told; heard = h.heard; denoted = h.ends.denoted }
+  stood_plain first now (ThePlace.Refused refusal) given h = record { octets = h.octets; ended = h.ended; heard = h.heard; refused = λ more may. (h.ends more may).refused }
+
+  -- the values alone, also of the next one
+  pub stood_next : (first old now : S) (source : Source X) (place : Place X) (found : Option (Value × ℕ)) (value : Option Value) (s : List Value) → option_map (λ (x : Value × ℕ). x.0) found ≡ value →
+      ((given : List (Value × ℕ)) → ReadsEach R I g l first old source given → StoodEach R I g l first now place (given ++ option_to_list found)) →
+      Reads R I g l first old source s → Stood R I g l first now place (s ++ option_to_list value)
+  stood_next first old now source place found value s same go h =
+      let values : plain (h.given ++ option_to_list found) ≡ s ++ option_to_list value =
+      plain_more h.given found ∙ (ap (λ x. x ++ option_to_list (option_map (λ (x : Value × ℕ). x.0) found)) h.values ∙ ap (λ (x : Option Value). s ++ option_to_list x) same) in
+      subst (λ (x : List Value). Stood R I g l first now place x) values (stood_plain first now place (h.given ++ option_to_list found) (go h.given h.each))
+
+pub last_for : {S X : Type 0} (R : Inlet S) (I : Items X) (now : S) (source : Source X) (result : Result (Place X × Option (Value × ℕ)) Fault) → left_of source ≡ [] →
+    IfOk result (λ next. (u : List ℕ) (given : List (Value × ℕ)) → I.stands source.items u given → MatchClosed next.0 (EndsWell (format_of I (I.catalog source.items) (I.limits source.items)) u (given ++ option_to_list next.1))
+    (λ r. (next.1 ≡ None) × EndsRefused (format_of I (I.catalog source.items) (I.limits source.items)) u given r)) →
+    (Q : Catalog → Limits → S → List (Value × ℕ) → Type 0) → ((g : Catalog) (l : Limits) (first : S) (given : List (Value × ℕ)) → Q g l first given → GaveEach R I g l first now source.items (left_of source) true given) →
+    IfOk result (λ next. (g : Catalog) (l : Limits) (first : S) (given : List (Value × ℕ)) → Q g l first given → StoodEach R I g l first now next.0 (given ++ option_to_list next.1))
+last_for R I now source (Err e) empty ends Q start = tt
+last_for R I now source (Ok next) empty ends Q start = λ g l first given q. last_gives R I g l first now source given next.0 next.1 empty ends (start g l first given q)
 
 -- nothing was read yet
-pub reads_begun : {S X : Type 0} (tells : S → List ℕ → Type 0) (stands : X → List ℕ → List (Value × ℕ) → Type 0) (catalog : X → Catalog) (limits : X → Limits) (now : S) (source : Source X) (items : X) → stands items [] [] →
-    source.items ≡ items → left_of source ≡ [] → Reads tells stands catalog limits (catalog items) (limits items) now now source []
-reads_begun tells stands catalog limits now source items stood same empty =
+pub each_begun : {S X : Type 0} (R : Inlet S) (I : Items X) (now : S) (source : Source X) (items : X) → I.stands items [] [] → source.items ≡ items → left_of source ≡ [] →
+    ReadsEach R I (I.catalog items) (I.limits items) now now source []
+each_begun R I now source items stood same empty =
     record {
       u = [];
-      given = [];
-      told = subst (λ (x : List ℕ). Told tells now now x) (sym empty) (Told-nil tells now);
-      stood = subst (λ (x : _). stands x [] []) (sym same) stood;
-      gave = refl;
-      under = ap catalog same;
-      within = ap limits same;
+      heard = subst (λ (x : List ℕ). Heard R now now x false) (sym empty) (Heard-nil R now);
+      stood = subst (λ (x : _). I.stands x [] []) (sym same) stood;
+      under = ap (λ (x : _). I.catalog x) same;
+      within = ap (λ (x : _). I.limits x) same;
     }
 
-pub ready_begun : {X : Type 0} (taken : X → ℕ) (awaits : X → Option ℕ) (source : Source X) (items : X) → taken items ≡ 0 → awaits items ≡ None → source.items ≡ items → (source.at ≡ 0) × (source.end ≡ 0) → length source.piece.items ≡ 4096 → source.reads ≤ 2 ^ 32 →
-    IsReady taken awaits source
-ready_begun taken awaits source items none free same empty piece few =
-    let nothing : taken source.items ≡ 0 = ap taken same ∙ none in
+pub reads_begun : {S X : Type 0} (R : Inlet S) (I : Items X) (now : S) (source : Source X) (items : X) → I.stands items [] [] → source.items ≡ items → left_of source ≡ [] →
+    Reads R I (I.catalog items) (I.limits items) now now source []
+reads_begun R I now source items stood same empty = record { given = []; each = each_begun R I now source items stood same empty; values = refl }
+
+pub ready_begun : {X : Type 0} (I : Items X) (source : Source X) (items : X) → I.taken items ≡ 0 → I.awaits items ≡ None → source.items ≡ items → (source.at ≡ 0) × (source.end ≡ 0) × (source.used ≡ 0) → length source.piece.items ≡ 4096 → source.reads ≤ 2 ^ 32 →
+    IsReady I source
+ready_begun I source items none free same empty piece few =
+    let nothing : I.taken source.items ≡ 0 = ap (λ (x : _). I.taken x) same ∙ none in
     record {
       within = omega arith;
       fits = omega arith;
       piece = piece;
       room = omega arith;
-      begins = subst (λ (x : Option ℕ). Begins x (left_of source)) (sym (ap awaits same ∙ free)) tt;
+      begins = subst (λ (x : Option ℕ). Begins x (left_of source)) (sym (ap (λ (x : _). I.awaits x) same ∙ free)) tt;
+      counted = nothing ∙ sym empty.2;
     }
 
-pub within_begun : {S X : Type 0} (calls : S → ℕ) (ended : S → Bool) (now : S) (source : Source X) (reads : ℕ) → source.reads ≡ reads → IsWithin calls ended reads now now source
-within_begun calls ended now source reads e = record { made = 0; were = WereMade-nil calls ended now; rest = omega arith }
+pub within_begun : {S X : Type 0} (R : Inlet S) (now : S) (source : Source X) (reads : ℕ) → source.reads ≡ reads → IsWithin R reads now now source
+within_begun R now source reads e = record { made = 0; were = WereMade-nil R now; rest = omega arith }
 
 pub one_at_most : (value : Option Value) → length (option_to_list value) ≤ 1
 one_at_most None = omega arith

@@ -2,9 +2,11 @@
 use Rattle.std.specs.Prelude.{◌≡◌, ℕ, List, length, Result, Ok, Err}
 use Rattle.ion_model.specs.declared.value.Value.{Value}
 use Rattle.ion_model.specs.declared.refusal.Refusal.{Refusal}
+use Rattle.ion_symtab.specs.declared.inlet.Inlet.{Ghosts as Inlet}
+use Rattle.ion_docs.specs.Formats.{Format}
 use Rattle.ion_docs.specs.Outcomes.{ToldDocument, ToldRefused}
 
--- the octets that the device told denote so many values, or they are no document
-abbrev pub IsChecked : {S : Type 0} → (S → List ℕ → Type 0) → (List ℕ → List Value → Type 0) → (List ℕ → List ℕ → List Value → Type 0) → S → Result ℕ Refusal → Type 0
-IsChecked tells denotes pieces first (Ok values) = (s : List Value) × ToldDocument tells denotes first s × (length s ≡ values)
-IsChecked tells denotes pieces first (Err refusal) = (s : List Value) × ToldRefused tells denotes pieces first s refusal
+-- the octets that the device handed over denote so many values, or they are no document
+abbrev pub IsChecked : {S : Type 0} → Inlet S → Format → S → S → Result ℕ Refusal → Type 0
+IsChecked R F first now (Ok values) = (s : List Value) × ToldDocument R F first now s × (length s ≡ values)
+IsChecked R F first now (Err refusal) = (s : List Value) × ToldRefused R F first now s refusal

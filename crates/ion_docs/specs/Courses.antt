@@ -1,7 +1,8 @@
 -- How two streams compare, as far as they were read.
-use Rattle.std.specs.Prelude.{ℕ, ◌+◌, if◌then◌else◌, Option, Some, None}
+use Rattle.std.specs.Prelude.{◌≡◌, ℕ, ◌+◌, [], true, false, Option, Some, None}
 use Rattle.ion_model.specs.declared.value.Value.{Value}
 use Rattle.ion_model.specs.Same.{same}
+use Rattle.ion_model.specs.Parting.{IsPath}
 use Rattle.ion_docs.specs.declared.source.Place.{Place}
 use Rattle.ion_docs.specs.declared.source.Place.TheVariants as ThePlace
 use Rattle.ion_docs.specs.declared.comparison.Verdict.{Verdict}
@@ -10,23 +11,28 @@ use Rattle.ion_docs.specs.declared.comparison.Side.TheVariants.{Right}
 use Rattle.ion_docs.specs.declared.comparison.Course.{Course}
 use Rattle.ion_docs.specs.declared.comparison.Course.TheVariants.{Alike, Parted}
 
+-- the course where both streams have another value
+abbrev pub MetBoth : ℕ → Value → Value → Course → Type 0
+MetBoth n v w (Alike values) = (same v w ≡ true) × (values ≡ n + 1)
+MetBoth n v w (Parted index path) = (same v w ≡ false) × (index ≡ n + 1) × IsPath path v w
+
 -- the course behind the next value of each, or the end of one
-abbrev pub met : Course → Option Value → Option Value → Course
-met (Parted index) v w = Parted index
-met (Alike values) None None = Alike values
-met (Alike values) (Some v) (Some w) = if same v w then Alike (values + 1) else Parted (values + 1)
-met (Alike values) None (Some w) = Parted (values + 1)
-met (Alike values) (Some v) None = Parted (values + 1)
+abbrev pub IsMet : Course → Option Value → Option Value → Course → Type 0
+IsMet (Parted index path) v w after = after ≡ Parted index path
+IsMet (Alike n) None None after = after ≡ Alike n
+IsMet (Alike n) (Some v) (Some w) after = MetBoth n v w after
+IsMet (Alike n) None (Some w) after = after ≡ Parted (n + 1) []
+IsMet (Alike n) (Some v) None after = after ≡ Parted (n + 1) []
 
 -- how many values were counted
 abbrev pub count_of : Course → ℕ
 count_of (Alike values) = values
-count_of (Parted index) = index
+count_of (Parted index path) = index
 
 -- the verdict on two documents
 abbrev pub verdict_on : Course → Verdict
 verdict_on (Alike values) = Equivalent values
-verdict_on (Parted index) = Different index
+verdict_on (Parted index path) = Different index path
 
 -- the verdict where the left is a document
 abbrev pub verdict_of : {Y : Type 0} → Place Y → Course → Verdict

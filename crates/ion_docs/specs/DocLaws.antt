@@ -6,26 +6,28 @@ use Rattle.ion_model.specs.declared.refusal.Refusal.{Refusal}
 use Rattle.ion_symtab.specs.declared.catalog.Catalog.{Catalog}
 use Rattle.ion_symtab.specs.declared.limits.Limits.{Limits}
 use Rattle.ion_symtab.specs.Trace.{Trace, Streams, Grows, plain}
-use Rattle.ion_symtab.specs.Promises.{Refuses, BeginsNone, Shown, Shows, IsSmall, GivesNoTable}
+use Rattle.ion_symtab.specs.Promises.{Refuses, BeginsNone, Shown, Shows, IsSmall, IsReadersReason, HasReasons, GivesNoTable}
+use Rattle.ion_symtab.specs.PromiseLaws.{shown_once}
 use Rattle.ion_symtab.specs.Slots.{Slot, system_slots}
 use Rattle.ion_binary.specs.Grammar as grammar
 use Rattle.ion_binary.specs.Grammar.{Document, begins, marked, skips, turns, holds, the_marker, Whole, no_piece, document, OpenRest, of_marker}
 use Rattle.ion_binary.specs.Run.{trace}
+use Rattle.ion_binary.specs.declared.reader.BinaryReader.{BinaryReader}
 use Rattle.ion_binary.specs.Laws as binary
-use Rattle.ion_binary.specs.StandsLaws.{given_of, bounded}
+use Rattle.ion_binary.specs.StandsLaws.{given_of, not_failed, not_refused, bounded}
 use Rattle.ion_docs.specs.declared.doc_reader.Format.{Format}
 use Rattle.ion_docs.specs.declared.doc_reader.Format.TheVariants.{Unbegun, Refused, Binary}
 use Rattle.ion_docs.specs.declared.doc_reader.DocReader.{DocReader}
 use Rattle.ion_docs.specs.Documents.{is_binary, Denotes, is_empty, in_binary, Pieces, binary_pieces}
 use Rattle.ion_docs.specs.Chosen.{chosen, nothing_read, refused_at_first, at_first}
-use Rattle.ion_docs.specs.DocStands.{FormatStands, DocStands, taken_of, kept_of}
+use Rattle.ion_docs.specs.DocStands.{FormatStands, DocStands, taken_of, failed_of, kept_of}
 
 pub binary-append : (u w : List ℕ) → is_binary u ≡ true → is_binary (u ++ w) ≡ true
 binary-append [] w h = absurd cc
 binary-append (first ∷ u) w h = h
 
 -- the pieces of a binary document begin with E0
-pieces_binary : (g : Catalog) (l : Limits) (w : List ℕ) (s : List Value) (c : List Slot) → grammar.Pieces g l w s c → is_binary w ≡ true
+pub pieces_binary : (g : Catalog) (l : Limits) (w : List ℕ) (s : List Value) (c : List Slot) → grammar.Pieces g l w s c → is_binary w ≡ true
 pieces_binary g l _ _ _ begins = refl
 pieces_binary g l _ _ _ (marked u s c d) = binary-append u the_marker (pieces_binary g l u s c d)
 pieces_binary g l _ _ _ (skips u w s c d p) = binary-append u w (pieces_binary g l u s c d)
@@ -83,9 +85,13 @@ shown_by g l u s h = record {
   front = h.front;
   open_rest = h.open_rest;
   parts = h.parts;
-  whole = λ following. binary_pieces h.front (h.open_rest ++ following) s (h.whole following);
-  longest = λ v rest t e w. h.longest v rest t e (λ following. pieces_whole g l v (rest ++ following) t (w following));
+  whole = λ following octets. binary_pieces h.front (h.open_rest ++ following) s (h.whole following octets);
+  longest = λ v rest t e w. h.longest v rest t e (λ following octets. pieces_whole g l v (rest ++ following) t (w following octets));
 }
+
+-- octets show one stream: the pieces are those of the format that the first octet chooses
+pub one_shown : (g : Catalog) (l : Limits) (u : List ℕ) (s t : List Value) → Shown (Pieces g l) u s → Shown (Pieces g l) u t → s ≡ t
+one_shown g l u s t a b = shown_once (Pieces g l) u s t (λ front following p q. binary.one_whole g l front front s t refl (pieces_whole g l front following s p) (pieces_whole g l front following t q)) a b
 
 -- where no binary document begins so, no document does
 none_document : (g : Catalog) (l : Limits) (u : List ℕ) → BeginsNone (Document g l) u → BeginsNone (Denotes g l) u
@@ -115,8 +121,8 @@ nothing_shown g l first w h = record {
   front = [];
   open_rest = first ∷ w;
   parts = refl;
-  whole = λ following. binary_pieces [] ((first ∷ w) ++ following) [] no_piece;
-  longest = λ v rest t e p. none v rest t e (pieces_whole g l v (rest ++ []) t (p []));
+  whole = λ following octets. binary_pieces [] ((first ∷ w) ++ following) [] no_piece;
+  longest = λ v rest t e p. none v rest t e (pieces_whole g l v (rest ++ []) t (p [] tt));
 }
   where
     none : (v rest : List ℕ) (t : List Value) → first ∷ w ≡ v ++ rest → Whole g l v t → length v ≤ 0
@@ -154,7 +160,7 @@ shows_nothing g l = record {
     front = [];
     open_rest = [];
     parts = refl;
-    whole = λ following. binary_pieces [] following [] no_piece;
+    whole = λ following octets. binary_pieces [] following [] no_piece;
     longest = λ v rest t e p. let k : length {A = ℕ} [] ≡ length (v ++ rest) = ap length e in let i = length-append v rest in omega arith;
   };
   rest = of_marker [] (omega arith);
@@ -182,11 +188,26 @@ pub chosen_unfinished : (g : Catalog) (l : Limits) (u : List ℕ) (r : Refusal) 
 chosen_unfinished g l [] r h k = absurd cc
 chosen_unfinished g l (first ∷ w) r h k = first_unfinished g l first w r h k
 
--- a value has at most as many nodes as octets were used for it
-pub chosen_small : (g : Catalog) (l : Limits) (u : List ℕ) → IsSmall u (chosen g l u)
+at_first_reason : IsReadersReason at_first.reason
+at_first_reason = record { whole_memory = λ i. cc; no_duplicate = λ i. cc; no_bad_table = λ i. cc }
+
+at_first_reasons : HasReasons refused_at_first
+at_first_reasons = record {
+  step = λ r h. let same : at_first ≡ r = cc in subst (λ (x : Refusal). IsReadersReason x.reason) same at_first_reason;
+  end = λ r h. let same : at_first ≡ r = cc in subst (λ (x : Refusal). IsReadersReason x.reason) same at_first_reason;
+}
+
+-- neither a step nor the end refuses for want of memory, or for what only a catalog is refused
+pub chosen_reasons : (g : Catalog) (l : Limits) (u : List ℕ) → HasReasons (chosen g l u)
+chosen_reasons g l [] = record { step = λ r h. absurd cc; end = λ r h. absurd cc }
+chosen_reasons g l (first ∷ w) =
+    cond_both (first == 0xE0) (trace g l (first ∷ w)) refused_at_first HasReasons (λ e. binary.reasons g l (first ∷ w)) (λ e. at_first_reasons)
+
+-- a value has at most as many nodes as its item has octets
+pub chosen_small : (g : Catalog) (l : Limits) (u : List ℕ) → IsSmall l.item u (chosen g l u)
 chosen_small g l [] = record { given = omega arith; last = λ v h. absurd cc }
 chosen_small g l (first ∷ w) =
-    cond_both (first == 0xE0) (trace g l (first ∷ w)) refused_at_first (IsSmall (first ∷ w)) (λ e. binary.small g l (first ∷ w)) (λ e. record { given = omega arith; last = λ v h. absurd cc })
+    cond_both (first == 0xE0) (trace g l (first ∷ w)) refused_at_first (IsSmall l.item (first ∷ w)) (λ e. binary.small g l (first ∷ w)) (λ e. record { given = omega arith; last = λ v h. absurd cc })
 
 -- no value given is a local symbol table
 pub chosen_values : (g : Catalog) (l : Limits) (u : List ℕ) → GivesNoTable (chosen g l u)
@@ -212,15 +233,35 @@ format_counted d (Binary r) u s h = h.0.counted
 pub doc_counted : (d : DocReader) (u : List ℕ) (s : List (Value × ℕ)) → DocStands d u s → taken_of d.format ≡ length u
 doc_counted d = format_counted d d.format
 
+format_not_failed : (d : DocReader) (f : Format) (u : List ℕ) (s : List (Value × ℕ)) → FormatStands d f u s → failed_of f ≡ None
+format_not_failed d Unbegun u s h = refl
+format_not_failed d (Refused refusal) u s h = absurd h
+format_not_failed d (Binary r) u s h = not_failed r u s h.0
+
+-- a reader that stands for octets has refused nothing
+pub doc_not_failed : (d : DocReader) (u : List ℕ) (s : List (Value × ℕ)) → DocStands d u s → failed_of d.format ≡ None
+doc_not_failed d = format_not_failed d d.format
+
+-- what a binary reader stands for is chosen
+format_trace : (d : DocReader) (r : BinaryReader) (u : List ℕ) (s : List (Value × ℕ)) → FormatStands d (Binary r) u s → chosen d.catalog.now d.limits u ≡ trace r.catalog.now r.limits u
+format_trace d r u s h =
+    chosen_binary d.catalog.now d.limits u h.1
+    ∙ ap (λ l. trace d.catalog.now l u) (sym h.2)
+    ∙ ap (λ g. trace g r.limits u) (sym h.3)
+
+format_not_refused : (d : DocReader) (f : Format) (u : List ℕ) (s : List (Value × ℕ)) → FormatStands d f u s → (chosen d.catalog.now d.limits u).refused ≡ None
+format_not_refused d Unbegun u s h = ap (λ u. (chosen d.catalog.now d.limits u).refused) h.0
+format_not_refused d (Refused refusal) u s h = absurd h
+format_not_refused d (Binary r) u s h = ap (λ (t : Trace). t.refused) (format_trace d r u s h) ∙ not_refused r u s h.0
+
+pub doc_not_refused : (d : DocReader) (u : List ℕ) (s : List (Value × ℕ)) → DocStands d u s → (chosen d.catalog.now d.limits u).refused ≡ None
+doc_not_refused d = format_not_refused d d.format
+
 -- the values given are those of the trace
 format_given : (d : DocReader) (f : Format) (u : List ℕ) (s : List (Value × ℕ)) → FormatStands d f u s → (chosen d.catalog.now d.limits u).given ≡ s
 format_given d Unbegun u s h = ap (λ u. (chosen d.catalog.now d.limits u).given) h.0 ∙ sym h.1
 format_given d (Refused refusal) u s h = absurd h
-format_given d (Binary r) u s h =
-    ap (λ (t : Trace). t.given) (chosen_binary d.catalog.now d.limits u h.1)
-    ∙ ap (λ l. (trace d.catalog.now l u).given) (sym h.2)
-    ∙ ap (λ g. (trace g r.limits u).given) (sym h.3)
-    ∙ given_of r u s h.0
+format_given d (Binary r) u s h = ap (λ (t : Trace). t.given) (format_trace d r u s h) ∙ given_of r u s h.0
 
 pub doc_given : (d : DocReader) (u : List ℕ) (s : List (Value × ℕ)) → DocStands d u s → (chosen d.catalog.now d.limits u).given ≡ s
 doc_given d = format_given d d.format

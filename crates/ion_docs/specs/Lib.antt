@@ -1,7 +1,10 @@
 pub mod Documents
+pub mod Formats
 pub mod Outcomes
 pub mod Checked
 pub mod Compared
+pub mod Loaded
+pub mod Paths
 pub mod Listing
 pub mod Reading
 pub mod Place
@@ -9,4 +12,8 @@ pub mod Courses
 pub mod Chosen
 pub mod DocStands
 pub mod DocLaws
+pub mod Encodings
+pub mod EncodingLaws
 pub mod Converted
+pub mod Conversion
+pub mod ConversionLaws

@@ -1,7 +1,6 @@
 -- What showing a document writes.
-use Rattle.std.specs.Prelude.{◌≡◌, ℕ, ◌+◌, ◌-◌, ◌^◌, min, codes, List, [], ◌∷◌, ◌++◌, length, Option, Result, Ok, Err, Bool, true, ⊤}
+use Rattle.std.specs.Prelude.{◌≡◌, ℕ, ◌+◌, ◌-◌, ◌^◌, min, codes, List, [], ◌++◌, ◌∷◌, length, Result, Ok, Err, true, ⊤}
 use Rattle.std.specs.Fmt.{decimal}
-use Rattle.std.specs.Io.KnownBytes.{Appends}
 use Rattle.ion_model.specs.declared.value.Value.{Value}
 use Rattle.ion_model.specs.Kinds.{kind_name, kind_of}
 use Rattle.ion_model.specs.Measures.{depth, nodes}
@@ -10,7 +9,11 @@ use Rattle.ion_symtab.specs.declared.fault.Fault.{Fault}
 use Rattle.ion_symtab.specs.declared.fault.Fault.TheVariants.{Memory, Read, Write, TooManyReads, TooLarge, Open}
 use Rattle.ion_symtab.specs.declared.catalog.Catalog.{Catalog}
 use Rattle.ion_symtab.specs.declared.limits.Limits.{Limits}
-use Rattle.ion_symtab.specs.Took.{TookFront}
+use Rattle.ion_symtab.specs.declared.inlet.Inlet.{Ghosts as Inlet}
+use Rattle.ion_symtab.specs.declared.items.Items.{Ghosts as Items}
+use Rattle.ion_symtab.specs.declared.outlet.Outlet.{Ghosts as Outlet}
+use Rattle.ion_symtab.specs.Took.{Took, TookFront}
+use Rattle.ion_docs.specs.Formats.{Format, format_of}
 use Rattle.ion_docs.specs.Reading.{GaveSoFar}
 use Rattle.ion_docs.specs.Outcomes.{ToldDocument, ToldRefused}
 
@@ -35,24 +38,23 @@ lines_of s = lines_from 1 s
 unfoldable pub accepted_line : ℕ → List ℕ
 accepted_line values = codes "accepted " ++ (decimal values ++ codes "\n")
 
--- The octets that the device told denote a stream, and its lines and the last line were written; or they are no document, and the lines of the values before the refusal were written.
-abbrev pub IsShown : {S : Type 0} → (S → List ℕ → Type 0) → (List ℕ → List Value → Type 0) → (List ℕ → List ℕ → List Value → Type 0) → S → Option (List ℕ) → Option (List ℕ) → Result ℕ Refusal → Type 0
-IsShown tells denotes pieces first old new (Ok values) = (s : List Value) × ToldDocument tells denotes first s × (length s ≡ values) × Appends old new (lines_of s ++ accepted_line values)
-IsShown tells denotes pieces first old new (Err refusal) = (s : List Value) × ToldRefused tells denotes pieces first s refusal × Appends old new (lines_of s)
+-- The octets that the device handed over denote a stream, and its lines and the last line were written; or they are no document, and the lines of the values before the refusal were written.
+abbrev pub IsShown : {S T : Type 0} → Inlet S → Outlet T → Format → S → S → T → T → Result ℕ Refusal → Type 0
+IsShown R W F first now old new (Ok values) = (s : List Value) × ToldDocument R F first now s × (length s ≡ values) × Took W.took W.written old new (lines_of s ++ accepted_line values)
+IsShown R W F first now old new (Err refusal) = (s : List Value) × ToldRefused R F first now s refusal × Took W.took W.written old new (lines_of s)
 
 -- what a fault of writing says of its writer
-abbrev pub IsWriteCause : {T : Type 0} → (T → Bool) → T → Fault → Type 0
-IsWriteCause failed new Memory = ⊤
-IsWriteCause failed new Read = ⊥
-IsWriteCause failed new Write = failed new ≡ true
-IsWriteCause failed new TooManyReads = ⊥
-IsWriteCause failed new TooLarge = ⊥
-IsWriteCause failed new Open = ⊥
+abbrev pub IsWriteCause : {T : Type 0} → Outlet T → T → Fault → Type 0
+IsWriteCause W new Memory = ⊤
+IsWriteCause W new Read = ⊥
+IsWriteCause W new Write = W.has_failed new ≡ true
+IsWriteCause W new TooManyReads = ⊥
+IsWriteCause W new TooLarge = ⊥
+IsWriteCause W new Open = ⊥
 
 -- At a fault nothing was begun; or the document gave s so far, and it was being read, was refused or had ended. Of what is written of it then, some first octets were written.
-pub data ShowsSoFar {S X T : Type 0} (tells : S → List ℕ → Type 0) (stands : X → List ℕ → List (Value × ℕ) → Type 0) (catalog : X → Catalog) (limits : X → Limits) (denotes : List ℕ → List Value → Type 0)
-    (pieces : List ℕ → List ℕ → List Value → Type 0) (took : T → Option (List ℕ)) (g : Catalog) (l : Limits) (first now : S) (old new : T) : Type 0 where
-  at_start : TookFront took old new [] → ShowsSoFar tells stands catalog limits denotes pieces took g l first now old new
-  in_reading : (s : List Value) → GaveSoFar tells stands catalog limits g l first now s → TookFront took old new (lines_of s) → ShowsSoFar tells stands catalog limits denotes pieces took g l first now old new
-  at_refusal : (s : List Value) (refusal : Refusal) → ToldRefused tells denotes pieces first s refusal → TookFront took old new (lines_of s) → ShowsSoFar tells stands catalog limits denotes pieces took g l first now old new
-  at_end : (s : List Value) → ToldDocument tells denotes first s → TookFront took old new (lines_of s ++ accepted_line (length s)) → ShowsSoFar tells stands catalog limits denotes pieces took g l first now old new
+pub data ShowsSoFar {S X T : Type 0} (R : Inlet S) (I : Items X) (W : Outlet T) (g : Catalog) (l : Limits) (first now : S) (old new : T) : Type 0 where
+  at_start : TookFront W.took W.written old new [] → ShowsSoFar R I W g l first now old new
+  in_reading : (s : List Value) → GaveSoFar R I g l first now s → TookFront W.took W.written old new (lines_of s) → ShowsSoFar R I W g l first now old new
+  at_refusal : (s : List Value) (refusal : Refusal) → ToldRefused R (format_of I g l) first now s refusal → TookFront W.took W.written old new (lines_of s) → ShowsSoFar R I W g l first now old new
+  at_end : (s : List Value) → ToldDocument R (format_of I g l) first now s → TookFront W.took W.written old new (lines_of s ++ accepted_line (length s)) → ShowsSoFar R I W g l first now old new

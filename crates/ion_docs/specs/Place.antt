@@ -4,8 +4,11 @@ use Rattle.ion_model.specs.declared.value.Value.{Value}
 use Rattle.ion_model.specs.declared.refusal.Refusal.{Refusal}
 use Rattle.ion_symtab.specs.declared.catalog.Catalog.{Catalog}
 use Rattle.ion_symtab.specs.declared.limits.Limits.{Limits}
-use Rattle.ion_docs.specs.Reading.{work, Reads}
-use Rattle.ion_docs.specs.Outcomes.{ToldDocument, ToldRefused}
+use Rattle.ion_symtab.specs.declared.inlet.Inlet.{Ghosts as Inlet}
+use Rattle.ion_symtab.specs.declared.items.Items.{Ghosts as Items}
+use Rattle.ion_docs.specs.Formats.{format_of}
+use Rattle.ion_docs.specs.Reading.{work, Reads, ReadsEach}
+use Rattle.ion_docs.specs.Outcomes.{ToldDocument, ToldRefused, ToldEach, ToldRefusedEach}
 use Rattle.ion_docs.specs.declared.source.Source.{Source}
 use Rattle.ion_docs.specs.declared.source.Place.{Place}
 use Rattle.ion_docs.specs.declared.source.Place.TheVariants.{Open, Ended, Refused}
@@ -31,14 +34,19 @@ MatchClosed Ended P Q = P
 MatchClosed (Refused refusal) P Q = Q refusal
 
 -- more than the values that may still come, and the end
-abbrev pub work_of : {X : Type 0} → (X → ℕ) → Place X → ℕ
-work_of pending (Open source) = work pending source + 1
-work_of pending Ended = 0
-work_of pending (Refused refusal) = 0
+abbrev pub work_of : {X : Type 0} → Items X → Place X → ℕ
+work_of I (Open source) = work I source + 1
+work_of I Ended = 0
+work_of I (Refused refusal) = 0
 
 -- From first to now the document gave s: it is read so far, it was one, or it is none.
-abbrev pub Stood : {S X : Type 0} → (S → List ℕ → Type 0) → (X → List ℕ → List (Value × ℕ) → Type 0) → (X → Catalog) → (X → Limits)
-    → (Catalog → Limits → List ℕ → List Value → Type 0) → (Catalog → Limits → List ℕ → List ℕ → List Value → Type 0) → Catalog → Limits → S → S → Place X → List Value → Type 0
-Stood tells stands catalog limits denotes pieces g l first now (Open source) s = Reads tells stands catalog limits g l first now source s
-Stood tells stands catalog limits denotes pieces g l first now Ended s = ToldDocument tells (denotes g l) first s
-Stood tells stands catalog limits denotes pieces g l first now (Refused refusal) s = ToldRefused tells (denotes g l) (pieces g l) first s refusal
+abbrev pub Stood : {S X : Type 0} → Inlet S → Items X → Catalog → Limits → S → S → Place X → List Value → Type 0
+Stood R I g l first now (Open source) s = Reads R I g l first now source s
+Stood R I g l first now Ended s = ToldDocument R (format_of I g l) first now s
+Stood R I g l first now (Refused refusal) s = ToldRefused R (format_of I g l) first now s refusal
+
+-- the same with the total of octets used when each value came; a refused document gave the values before the refusal
+abbrev pub StoodEach : {S X : Type 0} → Inlet S → Items X → Catalog → Limits → S → S → Place X → List (Value × ℕ) → Type 0
+StoodEach R I g l first now (Open source) given = ReadsEach R I g l first now source given
+StoodEach R I g l first now Ended given = ToldEach R (format_of I g l) first now given
+StoodEach R I g l first now (Refused refusal) given = ToldRefusedEach R (format_of I g l) first now given refusal

@@ -1,6 +1,7 @@
 //! How many values a document has.
 ghost use Rattle.std.specs.Prelude.{◌≡◌, ℕ, ◌+◌, ◌^◌, ◌<◌, ◌≤◌, length, IfOk, IfErr, Option, option_to_list};
 ghost use Rattle.ion_symtab.specs.Cause.{IsReadCause};
+ghost use Rattle.ion_docs.specs.Formats.{format_of};
 ghost use Rattle.ion_docs.specs.Reading.{IsFresh};
 ghost use Rattle.ion_docs.specs.Checked.{IsChecked};
 
@@ -19,12 +20,11 @@ pub fn check_items<I: Items + Drop, R: Inlet>(
     reads: u64,
     reader: &mut R,
 ) -> Result<Result<u64, Refusal>, Fault>
-    requires fresh { IsFresh I.stands I.awaits I.pending items }
+    requires fresh { IsFresh I.Items items }
     requires reads { reads ≤ 2 ^ 32 }
-    ensures verdict { IfOk result (IsChecked R.tells (I.denotes (I.catalog items) (I.limits items))
-        (I.pieces (I.catalog items) (I.limits items)) reader.old) }
-    ensures cause { IfErr result (IsReadCause R.calls_made R.has_failed R.has_ended reads
-        reader.old reader.new) }
+    ensures verdict { IfOk result (IsChecked R.Inlet
+        (format_of I.Items (I.catalog items) (I.limits items)) reader.old reader.new) }
+    ensures cause { IfErr result (IsReadCause R.Inlet reads reader.old reader.new) }
 {
     let mut source = Source::new(alloc, items, reads)?;
     let mut values: u64 = 0;

@@ -1,72 +1,67 @@
 //! Whether two documents have equivalent streams.
-ghost use Rattle.std.specs.Prelude.{◌≡◌, ℕ, ◌+◌, ◌^◌, ◌<◌, ◌≤◌, ◌⊎◌, IfOk, IfErr, MatchResult};
+ghost use Rattle.std.specs.Prelude.{◌≡◌, ℕ, ◌+◌, ◌^◌, ◌<◌, ◌≤◌, ◌⊎◌, [], IfOk, IfErr, MatchResult};
 ghost use Rattle.ion_symtab.specs.Cause.{IsReadCause};
+ghost use Rattle.ion_docs.specs.Formats.{format_of};
 ghost use Rattle.ion_docs.specs.Reading.{IsFresh};
 ghost use Rattle.ion_docs.specs.Compared.{IsCompared};
-ghost use Rattle.ion_docs.specs.Courses.{met, count_of, verdict_of};
+ghost use Rattle.ion_docs.specs.Courses.{IsMet, count_of, verdict_of};
 
 use crate::source::{Place, Source, advance};
-use ion_model::{Refusal, Value, equivalent};
+use ion_model::{Path, Refusal, Value, parting};
 use ion_symtab::{Fault, Inlet, Items};
 use std::alloc::Global;
 
-/// Which of two documents.
+/// Which of two documents that are compared.
 #[derive(Clone, Copy, Debug, PartialEq, Eq)]
 pub enum Side {
+    /// The one named first.
     Left,
+    /// The one named second.
     Right,
 }
 
 /// The answer of a comparison.
-#[derive(Clone, Copy, Debug, PartialEq, Eq)]
+#[derive(Debug, Drop)]
 pub enum Verdict {
-    /// The streams are equivalent, and each has so many values.
-    Equivalent { values: u64 },
-    /// The streams first part at this value, counted from 1.
-    Different { index: u64 },
-    /// This side is no document.
-    Refused { side: Side, refusal: Refusal },
+    /// The streams are equivalent (Ion 1.0, "The Ion Data Model").
+    Equivalent {
+        /// How many values each of them has.
+        values: u64,
+    },
+    /// Both are documents, and their streams part.
+    Different {
+        /// The first value that isn't equivalent, or that only one stream has, counted from 1.
+        index: u64,
+        /// Where the two values with this number part; empty where only one stream has one.
+        path: Path,
+    },
+    /// One side is no document, and a refused right side stands behind a left one that is.
+    Refused {
+        /// The side that is none.
+        side: Side,
+        /// At which of its octets, counted from its first, and why.
+        refusal: Refusal,
+    },
 }
 
 /// How two streams compared so far.
-#[derive(Clone, Copy)]
+#[derive(Drop)]
 enum Course {
     /// So many values of each were the same.
     Alike { values: u64 },
-    /// They parted at this value, counted from 1.
-    Parted { index: u64 },
+    /// They parted at this value, counted from 1, and within it at this path.
+    Parted { index: u64, path: Path },
 }
 
 impl Course {
     /// The course behind the next value of each, or the end of one; `Memory` where a growth was refused.
     fn meet(self, alloc: Global, left: Option<Value>, right: Option<Value>) -> Result<Course, Fault>
         requires { count_of self + 1 < 2 ^ 64 }
-        ensures { MatchResult result (λ course. course ≡ met self left right) (λ fault. fault ≡ Fault.Memory) }
+        ensures { MatchResult result (IsMet self left right) (λ fault. fault ≡ Fault.Memory) }
     {
-        self.beside(alloc, &left, &right)
-    }
-
-    fn beside(
-        self,
-        alloc: Global,
-        left: &Option<Value>,
-        right: &Option<Value>,
-    ) -> Result<Course, Fault>
-        requires { count_of self + 1 < 2 ^ 64 }
-        ensures { MatchResult result (λ course. course ≡ met self left.now right.now) (λ fault. fault ≡ Fault.Memory) }
-    {
-        let Course::Alike { values } = self else {
-            return Ok(self);
-        };
-        match (left, right) {
-            (None, None) => Ok(self),
-            (Some(left), Some(right)) => match equivalent(alloc, left, right) {
-                Err(_) => Err(Fault::Memory),
-                Ok(true) => Ok(Course::Alike { values: values + 1 }),
-                Ok(false) => Ok(Course::Parted { index: values + 1 }),
-            },
-            (Some(_), None) => Ok(Course::Parted { index: values + 1 }),
-            (None, Some(_)) => Ok(Course::Parted { index: values + 1 }),
+        match self {
+            Course::Alike { values } => behind(alloc, values, &left, &right),
+            Course::Parted { index, path } => Ok(Course::Parted { index, path }),
         }
     }
 
@@ -81,9 +76,42 @@ impl Course {
             },
             _ => match self {
                 Course::Alike { values } => Verdict::Equivalent { values },
-                Course::Parted { index } => Verdict::Different { index },
+                Course::Parted { index, path } => Verdict::Different { index, path },
             },
         }
+    }
+}
+
+/// The course behind so many values of each that were the same, and the next of each.
+fn behind(
+    alloc: Global,
+    values: u64,
+    left: &Option<Value>,
+    right: &Option<Value>,
+) -> Result<Course, Fault>
+    requires { values + 1 < 2 ^ 64 }
+    ensures { MatchResult result (IsMet (Course.Alike values) left.now right.now) (λ fault. fault ≡ Fault.Memory) }
+{
+    let index = values + 1;
+    match (left, right) {
+        (None, None) => Ok(Course::Alike { values }),
+        (Some(left), Some(right)) => match parting(alloc, left, right) {
+            Err(_) => Err(Fault::Memory),
+            Ok(None) => Ok(Course::Alike { values: index }),
+            Ok(Some(path)) => Ok(Course::Parted { index, path }),
+        },
+        (Some(_), None) => Ok(ended_first(alloc, index)),
+        (None, Some(_)) => Ok(ended_first(alloc, index)),
+    }
+}
+
+/// The course where only one stream has a value with this number.
+fn ended_first(alloc: Global, index: u64) -> Course
+    ensures { result ≡ Course.Parted index [] }
+{
+    Course::Parted {
+        index,
+        path: Path::empty(alloc),
     }
 }
 
@@ -91,8 +119,9 @@ impl Course {
 /// of `right` by `right_items`, each device in at most `reads` calls.
 ///
 /// `Equivalent` where both are documents and the streams are equivalent (Ion 1.0, "The Ion Data
-/// Model"), `Different` where both are and the streams part, `Refused` for the left side where that
-/// is no document, else for the right one. One value of each is read in turn. A refused left side is
+/// Model"), `Different` where both are and the streams part, with the path to where the two values
+/// there part, `Refused` for the left side where that is no document, else for the right one. One
+/// value of each is read in turn. A refused left side is
 /// answered at once; after the streams parted, or the right side was refused, both are read to the
 /// end, since the left side may still be refused. Faults are `Memory`, `Read` and `TooManyReads`.
 pub fn compare_items<I: Items + Drop, J: Items + Drop, L: Inlet, R: Inlet>(
@@ -103,18 +132,16 @@ pub fn compare_items<I: Items + Drop, J: Items + Drop, L: Inlet, R: Inlet>(
     right_items: J,
     right: &mut R,
 ) -> Result<Verdict, Fault>
-    requires left { IsFresh I.stands I.awaits I.pending left_items }
-    requires right { IsFresh J.stands J.awaits J.pending right_items }
+    requires left { IsFresh I.Items left_items }
+    requires right { IsFresh J.Items right_items }
     requires reads { reads ≤ 2 ^ 32 }
-    ensures verdict { IfOk result (IsCompared
-        (I.denotes (I.catalog left_items) (I.limits left_items))
-        (I.pieces (I.catalog left_items) (I.limits left_items))
-        (J.denotes (J.catalog right_items) (J.limits right_items))
-        (J.pieces (J.catalog right_items) (J.limits right_items))
-        L.tells R.tells left.old right.old) }
+    ensures verdict { IfOk result (IsCompared L.Inlet R.Inlet
+        (format_of I.Items (I.catalog left_items) (I.limits left_items))
+        (format_of J.Items (J.catalog right_items) (J.limits right_items))
+        left.old left.new right.old right.new) }
     ensures cause { IfErr result (λ fault.
-        IsReadCause L.calls_made L.has_failed L.has_ended reads left.old left.new fault
-        ⊎ IsReadCause R.calls_made R.has_failed R.has_ended reads right.old right.new fault) }
+        IsReadCause L.Inlet reads left.old left.new fault
+        ⊎ IsReadCause R.Inlet reads right.old right.new fault) }
 {
     let mut left_place = Place::Open(Source::new(alloc, left_items, reads)?);
     let mut right_place = Place::Open(Source::new(alloc, right_items, reads)?);

@@ -69,7 +69,7 @@ impl Items for DocReader<'_> {
     ghost use Rattle.ion_docs.specs.Documents.{Denotes, Pieces};
     ghost use Rattle.ion_docs.specs.Chosen.{chosen};
     ghost use Rattle.ion_docs.specs.DocStands.{DocStands, taken_of, failed_of, kept_of};
-    ghost use Rattle.ion_docs.specs.DocLaws.{doc_counted, doc_given, doc_bounded, chosen_grows, chosen_exact, one_document, chosen_refused, chosen_shown, chosen_unfinished, chosen_small, chosen_values};
+    ghost use Rattle.ion_docs.specs.DocLaws.{doc_counted, doc_not_failed, doc_not_refused, doc_given, doc_bounded, chosen_grows, chosen_exact, one_document, one_shown, chosen_refused, chosen_shown, chosen_unfinished, chosen_reasons, chosen_small, chosen_values};
 
     ghost catalog = { λ r. r.catalog.now };
 
@@ -97,7 +97,13 @@ impl Items for DocReader<'_> {
 
     ghost counted = { doc_counted };
 
+    ghost not_failed = { doc_not_failed };
+
+    ghost not_refused = { doc_not_refused };
+
     ghost given_so_far = { λ r u s h none. doc_given r u s h };
+
+    ghost given_with_next = { λ r u s h. tt };
 
     ghost bounded = { doc_bounded };
 
@@ -109,9 +115,13 @@ impl Items for DocReader<'_> {
 
     ghost refused = { chosen_refused };
 
+    ghost one_shown = { one_shown };
+
     ghost shown = { chosen_shown };
 
     ghost unfinished = { chosen_unfinished };
+
+    ghost reasons = { chosen_reasons };
 
     ghost small = { chosen_small };
 

@@ -1,9 +1,11 @@
 //! Whole documents of either encoding, under one catalog and limits.
 ghost use Rattle.std.specs.Prelude.{◌≡◌, ◌⊎◌, false, IfOk, IfErr, OnOk, OnErr};
 ghost use Rattle.ion_symtab.specs.Cause.{IsReadCause};
-ghost use Rattle.ion_docs.specs.Documents.{Denotes, Pieces};
+ghost use Rattle.ion_docs.specs.Encodings.{encoding_of};
+ghost use Rattle.ion_docs.specs.Formats.{documents};
 ghost use Rattle.ion_docs.specs.Checked.{IsChecked};
 ghost use Rattle.ion_docs.specs.Compared.{IsCompared};
+ghost use Rattle.ion_docs.specs.Conversion.{KeepsStream};
 ghost use Rattle.ion_docs.specs.Converted.{IsConverted, ReadSoFar, ConvertsSoFar, IsConvertCause};
 ghost use Rattle.ion_docs.specs.Listing.{IsShown, IsWriteCause, ShowsSoFar};
 
@@ -12,12 +14,17 @@ use crate::comparison::{Verdict, compare_items};
 use crate::conversion::{Target, convert_items};
 use crate::doc_reader::DocReader;
 use crate::listing::show_items;
+use ion_binary::BinaryWriter;
 use ion_model::Refusal;
 use ion_symtab::{Catalog, Fault, Inlet, Items, Limits, Outlet};
+use ion_text::TextWriter;
 use std::alloc::Global;
 
 /// How many values a document has (Ion 1.0, "The Ion Data Model"): the length of the stream that
 /// the octets of `reader` denote, or their refusal, where they are no document within `limits`.
+///
+/// The answer is right about whatever octets begin with those that `reader` handed over during the
+/// call, and end there where it answered its end. It isn't asked on behind that end.
 ///
 /// The offset of a refusal counts octets with which no document begins, or all of them; it is never
 /// `Memory`. Faults: `Memory` where a growth was refused, `Read` where the reader failed,
@@ -28,9 +35,9 @@ pub fn check<R: Inlet>(
     catalog: &Catalog,
     limits: Limits,
 ) -> Result<Result<u64, Refusal>, Fault>
-    ensures verdict { IfOk result (IsChecked R.tells (Denotes catalog.now limits) (Pieces catalog.now limits) reader.old) }
-    ensures cause { IfErr result (IsReadCause R.calls_made R.has_failed R.has_ended limits.reads
+    ensures verdict { IfOk result (IsChecked R.Inlet (documents catalog.now limits)
         reader.old reader.new) }
+    ensures cause { IfErr result (IsReadCause R.Inlet limits.reads reader.old reader.new) }
 {
     let items = DocReader::new(alloc, catalog, limits).map_err(|_| Fault::Memory)?;
     check_items(alloc, items, limits.reads(), reader)
@@ -50,28 +57,30 @@ pub fn show<R: Inlet, W: Outlet>(
     catalog: &Catalog,
     limits: Limits,
 ) -> Result<Result<u64, Refusal>, Fault>
-    ensures shown { IfOk result (IsShown R.tells (Denotes catalog.now limits) (Pieces catalog.now limits) reader.old
-        (W.took writer.old) (W.took writer.new)) }
-    ensures done { OnOk result (W.has_failed writer.new ≡ false) }
-    ensures so_far { OnErr result (ShowsSoFar R.tells ⟦<DocReader<'static> as Items>⟧.stands
-        ⟦<DocReader<'static> as Items>⟧.catalog ⟦<DocReader<'static> as Items>⟧.limits
-        (Denotes catalog.now limits) (Pieces catalog.now limits) W.took
+    ensures shown { IfOk result (IsShown R.Inlet W.Outlet (documents catalog.now limits)
+        reader.old reader.new writer.old writer.new) }
+    ensures passed_on { OnOk result (W.passed writer.new ≡ W.written writer.new) }
+    ensures fine { OnOk result (W.has_failed writer.new ≡ false) }
+    ensures so_far { OnErr result (ShowsSoFar R.Inlet ⟦<DocReader<'static> as Items>⟧ W.Outlet
         catalog.now limits reader.old reader.new writer.old writer.new) }
     ensures cause { IfErr result (λ fault.
-        IsReadCause R.calls_made R.has_failed R.has_ended limits.reads reader.old reader.new fault
-        ⊎ IsWriteCause W.has_failed writer.new fault) }
+        IsReadCause R.Inlet limits.reads reader.old reader.new fault
+        ⊎ IsWriteCause W.Outlet writer.new fault) }
 {
     let items = DocReader::new(alloc, catalog, limits).map_err(|_| Fault::Memory)?;
     show_items(alloc, items, limits.reads(), reader, writer)
 }
 
 /// Writes a document that denotes the stream of another (Ion 1.0, "The Ion Data Model"), in the encoding
-/// of `target`: the one spelling that `ion_binary` gives a stream.
+/// of `target`: the one spelling that `ion_binary` or `ion_text` gives a stream. It denotes that stream
+/// under every catalog and all limits that admit it: `item` at least the octets of each item written,
+/// `depth` at least that of each value; in binary ids up to 2^31-1, and `depth` at least 2 where a
+/// symbol table is written.
 ///
 /// The answer is that of `check`. On a refusal the conversion of the values that the octets up to it show
-/// is written. The writer is flushed last, on a refusal too. At a fault some first octets of the
+/// is written, which denotes just those. The writer is flushed last, on a refusal too. At a fault some first octets of the
 /// conversion of the values read so far were written. Faults: those of `check`, `Write` where a write or
-/// the flush failed, and `TooLarge` where a symbol would need an id above 2^31-1.
+/// the flush failed, and `TooLarge` where a symbol in binary would need an id above 2^31-1.
 pub fn convert<R: Inlet, W: Outlet>(
     alloc: Global,
     reader: &mut R,
@@ -80,30 +89,41 @@ pub fn convert<R: Inlet, W: Outlet>(
     catalog: &Catalog,
     limits: Limits,
 ) -> Result<Result<u64, Refusal>, Fault>
-    ensures converted { IfOk result (IsConverted R.tells (Denotes catalog.now limits) (Pieces catalog.now limits) reader.old
-        (W.took writer.old) (W.took writer.new)) }
-    ensures done { OnOk result (W.has_failed writer.new ≡ false) }
-    ensures so_far { OnErr result (ConvertsSoFar (ReadSoFar R.tells ⟦<DocReader<'static> as Items>⟧.stands
-        ⟦<DocReader<'static> as Items>⟧.catalog ⟦<DocReader<'static> as Items>⟧.limits
-        (Denotes catalog.now limits) (Pieces catalog.now limits) catalog.now limits reader.old reader.new)
-        W.took writer.old writer.new) }
+    ensures same { IfOk result (KeepsStream R.Inlet W.Outlet (encoding_of target) catalog.now limits
+        reader.old reader.new writer.old writer.new) }
+    ensures converted { IfOk result (IsConverted R.Inlet W.Outlet (encoding_of target)
+        (documents catalog.now limits) reader.old reader.new writer.old writer.new) }
+    ensures passed_on { OnOk result (W.passed writer.new ≡ W.written writer.new) }
+    ensures fine { OnOk result (W.has_failed writer.new ≡ false) }
+    ensures so_far { OnErr result (ConvertsSoFar (encoding_of target)
+        (ReadSoFar R.Inlet ⟦<DocReader<'static> as Items>⟧ catalog.now limits reader.old reader.new)
+        W.Outlet writer.old writer.new) }
     ensures cause { IfErr result (λ fault.
-        IsReadCause R.calls_made R.has_failed R.has_ended limits.reads reader.old reader.new fault
-        ⊎ IsConvertCause (ReadSoFar R.tells ⟦<DocReader<'static> as Items>⟧.stands
-        ⟦<DocReader<'static> as Items>⟧.catalog ⟦<DocReader<'static> as Items>⟧.limits
-        (Denotes catalog.now limits) (Pieces catalog.now limits) catalog.now limits reader.old reader.new)
+        IsReadCause R.Inlet limits.reads reader.old reader.new fault
+        ⊎ IsConvertCause (encoding_of target)
+        (ReadSoFar R.Inlet ⟦<DocReader<'static> as Items>⟧ catalog.now limits reader.old reader.new)
         (W.has_failed writer.new) fault) }
 {
+    let items = DocReader::new(alloc, catalog, limits).map_err(|_| Fault::Memory)?;
     match target {
         Target::Binary => {
-            let items = DocReader::new(alloc, catalog, limits).map_err(|_| Fault::Memory)?;
-            convert_items(alloc, items, limits.reads(), reader, writer)
+            let encoder = BinaryWriter::new(alloc)?;
+            convert_items(alloc, encoder, items, limits.reads(), reader, writer)
+        }
+        Target::Text => {
+            let encoder = TextWriter::new(alloc);
+            convert_items(alloc, encoder, items, limits.reads(), reader, writer)
         }
     }
 }
 
 /// Whether two documents have equivalent streams: as many values, and in each place values that are
-/// the same by the data model (Ion 1.0, "The Ion Data Model").
+/// the same by the data model (Ion 1.0, "The Ion Data Model"). Where the streams part, the answer is the
+/// number of the first value that isn't, and the path within the two values of that number to where they
+/// part, which is empty where only one stream has that value.
+///
+/// The verdict is right about whatever octets begin with those that the devices handed over during
+/// the call, and end there where one answered its end. Neither is asked on behind that end.
 ///
 /// One value of each is read in turn. A left side that is no document is refused at once; after the
 /// streams parted, and after the right side was refused, both are still read to the end, so that the
@@ -116,11 +136,12 @@ pub fn compare<L: Inlet, R: Inlet>(
     catalog: &Catalog,
     limits: Limits,
 ) -> Result<Verdict, Fault>
-    ensures verdict { IfOk result (IsCompared (Denotes catalog.now limits) (Pieces catalog.now limits)
-        (Denotes catalog.now limits) (Pieces catalog.now limits) L.tells R.tells left.old right.old) }
+    ensures verdict { IfOk result (IsCompared L.Inlet R.Inlet
+        (documents catalog.now limits) (documents catalog.now limits)
+        left.old left.new right.old right.new) }
     ensures cause { IfErr result (λ fault.
-        IsReadCause L.calls_made L.has_failed L.has_ended limits.reads left.old left.new fault
-        ⊎ IsReadCause R.calls_made R.has_failed R.has_ended limits.reads right.old right.new fault) }
+        IsReadCause L.Inlet limits.reads left.old left.new fault
+        ⊎ IsReadCause R.Inlet limits.reads right.old right.new fault) }
 {
     let left_items = DocReader::new(alloc, catalog, limits).map_err(|_| Fault::Memory)?;
     let right_items = DocReader::new(alloc, catalog, limits).map_err(|_| Fault::Memory)?;

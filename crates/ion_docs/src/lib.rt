@@ -2,6 +2,7 @@
 //! equivalent streams, and the conversion of one.
 #![tactic(auto)]
 
+mod catalogs;
 mod checking;
 mod comparison;
 mod conversion;
@@ -11,13 +12,22 @@ mod doc_reader;
 mod documents;
 pub mod laws;
 mod listing;
+mod paths;
 mod source;
 #[cfg(test)]
 mod tests;
+mod whole;
+#[cfg(test)]
+mod whole_tests;
+mod writers;
 
+pub use catalogs::{load_catalog, load_items};
 pub use checking::check_items;
 pub use comparison::{Side, Verdict, compare_items};
 pub use conversion::{Target, convert_items};
 pub use doc_reader::DocReader;
 pub use documents::{check, compare, convert, show};
 pub use listing::show_items;
+pub use paths::path_text;
+pub use whole::{read_all, read_items};
+pub use writers::Encoder;

@@ -1,9 +1,9 @@
 //! A line for each value of a document.
 ghost use Rattle.std.specs.Prelude.{◌≡◌, ℕ, ◌+◌, ◌^◌, ◌<◌, ◌≤◌, ◌⊎◌, List, length, true, false, IfOk, IfErr, OnOk, OnErr, Option, option_to_list, string_bytes};
-ghost use Rattle.std.specs.Io.KnownBytes.{Appends};
 ghost use Rattle.ion_model.specs.declared.value.Value.{Value};
-ghost use Rattle.ion_symtab.specs.Took.{TookFront};
+ghost use Rattle.ion_symtab.specs.Took.{Took, TookFront};
 ghost use Rattle.ion_symtab.specs.Cause.{IsReadCause};
+ghost use Rattle.ion_docs.specs.Formats.{format_of};
 ghost use Rattle.ion_docs.specs.Reading.{IsFresh};
 ghost use Rattle.ion_docs.specs.Listing.{line_of, lines_from, accepted_line, IsShown, IsWriteCause, ShowsSoFar};
 
@@ -40,11 +40,11 @@ fn write_value<W: Outlet>(
 ) -> Result<u64, Fault>
     requires { values + 1 < 2 ^ 64 }
     ensures count { IfOk result (λ n. n ≡ values + length (option_to_list value)) }
-    ensures wrote { OnOk result (Appends (W.took writer.old) (W.took writer.new)
+    ensures wrote { OnOk result (Took W.took W.written writer.old writer.new
         (lines_from (values + 1) (option_to_list value))) }
-    ensures front { OnErr result (TookFront W.took writer.old writer.new
+    ensures front { OnErr result (TookFront W.took W.written writer.old writer.new
         (lines_from (values + 1) (option_to_list value))) }
-    ensures cause { IfErr result (IsWriteCause W.has_failed writer.new) }
+    ensures cause { IfErr result (IsWriteCause W.Outlet writer.new) }
 {
     match value {
         None => Ok(values),
@@ -58,10 +58,11 @@ fn write_value<W: Outlet>(
 
 /// Writes the last line, and makes the device pass on all.
 fn write_accepted<W: Outlet>(alloc: Global, writer: &mut W, values: u64) -> Result<(), Fault>
-    ensures wrote { OnOk result (Appends (W.took writer.old) (W.took writer.new) (accepted_line values)) }
-    ensures done { OnOk result (W.has_failed writer.new ≡ false) }
-    ensures front { OnErr result (TookFront W.took writer.old writer.new (accepted_line values)) }
-    ensures cause { IfErr result (IsWriteCause W.has_failed writer.new) }
+    ensures wrote { OnOk result (Took W.took W.written writer.old writer.new (accepted_line values)) }
+    ensures passed_on { OnOk result (W.passed writer.new ≡ W.written writer.new) }
+    ensures fine { OnOk result (W.has_failed writer.new ≡ false) }
+    ensures front { OnErr result (TookFront W.took W.written writer.old writer.new (accepted_line values)) }
+    ensures cause { IfErr result (IsWriteCause W.Outlet writer.new) }
 {
     let text = accepted(alloc, values)?;
     write_whole(writer, text.as_bytes())?;
@@ -81,17 +82,18 @@ pub fn show_items<I: Items + Drop, R: Inlet, W: Outlet>(
     reader: &mut R,
     writer: &mut W,
 ) -> Result<Result<u64, Refusal>, Fault>
-    requires fresh { IsFresh I.stands I.awaits I.pending items }
+    requires fresh { IsFresh I.Items items }
     requires reads { reads ≤ 2 ^ 32 }
-    ensures shown { IfOk result (IsShown R.tells (I.denotes (I.catalog items) (I.limits items))
-        (I.pieces (I.catalog items) (I.limits items)) reader.old (W.took writer.old) (W.took writer.new)) }
-    ensures done { OnOk result (W.has_failed writer.new ≡ false) }
-    ensures so_far { OnErr result (ShowsSoFar R.tells I.stands I.catalog I.limits
-        (I.denotes (I.catalog items) (I.limits items)) (I.pieces (I.catalog items) (I.limits items)) W.took
-        (I.catalog items) (I.limits items) reader.old reader.new writer.old writer.new) }
+    ensures shown { IfOk result (IsShown R.Inlet W.Outlet
+        (format_of I.Items (I.catalog items) (I.limits items))
+        reader.old reader.new writer.old writer.new) }
+    ensures passed_on { OnOk result (W.passed writer.new ≡ W.written writer.new) }
+    ensures fine { OnOk result (W.has_failed writer.new ≡ false) }
+    ensures so_far { OnErr result (ShowsSoFar R.Inlet I.Items W.Outlet (I.catalog items)
+        (I.limits items) reader.old reader.new writer.old writer.new) }
     ensures cause { IfErr result (λ fault.
-        IsReadCause R.calls_made R.has_failed R.has_ended reads reader.old reader.new fault
-        ⊎ IsWriteCause W.has_failed writer.new fault) }
+        IsReadCause R.Inlet reads reader.old reader.new fault
+        ⊎ IsWriteCause W.Outlet writer.new fault) }
 {
     let mut source = Source::new(alloc, items, reads)?;
     let mut values: u64 = 0;

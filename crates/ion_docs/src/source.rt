@@ -1,15 +1,15 @@
 //! A document on a device: its octets are read in pieces, and a reader takes them up.
-ghost use Rattle.std.specs.Prelude.{◌≡◌, ◌≢◌, ℕ, ◌+◌, ◌-◌, ◌*◌, ◌^◌, ◌<◌, ◌≤◌, true, false, List, [], ◌∷◌, ◌++◌, length, take, drop, IfOk, IfErr, OnErr, IfSome, MatchBool, Option, IsSome, IsNone, option_to_list};
+ghost use Rattle.std.specs.Prelude.{◌≡◌, ◌≢◌, ℕ, ◌+◌, ◌-◌, ◌*◌, ◌^◌, ◌<◌, ◌≤◌, true, false, List, [], ◌∷◌, ◌++◌, length, take, drop, IfOk, IfErr, OnErr, IfSome, MatchBool, Option, IsSome, IsNone, option_map, option_to_list};
 ghost use Rattle.ion_model.specs.declared.value.Value.{Value};
 ghost use Rattle.ion_model.specs.declared.refusal.Reason.TheVariants as reasons;
 ghost use Rattle.ion_symtab.specs.declared.catalog.Catalog.{Catalog};
 ghost use Rattle.ion_symtab.specs.declared.limits.Limits.{Limits};
-ghost use Rattle.ion_symtab.specs.Trace.{plain};
-ghost use Rattle.ion_symtab.specs.Told.{Told};
+ghost use Rattle.ion_symtab.specs.Heard.{Heard};
 ghost use Rattle.ion_symtab.specs.Cause.{WereMade, IsReadCause};
-ghost use Rattle.ion_docs.specs.Reading.{left_of, Begins, IsReady, IsWithin, work, Went, Reads, GaveSoFar};
-ghost use Rattle.ion_docs.specs.Outcomes.{IsRefused};
-ghost use Rattle.ion_docs.specs.Place.{IfOpen, IsOpen, IfClosed, MatchClosed, work_of, Stood};
+ghost use Rattle.ion_docs.specs.Formats.{format_of};
+ghost use Rattle.ion_docs.specs.Reading.{left_of, Begins, IsReady, IsWithin, work, Went, Reads, ReadsEach, GaveSoFar};
+ghost use Rattle.ion_docs.specs.Outcomes.{EndsWell, EndsRefused};
+ghost use Rattle.ion_docs.specs.Place.{IfOpen, IsOpen, IfClosed, MatchClosed, work_of, Stood, StoodEach};
 
 use ion_model::{Reason, Refusal, Value};
 use ion_symtab::{Fault, Inlet, Items, Step};
@@ -21,13 +21,18 @@ const PIECE: usize = 4096;
 /// A document that is being read.
 #[derive(Drop)]
 pub struct Source<I> {
+    /// What takes the octets up.
     items: I,
     /// The octets last read from the device; those from `at` up to `end` are still to be used.
     piece: Vec<u8>,
+    /// How many octets of the piece are used.
     at: usize,
+    /// How many octets the device gave at the last call.
     end: usize,
     /// How often the device may still be asked.
     reads: u64,
+    /// How many octets of all pieces are used.
+    used: u64,
 }
 
 impl<I: Items + Drop> Source<I> {
@@ -35,7 +40,8 @@ impl<I: Items + Drop> Source<I> {
     /// no other fault, where a growth was refused.
     pub fn new(alloc: Global, items: I, reads: u64) -> Result<Source<I>, Fault>
         ensures items { IfOk result (λ source. source.items ≡ items) }
-        ensures nothing { IfOk result (λ source. (source.at ≡ 0) × (source.end ≡ 0)) }
+        ensures nothing { IfOk result (λ source.
+            (source.at ≡ 0) × (source.end ≡ 0) × (source.used ≡ 0)) }
         ensures piece { IfOk result (λ source. length source.piece.items ≡ 4096) }
         ensures reads { IfOk result (λ source. source.reads ≡ reads) }
         ensures cause { IfErr result (λ fault. fault ≡ Fault.Memory) }
@@ -47,27 +53,28 @@ impl<I: Items + Drop> Source<I> {
             at: 0,
             end: 0,
             reads,
+            used: 0,
         })
     }
 
     /// Takes up octets of the piece, up to the next value or to the piece's end.
     fn take(&mut self) -> Result<Option<Value>, Refusal>
-        requires { IsReady I.taken I.awaits self.old }
+        requires { IsReady I.Items self.old }
         ensures gives { IfOk result (λ value. (u : List ℕ) (given : List (Value × ℕ)) →
             I.stands self.old.items u given →
-            Went I.stands u given (left_of self.old) (left_of self.new) value self.new.items) }
+            Went I.Items u given (left_of self.old) self.new value) }
         ensures refuses { IfErr result (λ refusal. refusal.reason ≢ reasons.Memory →
             (u : List ℕ) (given : List (Value × ℕ)) → I.stands self.old.items u given → (more : List ℕ) →
-            IsRefused (I.denotes (I.catalog self.old.items) (I.limits self.old.items))
-            (I.pieces (I.catalog self.old.items) (I.limits self.old.items))
-            ((u ++ left_of self.old) ++ more) (plain given) refusal) }
+            EndsRefused (format_of I.Items (I.catalog self.old.items) (I.limits self.old.items))
+            ((u ++ left_of self.old) ++ more) given refusal) }
         ensures within { IfOk result (λ value. (self.old.at ≤ self.new.at) × (self.new.at ≤ self.new.end)) }
         ensures all { IfOk result (λ value. value ≡ Option.None → self.new.at ≡ self.new.end) }
         ensures taken { IfOk result (λ value.
             I.taken self.new.items + self.old.at ≡ I.taken self.old.items + self.new.at) }
-        ensures pending { IfOk result (λ value. work I.pending self.new ≤ work I.pending self.old) }
+        ensures counted { IfOk result (λ value. I.taken self.new.items ≡ self.new.used) }
+        ensures pending { IfOk result (λ value. work I.Items self.new ≤ work I.Items self.old) }
         ensures less { IfOk result (λ value. IsSome value →
-            work I.pending self.new < work I.pending self.old) }
+            work I.Items self.new < work I.Items self.old) }
         ensures begins { IfOk result (λ value. Begins (I.awaits self.new.items) (left_of self.new)) }
         ensures catalog { I.catalog self.new.items ≡ I.catalog self.old.items }
         ensures limits { I.limits self.new.items ≡ I.limits self.old.items }
@@ -79,27 +86,29 @@ impl<I: Items + Drop> Source<I> {
             Err(refusal) => Err(refusal),
             Ok(Step { used, value }) => {
                 self.at += used;
+                self.used += used as u64;
                 Ok(value)
             }
         }
     }
 
-    /// Reads another piece; answers whether the device had more octets. `Read`, and no other fault,
-    /// where the device failed.
+    /// Reads another piece; answers whether the device had more octets, or else answered its end.
+    /// `Read`, and no other fault, where the device failed.
     fn fill<R: Inlet>(&mut self, reader: &mut R) -> Result<bool, Fault>
         requires reads { 0 < self.old.reads }
         requires piece { length self.old.piece.items ≡ 4096 }
         ensures piece { length self.new.piece.items ≡ 4096 }
-        ensures told { IfOk result (λ more. Told R.tells reader.old reader.new (left_of self.new)) }
+        ensures heard { IfOk result (λ more. more ≡ true →
+            Heard R.Inlet reader.old reader.new (left_of self.new) false) }
         ensures ends { IfOk result (λ more. more ≡ false →
-            (R.tells reader.new []) × (self.new.end ≡ 0)) }
+            Heard R.Inlet reader.old reader.new [] true × (self.new.end ≡ 0)) }
         ensures within { IfOk result (λ more. (self.new.at ≡ 0) × (self.new.end ≤ 4096)) }
         ensures items { self.new.items ≡ self.old.items }
+        ensures used { self.new.used ≡ self.old.used }
         ensures reads { self.new.reads + 1 ≡ self.old.reads }
         ensures asked { IfOk result (λ more. more ≡ true → (first : R) (made : ℕ) →
-            WereMade R.calls_made R.has_ended made first reader.old →
-            WereMade R.calls_made R.has_ended (made + 1) first reader.new) }
-        ensures kept { OnErr result (Told R.tells reader.old reader.new []) }
+            WereMade R.Inlet made first reader.old → WereMade R.Inlet (made + 1) first reader.new) }
+        ensures kept { OnErr result (Heard R.Inlet reader.old reader.new [] false) }
         ensures cause { IfErr result (λ fault. (fault ≡ Fault.Read) × (R.has_failed reader.new ≡ true)) }
     {
         self.reads -= 1;
@@ -116,11 +125,14 @@ impl<I: Items + Drop> Source<I> {
     }
 }
 
-/// Where a document stands: it can be read on, it has ended, or it is no document.
+/// Where a document stands.
 #[derive(Drop)]
 pub enum Place<I> {
+    /// It can be read on.
     Open(Source<I>),
+    /// It was a document, and the device has answered its end.
     Ended,
+    /// It is no document.
     Refused(Refusal),
 }
 
@@ -142,26 +154,65 @@ impl<I> Place<I> {
 ///
 /// Faults are `Memory`, `Read` and `TooManyReads`.
 pub fn next_value<I: Items + Drop, R: Inlet>(
-    mut source: Source<I>,
+    source: Source<I>,
     reader: &mut R,
 ) -> Result<(Place<I>, Option<Value>), Fault>
-    requires { IsReady I.taken I.awaits source }
+    requires { IsReady I.Items source }
     ensures gives { IfOk result (λ next. (g : Catalog) (l : Limits) (first : R) (s : List Value) →
-        Reads R.tells I.stands I.catalog I.limits g l first reader.old source s →
-        Stood R.tells I.stands I.catalog I.limits I.denotes I.pieces g l first reader.new next.0
-        (s ++ option_to_list next.1)) }
-    ensures ready { IfOk result (λ next. IfOpen next.0 (IsReady I.taken I.awaits)) }
+        Reads R.Inlet I.Items g l first reader.old source s →
+        Stood R.Inlet I.Items g l first reader.new next.0 (s ++ option_to_list next.1)) }
+    ensures ready { IfOk result (λ next. IfOpen next.0 (IsReady I.Items)) }
     ensures none { IfOk result (λ next. next.1 ≡ Option.None → IfOpen next.0 (λ after. ⊥)) }
-    ensures less { IfOk result (λ next. work_of I.pending next.0 < work I.pending source + 1) }
+    ensures less { IfOk result (λ next. work_of I.Items next.0 < work I.Items source + 1) }
     ensures within { IfOk result (λ next. (first : R) (reads : ℕ) →
-        IsWithin R.calls_made R.has_ended reads first reader.old source →
-        IfOpen next.0 (IsWithin R.calls_made R.has_ended reads first reader.new)) }
+        IsWithin R.Inlet reads first reader.old source →
+        IfOpen next.0 (IsWithin R.Inlet reads first reader.new)) }
     ensures cause { IfErr result (λ fault. (first : R) (reads : ℕ) →
-        IsWithin R.calls_made R.has_ended reads first reader.old source →
-        IsReadCause R.calls_made R.has_failed R.has_ended reads first reader.new fault) }
+        IsWithin R.Inlet reads first reader.old source →
+        IsReadCause R.Inlet reads first reader.new fault) }
     ensures kept { OnErr result ((g : Catalog) (l : Limits) (first : R) (s : List Value) →
-        Reads R.tells I.stands I.catalog I.limits g l first reader.old source s →
-        GaveSoFar R.tells I.stands I.catalog I.limits g l first reader.new s) }
+        Reads R.Inlet I.Items g l first reader.old source s →
+        GaveSoFar R.Inlet I.Items g l first reader.new s) }
+{
+    match next_placed(source, reader) {
+        Err(fault) => Err(fault),
+        Ok((place, found)) => Ok((place, value_of(found))),
+    }
+}
+
+/// The value alone.
+fn value_of(found: Option<(Value, u64)>) -> Option<Value>
+    ensures { result ≡ option_map (λ next. next.0) found }
+{
+    match found {
+        None => None,
+        Some((value, _)) => Some(value),
+    }
+}
+
+/// Reads on as `next_value` does. The value comes with the number of octets that were used by then:
+/// those of all pieces where only the end showed it to be whole.
+pub fn next_placed<I: Items + Drop, R: Inlet>(
+    mut source: Source<I>,
+    reader: &mut R,
+) -> Result<(Place<I>, Option<(Value, u64)>), Fault>
+    requires { IsReady I.Items source }
+    ensures gives { IfOk result (λ next.
+        (g : Catalog) (l : Limits) (first : R) (given : List (Value × ℕ)) →
+        ReadsEach R.Inlet I.Items g l first reader.old source given →
+        StoodEach R.Inlet I.Items g l first reader.new next.0 (given ++ option_to_list next.1)) }
+    ensures ready { IfOk result (λ next. IfOpen next.0 (IsReady I.Items)) }
+    ensures none { IfOk result (λ next. next.1 ≡ Option.None → IfOpen next.0 (λ after. ⊥)) }
+    ensures less { IfOk result (λ next. work_of I.Items next.0 < work I.Items source + 1) }
+    ensures within { IfOk result (λ next. (first : R) (reads : ℕ) →
+        IsWithin R.Inlet reads first reader.old source →
+        IfOpen next.0 (IsWithin R.Inlet reads first reader.new)) }
+    ensures cause { IfErr result (λ fault. (first : R) (reads : ℕ) →
+        IsWithin R.Inlet reads first reader.old source →
+        IsReadCause R.Inlet reads first reader.new fault) }
+    ensures kept { OnErr result ((g : Catalog) (l : Limits) (first : R) (s : List Value) →
+        Reads R.Inlet I.Items g l first reader.old source s →
+        GaveSoFar R.Inlet I.Items g l first reader.new s) }
 {
     loop {
         match source.take() {
@@ -172,7 +223,10 @@ pub fn next_value<I: Items + Drop, R: Inlet>(
                 },
             ) => return Err(Fault::Memory),
             Err(refusal) => return Ok((Place::Refused(refusal), None)),
-            Ok(Some(value)) => return Ok((Place::Open(source), Some(value))),
+            Ok(Some(value)) => {
+                let used = source.used;
+                return Ok((Place::Open(source), Some((value, used))));
+            }
             Ok(None) => {}
         }
         if source.reads == 0 {
@@ -184,20 +238,23 @@ pub fn next_value<I: Items + Drop, R: Inlet>(
     }
 }
 
-/// What the end of a document gives.
-fn last<I: Items + Drop>(source: Source<I>) -> Result<(Place<I>, Option<Value>), Fault>
-    requires { IsNone (I.awaits source.items) }
+/// What the end of a document gives; a value comes with the number of all its octets.
+fn last<I: Items + Drop>(source: Source<I>) -> Result<(Place<I>, Option<(Value, u64)>), Fault>
+    requires awaited { IsNone (I.awaits source.items) }
+    requires counted { I.taken source.items ≡ source.used }
     ensures ends { IfOk result (λ next. (u : List ℕ) (given : List (Value × ℕ)) →
         I.stands source.items u given → MatchClosed next.0
-        (I.denotes (I.catalog source.items) (I.limits source.items) u (plain given ++ option_to_list next.1))
-        (λ refusal. (next.1 ≡ Option.None) × IsRefused
-        (I.denotes (I.catalog source.items) (I.limits source.items))
-        (I.pieces (I.catalog source.items) (I.limits source.items)) u (plain given) refusal)) }
+        (EndsWell (format_of I.Items (I.catalog source.items) (I.limits source.items)) u
+        (given ++ option_to_list next.1))
+        (λ refusal. (next.1 ≡ Option.None) × EndsRefused
+        (format_of I.Items (I.catalog source.items) (I.limits source.items)) u given refusal)) }
     ensures closed { IfOk result (λ next. IfOpen next.0 (λ source. ⊥)) }
     ensures cause { IfErr result (λ fault. fault ≡ Fault.Memory) }
 {
+    let used = source.used;
     match source.items.finish() {
-        Ok(value) => Ok((Place::Ended, value)),
+        Ok(None) => Ok((Place::Ended, None)),
+        Ok(Some(value)) => Ok((Place::Ended, Some((value, used)))),
         Err(
             Refusal {
                 reason: Reason::Memory,
@@ -213,23 +270,22 @@ pub fn advance<I: Items + Drop, R: Inlet>(
     place: Place<I>,
     reader: &mut R,
 ) -> Result<(Place<I>, Option<Value>), Fault>
-    requires { IfOpen place (IsReady I.taken I.awaits) }
+    requires { IfOpen place (IsReady I.Items) }
     ensures gives { IfOk result (λ next. (g : Catalog) (l : Limits) (first : R) (s : List Value) →
-        Stood R.tells I.stands I.catalog I.limits I.denotes I.pieces g l first reader.old place s →
-        Stood R.tells I.stands I.catalog I.limits I.denotes I.pieces g l first reader.new next.0
-        (s ++ option_to_list next.1)) }
-    ensures ready { IfOk result (λ next. IfOpen next.0 (IsReady I.taken I.awaits)) }
+        Stood R.Inlet I.Items g l first reader.old place s →
+        Stood R.Inlet I.Items g l first reader.new next.0 (s ++ option_to_list next.1)) }
+    ensures ready { IfOk result (λ next. IfOpen next.0 (IsReady I.Items)) }
     ensures none { IfOk result (λ next. next.1 ≡ Option.None → IfOpen next.0 (λ after. ⊥)) }
     ensures less { IfOk result (λ next.
-        IfOpen place (λ source. work_of I.pending next.0 < work_of I.pending place)) }
+        IfOpen place (λ source. work_of I.Items next.0 < work_of I.Items place)) }
     ensures closed { IfOk result (λ next.
         IfClosed place ((next.0 ≡ place) × (next.1 ≡ Option.None))) }
     ensures within { IfOk result (λ next. (first : R) (reads : ℕ) →
-        IfOpen place (IsWithin R.calls_made R.has_ended reads first reader.old) →
-        IfOpen next.0 (IsWithin R.calls_made R.has_ended reads first reader.new)) }
+        IfOpen place (IsWithin R.Inlet reads first reader.old) →
+        IfOpen next.0 (IsWithin R.Inlet reads first reader.new)) }
     ensures cause { IfErr result (λ fault. (first : R) (reads : ℕ) →
-        IfOpen place (IsWithin R.calls_made R.has_ended reads first reader.old) →
-        IsReadCause R.calls_made R.has_failed R.has_ended reads first reader.new fault) }
+        IfOpen place (IsWithin R.Inlet reads first reader.old) →
+        IsReadCause R.Inlet reads first reader.new fault) }
 {
     match place {
         Place::Open(source) => next_value(source, reader),

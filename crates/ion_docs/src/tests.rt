@@ -1,9 +1,10 @@
 //! Worked rows of binary documents, whole and however cut, and devices that fail once and then would
 //! go on. `M` in a comment stands for the version marker `E0 01 00 EA`.
 
-use crate::{DocReader, Side, Verdict, check, compare, show};
+use crate::{DocReader, Side, check, show};
 use ion_model::{Kind, Reason, Refusal};
 use ion_symtab::{Catalog, Fault, FromRead, Inlet, Items, Limits, ToWrite};
+use std::alloc::Global;
 use std::io;
 use std::io::{Read, Write};
 use std::test::Fail;
@@ -340,6 +341,29 @@ fn checks(rt: HostRuntime) -> Result<(), Fail> {
         assert_eq!(rt; checked, answer, "{:?} in single octets", row.octets);
     }
     Ok(())
+}
+
+/// What `compare` answers, but for the path.
+#[derive(Clone, Copy, Debug, PartialEq, Eq)]
+enum Verdict {
+    Equivalent { values: u64 },
+    Different { index: u64 },
+    Refused { side: Side, refusal: Refusal },
+}
+
+/// `compare`, without the path.
+fn compare<L: Inlet, R: Inlet>(
+    alloc: Global,
+    left: &mut L,
+    right: &mut R,
+    catalog: &Catalog,
+    limits: Limits,
+) -> Result<Verdict, Fault> {
+    match crate::compare(alloc, left, right, catalog, limits)? {
+        crate::Verdict::Equivalent { values } => Ok(Verdict::Equivalent { values }),
+        crate::Verdict::Different { index, .. } => Ok(Verdict::Different { index }),
+        crate::Verdict::Refused { side, refusal } => Ok(Verdict::Refused { side, refusal }),
+    }
 }
 
 /// Two documents, and what `compare` answers.

@@ -11,12 +11,12 @@ loop-place-init g c =
     let fresh = c.requires.fresh in
     let pending : g.I.Items.pending source.items ≡ 0 = ap (λ x. g.I.Items.pending x) new.items ∙ fresh.owes in
     record {
-      ready = ready_begun g.I.Items.taken g.I.Items.awaits source c.args.items (g.met.I.Items.counted c.args.items [] [] fresh.stood) fresh.awaited new.items new.nothing new.piece (omega (arith, new.reads));
+      ready = ready_begun g.I.Items source c.args.items (g.met.I.Items.counted c.args.items [] [] fresh.stood) fresh.awaited new.items new.nothing new.piece (omega (arith, new.reads));
       bound = omega (arith, new.reads, new.nothing.0, new.nothing.1);
-      within = within_begun g.R.Inlet.calls_made g.R.Inlet.has_ended c.args.reader.now source c.args.reads new.reads;
+      within = within_begun g.R.Inlet c.args.reader.now source c.args.reads new.reads;
       reads = (
         [],
-        reads_begun g.R.Inlet.tells g.I.Items.stands g.I.Items.catalog g.I.Items.limits c.args.reader.now source c.args.items fresh.stood new.items
+        reads_begun g.R.Inlet g.I.Items c.args.reader.now source c.args.items fresh.stood new.items
             (between_nil source.piece.items source.at source.end (omega (arith, new.nothing.0, new.nothing.1))),
         refl,
       );

@@ -5,11 +5,11 @@ use Rattle.ion_docs.proofs.checking.check_items.Given as goal
 
 abbrev pub invariant-loop-place : goal.invariant-loop-place
 invariant-loop-place g l = record {
-  ready : IsReady g.I.Items.taken g.I.Items.awaits l.source;
-  bound : l.values + work g.I.Items.pending l.source ≤ 8193 * 2 ^ 32;
-  within : IsWithin g.R.Inlet.calls_made g.R.Inlet.has_ended l.fn.reads l.fn.reader l.reader l.source;
-  reads : (s : List Value) × Reads g.R.Inlet.tells g.I.Items.stands g.I.Items.catalog g.I.Items.limits (g.I.Items.catalog l.fn.items) (g.I.Items.limits l.fn.items) l.fn.reader l.reader l.source s × (length s ≡ l.values);
+  ready : IsReady g.I.Items l.source;
+  bound : l.values + work g.I.Items l.source ≤ 8193 * 2 ^ 32;
+  within : IsWithin g.R.Inlet l.fn.reads l.fn.reader l.reader l.source;
+  reads : (s : List Value) × Reads g.R.Inlet g.I.Items (g.I.Items.catalog l.fn.items) (g.I.Items.limits l.fn.items) l.fn.reader l.reader l.source s × (length s ≡ l.values);
 }
 
 abbrev pub decreases-loop-place : goal.decreases-loop-place
-decreases-loop-place g l = work g.I.Items.pending l.source
+decreases-loop-place g l = work g.I.Items l.source

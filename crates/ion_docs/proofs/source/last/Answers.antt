@@ -1,5 +1,6 @@
 use Rattle.std.proofs.Common.{rules, refl, ◌≢◌}
 use Rattle.ion_model.specs.declared.refusal.Reason.TheVariants as reasons
+use Rattle.ion_docs.specs.Formats.{format_of}
 use Rattle.ion_docs.proofs.Endings.{refused_late}
 use Rattle.ion_docs.proofs.source.last.Goals as goal
 
@@ -9,8 +10,8 @@ returns-clause-ends g c = λ u given h.
     let catalog = g.I.Items.catalog c.args.source.items in
     let limits = g.I.Items.limits c.args.source.items in (
       refl,
-      refused_late (g.I.Items.denotes catalog limits) (g.I.Items.pieces catalog limits) u given (g.I.Items.trace catalog limits u) c.in-Err.refusal (g.I.Items.open_after limits)
-          (g.met.I.Items.given_so_far c.args.source.items u given h c.requires) (c.in-Err.ensures.ends u given h other) other
+      refused_late (format_of g.I.Items catalog limits) (g.met.I.Items.reasons catalog limits) u given c.in-Err.refusal (g.I.Items.open_after limits)
+          (g.met.I.Items.given_so_far c.args.source.items u given h c.requires.awaited) (c.in-Err.ensures.ends u given h other)
           (g.met.I.Items.refused catalog limits u) (g.met.I.Items.shown catalog limits u) (g.met.I.Items.unfinished catalog limits u c.in-Err.refusal)
           (λ s. (g.met.I.Items.exact catalog limits u s).1),
     )

@@ -1,0 +1,8 @@
+use Rattle.std.proofs.Common.{rules, ◌≡◌}
+use Rattle.ion_docs.proofs.documents.check.Goals as goal
+
+pub returns-clause-verdict : goal.returns-clause-verdict
+returns-clause-verdict g c =
+    let under : c.in_ok-items.items.catalog.now ≡ c.args.catalog.now = search rules in
+    let within : c.in_ok-items.items.limits ≡ c.args.limits = search rules in
+    rw (← under, ← within) c.check_items.ensures.verdict

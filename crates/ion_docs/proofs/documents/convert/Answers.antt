@@ -1,0 +1,34 @@
+use Rattle.std.proofs.Common.{rules, ◌≡◌, IfOk}
+use Rattle.ion_docs.specs.Encodings.{encoding_of}
+use Rattle.ion_docs.specs.Formats.{documents}
+use Rattle.ion_docs.specs.Conversion.{WritesKept}
+use Rattle.ion_docs.specs.ConversionLaws.{keeps_if}
+use Rattle.ion_docs.proofs.documents.convert.Goals as goal
+
+pub returns-in_ok-encoder-in-Binary-clause-same : goal.returns-in_ok-encoder-in-Binary-clause-same
+returns-in_ok-encoder-in-Binary-clause-same g c =
+    let under : c.in_ok-items.items.catalog.now ≡ c.args.catalog.now = search rules in
+    let within : c.in_ok-items.items.limits ≡ c.args.limits = search rules in
+    let kept : IfOk c.convert_items.result (WritesKept g.R.Inlet g.W.Outlet (encoding_of c.args.target) (documents c.args.catalog.now c.args.limits) c.args.reader.now c.convert_items.new.reader c.args.writer.now c.convert_items.new.writer) =
+    rw (c.in-Binary.is, ← under, ← within) c.convert_items.ensures.kept in
+    keeps_if g.R.Inlet g.W.Outlet c.args.catalog.now c.args.limits c.args.reader.now c.convert_items.new.reader c.args.writer.now c.convert_items.new.writer c.args.target c.convert_items.result kept
+
+pub returns-in_ok-encoder-in-Binary-clause-converted : goal.returns-in_ok-encoder-in-Binary-clause-converted
+returns-in_ok-encoder-in-Binary-clause-converted g c =
+    let under : c.in_ok-items.items.catalog.now ≡ c.args.catalog.now = search rules in
+    let within : c.in_ok-items.items.limits ≡ c.args.limits = search rules in
+    rw (c.in-Binary.is, ← under, ← within) c.convert_items.ensures.converted
+
+pub returns-in-Text-clause-same : goal.returns-in-Text-clause-same
+returns-in-Text-clause-same g c =
+    let under : c.in_ok-items.items.catalog.now ≡ c.args.catalog.now = search rules in
+    let within : c.in_ok-items.items.limits ≡ c.args.limits = search rules in
+    let kept : IfOk c.convert_items-in-Text.result (WritesKept g.R.Inlet g.W.Outlet (encoding_of c.args.target) (documents c.args.catalog.now c.args.limits) c.args.reader.now c.convert_items-in-Text.new.reader c.args.writer.now c.convert_items-in-Text.new.writer) =
+    rw (c.in-Text.is, ← under, ← within) c.convert_items-in-Text.ensures.kept in
+    keeps_if g.R.Inlet g.W.Outlet c.args.catalog.now c.args.limits c.args.reader.now c.convert_items-in-Text.new.reader c.args.writer.now c.convert_items-in-Text.new.writer c.args.target c.convert_items-in-Text.result kept
+
+pub returns-in-Text-clause-converted : goal.returns-in-Text-clause-converted
+returns-in-Text-clause-converted g c =
+    let under : c.in_ok-items.items.catalog.now ≡ c.args.catalog.now = search rules in
+    let within : c.in_ok-items.items.limits ≡ c.args.limits = search rules in
+    rw (c.in-Text.is, ← under, ← within) c.convert_items-in-Text.ensures.converted

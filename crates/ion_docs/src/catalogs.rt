@@ -1,0 +1,104 @@
+//! Catalogs from documents.
+ghost use Rattle.std.specs.Prelude.{◌≡◌, ◌⊎◌, ◌^◌, ◌≤◌, [], IfOk, IfErr, MatchResult, Ok, Err, option_to_list};
+ghost use Rattle.ion_model.specs.declared.refusal.Reason.TheVariants as reasons;
+ghost use Rattle.ion_symtab.specs.Cause.{IsReadCause};
+ghost use Rattle.ion_docs.specs.Formats.{documents, format_of};
+ghost use Rattle.ion_docs.specs.Reading.{IsFresh};
+ghost use Rattle.ion_docs.specs.Loaded.{added, catalog_of, IsLoaded};
+
+use crate::doc_reader::DocReader;
+use crate::source::{Place, Source, next_placed};
+use ion_model::{Reason, Refusal, Value};
+use ion_symtab::{Catalog, Fault, Inlet, Items, Limits, SharedTable};
+use std::alloc::Global;
+
+/// The catalog of the shared symbol tables that the values of a document describe (Ion 1.0, "Symbols",
+/// "Shared Symbol Tables"). The document is read under a catalog of no tables.
+///
+/// Each value has to be a table that `SharedTable::from_value` takes, and no name and version may come
+/// twice; the first value that is none is refused at once: `BadTable`, `RepeatedField` and
+/// `DuplicateTable` carry the number of octets that were used when the value came, all octets where only
+/// the end showed it to be whole. Octets that are no document are refused as by `check`, and faults are
+/// those of `check`.
+///
+/// The answer is right about whatever octets begin with those that `reader` handed over during the
+/// call, and end there where it answered its end.
+pub fn load_catalog<R: Inlet>(
+    alloc: Global,
+    reader: &mut R,
+    limits: Limits,
+) -> Result<Result<Catalog, Refusal>, Fault>
+    ensures loaded { IfOk result (IsLoaded R.Inlet (documents [] limits) reader.old reader.new) }
+    ensures cause { IfErr result (IsReadCause R.Inlet limits.reads reader.old reader.new) }
+{
+    let none = Catalog::new(alloc);
+    let items = DocReader::new(alloc, &none, limits).map_err(|_| Fault::Memory)?;
+    load_items(alloc, items, limits.reads(), reader)
+}
+
+/// The catalog of the tables that the values of a document describe, whose octets `items` reads from
+/// `reader` in at most `reads` calls; or the refusal of octets that are no document of such values, as
+/// `load_catalog` answers it.
+pub fn load_items<I: Items + Drop, R: Inlet>(
+    alloc: Global,
+    items: I,
+    reads: u64,
+    reader: &mut R,
+) -> Result<Result<Catalog, Refusal>, Fault>
+    requires fresh { IsFresh I.Items items }
+    requires reads { reads ≤ 2 ^ 32 }
+    ensures loaded { IfOk result (IsLoaded R.Inlet
+        (format_of I.Items (I.catalog items) (I.limits items)) reader.old reader.new) }
+    ensures cause { IfErr result (IsReadCause R.Inlet reads reader.old reader.new) }
+{
+    let mut source = Source::new(alloc, items, reads)?;
+    let mut catalog = Catalog::new(alloc);
+    loop {
+        let (place, found) = next_placed(source, reader)?;
+        match add_found(alloc, &mut catalog, found)? {
+            Err(refusal) => return Ok(Err(refusal)),
+            Ok(()) => {}
+        }
+        match place {
+            Place::Open(after) => source = after,
+            Place::Ended => return Ok(Ok(catalog)),
+            Place::Refused(refusal) => return Ok(Err(refusal)),
+        }
+    }
+}
+
+/// Adds the table of the next value, which came with so many octets, if there is one. `Memory` is the
+/// only fault.
+fn add_found(
+    alloc: Global,
+    catalog: &mut Catalog,
+    found: Option<(Value, u64)>,
+) -> Result<Result<(), Refusal>, Fault>
+    ensures { MatchResult result
+        (λ answer. MatchResult answer
+        (λ _. catalog_of catalog.old (option_to_list found) ≡ Ok catalog.new)
+        (λ refusal. catalog_of catalog.old (option_to_list found) ≡ Err refusal))
+        (λ fault. fault ≡ Fault.Memory) }
+{
+    match found {
+        None => Ok(Ok(())),
+        Some((value, offset)) => match add_table(alloc, catalog, &value) {
+            Ok(()) => Ok(Ok(())),
+            Err(Reason::Memory) => Err(Fault::Memory),
+            Err(reason) => Ok(Err(Refusal { offset, reason })),
+        },
+    }
+}
+
+/// Adds the table that a value describes.
+fn add_table(alloc: Global, catalog: &mut Catalog, value: &Value) -> Result<(), Reason>
+    ensures { MatchResult result
+        (λ _. added catalog.old value.now ≡ Ok catalog.new)
+        (λ reason. reason ≡ reasons.Memory ⊎ added catalog.old value.now ≡ Err reason) }
+{
+    let table = SharedTable::from_value(alloc, value)?;
+    match catalog.add(table) {
+        Ok(()) => Ok(()),
+        Err((_, reason)) => Err(reason),
+    }
+}

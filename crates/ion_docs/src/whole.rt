@@ -1,0 +1,76 @@
+//! All values of a document.
+ghost use Rattle.std.specs.Prelude.{◌≡◌, ◌^◌, ◌≤◌, ◌++◌, List, IfOk, IfErr, MatchResult, OnOk, option_to_list};
+ghost use Rattle.ion_model.specs.declared.value.Value.{Value};
+ghost use Rattle.ion_symtab.specs.Cause.{IsReadCause};
+ghost use Rattle.ion_docs.specs.Formats.{documents, format_of};
+ghost use Rattle.ion_docs.specs.Reading.{IsFresh};
+ghost use Rattle.ion_docs.specs.Outcomes.{ToldDocument, ToldRefused};
+
+use crate::doc_reader::DocReader;
+use crate::source::{Place, Source, next_value};
+use ion_model::{Refusal, Value};
+use ion_symtab::{Catalog, Fault, Inlet, Items, Limits};
+use std::alloc::Global;
+
+/// All values of a document in order: the stream that the octets of `reader` denote (Ion 1.0, "The Ion
+/// Data Model"), or their refusal, where they are no document within `limits`.
+///
+/// Shared symbol tables are ordinary values here, and local ones are none. Refusals and faults are those
+/// of `check`. The answer is right about whatever octets begin with those that `reader` handed over
+/// during the call, and end there where it answered its end.
+pub fn read_all<R: Inlet>(
+    alloc: Global,
+    reader: &mut R,
+    catalog: &Catalog,
+    limits: Limits,
+) -> Result<Result<Vec<Value>, Refusal>, Fault>
+    ensures stream { let F = documents catalog.now limits in IfOk result (λ answer. MatchResult answer
+        (λ values. ToldDocument R.Inlet F reader.old reader.new values.items)
+        (λ refusal. (s : List Value) × ToldRefused R.Inlet F reader.old reader.new s refusal)) }
+    ensures cause { IfErr result (IsReadCause R.Inlet limits.reads reader.old reader.new) }
+{
+    let items = DocReader::new(alloc, catalog, limits).map_err(|_| Fault::Memory)?;
+    read_items(alloc, items, limits.reads(), reader)
+}
+
+/// All values of a document in order, whose octets `items` reads from `reader` in at most `reads` calls;
+/// or the refusal of octets that are no document.
+///
+/// Refusals are those of `items`, but never `Memory`. Faults are `Memory`, `Read` and `TooManyReads`.
+pub fn read_items<I: Items + Drop, R: Inlet>(
+    alloc: Global,
+    items: I,
+    reads: u64,
+    reader: &mut R,
+) -> Result<Result<Vec<Value>, Refusal>, Fault>
+    requires fresh { IsFresh I.Items items }
+    requires reads { reads ≤ 2 ^ 32 }
+    ensures stream { let F = format_of I.Items (I.catalog items) (I.limits items) in
+        IfOk result (λ answer. MatchResult answer
+        (λ values. ToldDocument R.Inlet F reader.old reader.new values.items)
+        (λ refusal. (s : List Value) × ToldRefused R.Inlet F reader.old reader.new s refusal)) }
+    ensures cause { IfErr result (IsReadCause R.Inlet reads reader.old reader.new) }
+{
+    let mut source = Source::new(alloc, items, reads)?;
+    let mut values = Vec::new(alloc);
+    loop {
+        let (place, value) = next_value(source, reader)?;
+        put_next(&mut values, value)?;
+        match place {
+            Place::Open(after) => source = after,
+            Place::Ended => return Ok(Ok(values)),
+            Place::Refused(refusal) => return Ok(Err(refusal)),
+        }
+    }
+}
+
+/// Puts the next value behind the others, if there is one. `Memory` is the only fault.
+fn put_next(values: &mut Vec<Value>, value: Option<Value>) -> Result<(), Fault>
+    ensures more { OnOk result (values.new.items ≡ values.old.items ++ option_to_list value) }
+    ensures cause { IfErr result (λ fault. fault ≡ Fault.Memory) }
+{
+    if let Some(value) = value {
+        values.push(value)?;
+    }
+    Ok(())
+}
