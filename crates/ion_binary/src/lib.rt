@@ -12,8 +12,6 @@ mod scalar;
 mod slots;
 mod state;
 mod table;
-#[cfg(test)]
-mod tests;
 mod whole;
 mod writer;
 

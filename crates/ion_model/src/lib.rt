@@ -13,18 +13,12 @@ pub mod laws;
 mod measures;
 mod normal;
 mod path;
-#[cfg(test)]
-mod path_tests;
 mod refusal;
 mod same;
 mod sequence;
 mod symbol;
-#[cfg(test)]
-mod tests;
 mod text;
 pub mod time_laws;
-#[cfg(test)]
-mod time_tests;
 mod timestamp;
 mod value;
 mod whole;

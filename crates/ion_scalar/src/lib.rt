@@ -23,8 +23,3 @@ pub use put::{put_decimal, put_int, put_uint, put_var_int, put_var_uint};
 pub use text::put_number;
 pub use timestamp_body::timestamp_of;
 pub use timestamp_writer::put_timestamp;
-
-#[cfg(test)]
-mod body_tests;
-#[cfg(test)]
-mod tests;

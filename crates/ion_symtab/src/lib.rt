@@ -16,8 +16,6 @@ mod outlet;
 mod segments;
 mod shared_table;
 mod symbols;
-#[cfg(test)]
-mod tests;
 mod writing;
 
 pub use catalog::Catalog;

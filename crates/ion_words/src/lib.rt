@@ -7,8 +7,6 @@
 mod command_line;
 pub mod laws;
 mod request;
-#[cfg(test)]
-mod tests;
 mod words;
 
 pub use request::{Encoding, Request, Task, WordsError};

@@ -1,7 +1,7 @@
 //! What the reader answers on worked documents, at every cut.
 ghost use Rattle.std.specs.Prelude.{◌≡◌, ◌+◌, ◌≤◌, ◌<◌, ◌^◌, true, length, IfOk};
 
-use crate::BinaryReader;
+use ion_binary::BinaryReader;
 use ion_model::{Payload, Reason, Refusal, Value, equivalent};
 use ion_symtab::{Catalog, Items, Limits, Step};
 use std::alloc::Global;

@@ -1,17 +1,11 @@
 // Values of the Ion 1.0 data model, with their kinds, measures and equivalence worked out by hand.
-use crate::compare::order;
-use crate::decimal::Decimal;
-use crate::equivalence::equivalent;
-use crate::kind::Kind;
-use crate::normal::normalise;
-use crate::refusal::Reason;
-use crate::same::same_slow;
-use crate::sequence::Sequence;
-use crate::symbol::Symbol;
-use crate::text::Text;
-use crate::timestamp::{Local, Precision, Timestamp};
-use crate::value::{Field, Payload, Value};
-use crate::whole::Whole;
+mod paths;
+mod times;
+
+use ion_model::{
+    Decimal, Field, Kind, Local, Payload, Precision, Reason, Sequence, Symbol, Text, Timestamp,
+    Value, Whole, equivalent, normalise, order, same_slow,
+};
 use std::alloc::Global;
 use std::cmp::Ordering;
 use std::test::Fail;

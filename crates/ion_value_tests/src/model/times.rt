@@ -1,8 +1,7 @@
 // Dates, offsets and decimals, with the answers of the Ion specification and the Gregorian calendar
 // worked out by hand.
-use crate::calendar::{self, Date, Minute};
-use crate::decimal::Decimal;
-use crate::timestamp::{Local, Precision, Timestamp};
+use ion_model::calendar::{self, Date, Minute};
+use ion_model::{Decimal, Local, Precision, Timestamp};
 use std::cmp::Ordering;
 
 fn minute(year: u16, month: u8, day: u8, hour: u8, minute: u8) -> Local {

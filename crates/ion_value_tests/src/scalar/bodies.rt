@@ -1,5 +1,7 @@
-use crate::{Number, decimal_of, number_of, put_decimal, put_number, put_timestamp, timestamp_of};
 use ion_model::Reason;
+use ion_scalar::{
+    Number, decimal_of, number_of, put_decimal, put_number, put_timestamp, timestamp_of,
+};
 use std::alloc::Global;
 
 fn text_of(alloc: Global, number: Number) -> Result<Vec<u8>, Reason> {

@@ -1,6 +1,6 @@
 //! Catalogs, contexts and local symbol tables, on tables built here.
-use crate::{Catalog, Context, SharedTable};
 use ion_model::{Field, Kind, Payload, Reason, Sequence, Symbol, Text, Value, Whole};
+use ion_symtab::{Catalog, Context, SharedTable};
 use std::alloc::Global;
 use std::test::Fail;
 

@@ -1,11 +1,6 @@
 // Pairs of values and the paths to where they part, worked out by hand.
-use crate::path::{Part, Path, parting};
-use crate::refusal::Reason;
-use crate::sequence::Sequence;
-use crate::symbol::Symbol;
-use crate::tests::{annotated, bare, decimal, int, list, local, one, timestamp, two, with};
-use crate::timestamp::Precision;
-use crate::value::{Field, Payload, Value};
+use super::{annotated, bare, decimal, int, list, local, one, timestamp, two, with};
+use ion_model::{Field, Part, Path, Payload, Precision, Reason, Sequence, Symbol, Value, parting};
 use std::alloc::Global;
 use std::test::Fail;
 

@@ -1,8 +1,10 @@
-use crate::{
+mod bodies;
+
+use ion_model::{Kind, Reason};
+use ion_scalar::{
     Descriptor, Signed, Size, int_of, number_of, put_int, put_number, put_uint, put_var_int,
     put_var_uint, read_var_int, read_var_uint, uint_of,
 };
-use ion_model::{Kind, Reason};
 use std::alloc::Global;
 
 #[test]

@@ -1,7 +1,7 @@
 //! Devices that fail once and then would go on, and the messages of faults.
 mod tables;
 
-use crate::{Failed, Fault, FromRead, Inlet, Limits, Outlet, ToWrite, flushed, write_whole};
+use ion_symtab::{Failed, Fault, FromRead, Inlet, Limits, Outlet, ToWrite, flushed, write_whole};
 use std::io;
 use std::io::{Read, Write};
 use std::test::Fail;

@@ -1,6 +1,6 @@
 //! Local symbol tables and version markers in documents.
 use super::{Accepted, Answers, Refused, accepts, behind_marker, one_value, read_octets, refuses};
-use crate::BinaryReader;
+use ion_binary::BinaryReader;
 use ion_model::{Payload, Reason, Value};
 use ion_symtab::{Catalog, Items, Limits, SharedTable, Step};
 use std::alloc::Global;
