@@ -1,5 +1,5 @@
 -- What is so behind a step.
-use Rattle.std.proofs.Common.{◌≡◌, ℕ, zero, suc, ◌+◌, ◌<◌, ◌≤◌, Bool, true, false, List, [], ◌∷◌, ◌++◌, length, take, drop, Option, Some, None, Result, Ok, Err, IfOk, IsNone, refl, ap, sym, subst, ◌∙◌, arith, length-append, append-nil, append_assoc}
+use Rattle.std.proofs.Common.{◌≡◌, ℕ, zero, suc, ◌+◌, ◌<◌, ◌≤◌, true, List, [], ◌∷◌, ◌++◌, length, take, drop, Option, Some, None, Result, Ok, Err, IfOk, refl, ap, sym, subst, ◌∙◌, arith, length-append, append-nil, append_assoc}
 use Rattle.std.specs.Option.{is_some}
 use Rattle.std.proofs.lemmas.Grind.{common_steps}
 use Rattle.std.proofs.lemmas.List.{length-take-le, take-append-drop}
@@ -10,31 +10,13 @@ use Rattle.ion_symtab.specs.declared.items.Step.{Step}
 use Rattle.ion_symtab.specs.declared.limits.Limits.{Limits}
 use Rattle.ion_symtab.specs.declared.catalog.Catalog.{Catalog}
 use Rattle.ion_text.specs.declared.reader.TextReader.{TextReader}
-use Rattle.ion_text.specs.Run.{State, Effect, leaves, Run, run, run_on, once_more, with_value, eats, begun, trace, trace_of}
-use Rattle.ion_text.specs.Runs.{led, then_run, on_now, run-append, grows}
+use Rattle.ion_text.specs.Run.{State, Run, run, run_on, once_more, eats, begun, trace, trace_of}
+use Rattle.ion_text.specs.Runs.{led, then_run, run-append, grows}
 use Rattle.ion_text.specs.Views.{state_of, IsFine}
-use Rattle.ion_text.specs.Progress.{resumed, BeginsWith, StopsBefore, Stops, Advances, Ran, Stands, SameSettings, StaysSteady, octets_used}
-
--- the values in front of what a run gives
-abbrev behind : List (Value × ℕ) → Run → Run
-behind s r = record { given = s ++ r.given; now = r.now }
+use Rattle.ion_text.specs.Stands.{behind, further}
+use Rattle.ion_text.specs.Progress.{resumed, BeginsWith, StopsBefore, Advances, Ran, Stands, SameSettings, StaysSteady, octets_used}
 
 module _ (g : Catalog) (l : Limits) where
-  -- octets that follow u go on from what is held
-  pub further : (to : ℕ) (u w : List ℕ) (s : List (Value × ℕ)) (m : State) (awaited : Option ℕ) → to ≡ length u → Ran g l u s m awaited → BeginsWith awaited w → run g l 0 begun (u ++ w) ≡ behind s (resumed g l (is_some awaited) to m w)
-  further to u w s m None e ran begins = run-append g l 0 to u w (omega arith) begun ∙ ap (λ r. then_run r (λ n. run g l to n w)) ran
-  further to u w s m (Some o) e ran begins =
-      let rest = begins.0 in
-      let onward = resumed g l true to m (o ∷ rest) in
-      let values : ran.given ++ (ran.value, to) ∷ onward.given ≡ s ++ onward.given =
-      sym (append_assoc ran.given ((ran.value, to) ∷ []) onward.given) ∙ ap (λ vs. vs ++ onward.given) (ap (λ k. ran.given ++ (ran.value, k) ∷ []) e ∙ sym ran.all) in
-      ap (λ x. run g l 0 begun (u ++ x)) begins.1
-      ∙ (run-append g l 0 to u (o ∷ rest) (omega arith) begun
-      ∙ (ap (λ r. then_run r (λ n. run g l to n (o ∷ rest))) ran.ran
-      ∙ (ap (λ x. behind ran.given (run_on to (λ n. eats g l n o) (λ n. run g l (to + 1) n rest) x)) ran.left
-      ∙ (ap (λ vs. record { given = vs; now = onward.now }) values
-      ∙ ap (λ x. behind s (resumed g l true to m x)) (sym begins.1)))))
-
   begins_take : (awaited : Option ℕ) (piece : List ℕ) (used : ℕ) → BeginsWith awaited piece → (is_some awaited ≡ true → 0 < used) → BeginsWith awaited (take used piece)
   begins_take None piece used h some = tt
   begins_take (Some o) piece zero h some = absurd (omega (arith, some refl))
@@ -44,13 +26,13 @@ module _ (g : Catalog) (l : Limits) where
     -- behind what a step used
     led_there : (used : ℕ) → (is_some awaited ≡ true → 0 < used) → (n : State) → resumed g l (is_some awaited) to m (take used piece) ≡ led n → run g l 0 begun (u ++ take used piece) ≡ record { given = s; now = Ok n }
     led_there used some n h =
-        further to u (take used piece) s m awaited e ran (begins_take awaited piece used begins some)
+        further g l to u (take used piece) s m awaited e ran (begins_take awaited piece used begins some)
         ∙ (ap (behind s) h ∙ ap (λ vs. record { given = vs; now = Ok n }) (append-nil s))
 
     gave_there : (used : ℕ) (v : Value) → 0 < used → resumed g l (is_some awaited) to m (take used piece) ≡ record { given = (v, to + used) ∷ []; now = Ok now } → run g l 0 begun (u ++ take used piece) ≡ record { given = s ++ (v, length u + used) ∷ []; now = Ok now }
     gave_there used v some h =
         let place : to + used ≡ length u + used = omega arith in
-        further to u (take used piece) s m awaited e ran (begins_take awaited piece used begins (λ _. some))
+        further g l to u (take used piece) s m awaited e ran (begins_take awaited piece used begins (λ _. some))
         ∙ (ap (behind s) h ∙ ap (λ k. record { given = s ++ (v, k) ∷ []; now = Ok now }) place)
 
     whole : (used : ℕ) → (u ++ take used piece) ++ drop used piece ≡ u ++ piece
@@ -77,7 +59,7 @@ module _ (g : Catalog) (l : Limits) where
     answers_value : (used : ℕ) (value : Option Value) (next : Option ℕ) → Advances g l (is_some awaited) to m piece (Ok (record { used = used; value = value })) next now → Answers (trace g l) u s piece (Ok (record { used = used; value = value }))
     answers_value used None (Some o) h = absurd h.1
     answers_value used None None h =
-        let after = further to u piece s m awaited e ran begins ∙ ap (behind s) h.1.1 in
+        let after = further g l to u piece s m awaited e ran begins ∙ ap (behind s) h.1.1 in
         (ap (λ (r : Run). (trace_of g l r).given) after ∙ append-nil s, ap (λ (r : Run). (trace_of g l r).refused) after)
     answers_value used (Some v) None h =
         let after = gave_there used v h.1.0 h.1.1 in
@@ -89,7 +71,7 @@ module _ (g : Catalog) (l : Limits) where
     answers : (result : Result Step Refusal) (next : Option ℕ) → Advances g l (is_some awaited) to m piece result next now → Answers (trace g l) u s piece result
     answers (Ok step) next h = answers_value step.used step.value next h
     answers (Err refusal) next h = λ other.
-        let after = ap (trace_of g l) (further to u piece s m awaited e ran begins ∙ ap (behind s) (h other)) in
+        let after = ap (trace_of g l) (further g l to u piece s m awaited e ran begins ∙ ap (behind s) (h other)) in
         (ap (λ t. t.given) after ∙ append-nil s, ap (λ t. t.refused) after)
 
     -- what is held then stands for the octets that were used, too
@@ -97,7 +79,7 @@ module _ (g : Catalog) (l : Limits) where
     ran_further used None (Some o) h = absurd h.1
     ran_further used None None h =
         let all : take used piece ≡ piece = let i = h.1.0 in grind (arith, common_steps) in
-        ap (λ w. run g l 0 begun (u ++ w)) all ∙ (further to u piece s m awaited e ran begins ∙ ap (behind s) h.1.1)
+        ap (λ w. run g l 0 begun (u ++ w)) all ∙ (further g l to u piece s m awaited e ran begins ∙ ap (behind s) h.1.1)
     ran_further used (Some v) None h = gave_there used v h.1.0 h.1.1
     ran_further used (Some v) (Some o) h = record {
       given = s;

@@ -1,5 +1,5 @@
 -- How a run over a piece ends.
-use Rattle.std.proofs.Common.{◌≡◌, ℕ, zero, suc, ◌+◌, ◌-◌, ◌<◌, ◌≤◌, Bool, true, false, List, [], ◌∷◌, ◌++◌, length, take, drop, get_or, Option, Some, None, Result, Ok, Err, refl, ap, sym, ◌∙◌, subst, arith, append_assoc, length-take, length-drop, append-nil, ◌⊎◌, inl, inr}
+use Rattle.std.proofs.Common.{◌≡◌, ℕ, zero, suc, ◌+◌, ◌-◌, ◌<◌, ◌≤◌, Bool, true, false, List, [], ◌∷◌, ◌++◌, length, take, drop, get_or, Option, Some, None, Result, Ok, Err, refl, ap, sym, ◌∙◌, subst, arith, append_assoc, length-drop, append-nil, ◌⊎◌, inl, inr}
 use Rattle.std.proofs.lemmas.Grind.{common_steps}
 use Rattle.std.proofs.lemmas.List.{length-take-le, take-append-drop, get_or-drop}
 use Rattle.std.proofs.Math.Seq.{take-add, drop-cons}
@@ -11,8 +11,7 @@ use Rattle.ion_symtab.specs.declared.limits.Limits.{Limits}
 use Rattle.ion_symtab.specs.declared.catalog.Catalog.{Catalog}
 use Rattle.ion_text.specs.Run.{State, Effect, uses, tells, leaves, fails, Run, run, run_on, once_more, with_value, eats}
 use Rattle.ion_text.specs.Runs.{led, then_run, run-append}
-use Rattle.ion_text.specs.Views.{Told}
-use Rattle.ion_text.specs.Progress.{GaveLast, LedLeaving, resumed, StopsBefore, Stops, Advances, BeginsWith}
+use Rattle.ion_text.specs.Progress.{GaveLast, LedLeaving, resumed, Advances, BeginsWith}
 
 no_cons : {A : Type 0} (x : A) (xs : List A) → x ∷ xs ≡ [] → ⊥
 no_cons x xs e = absurd cc

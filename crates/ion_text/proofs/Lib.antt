@@ -4,6 +4,7 @@ pub mod Versions
 pub mod Sights
 pub mod Meetings
 pub mod Octets
+pub mod Pendings
 pub mod Leading
 pub mod Endings
 pub mod Further

@@ -1,7 +1,6 @@
 -- What the scanner answers, and what comes of the octets.
-use Rattle.std.proofs.Common.{◌≡◌, ◌≢◌, ℕ, ◌+◌, Bool, true, false, Option, Some, None, Result, Ok, Err, refl, sym, ap, ◌∙◌, subst, arith}
+use Rattle.std.proofs.Common.{◌≡◌, ℕ, ◌+◌, true, false, Option, Some, None, Result, Ok, Err, refl, sym, ap, ◌∙◌, subst, arith}
 use Rattle.ion_model.specs.declared.refusal.Reason.{Reason}
-use Rattle.ion_model.specs.declared.refusal.Reason.TheVariants.{Memory}
 use Rattle.ion_model.specs.declared.refusal.Refusal.{Refusal}
 use Rattle.ion_model.specs.declared.value.Value.{Value}
 use Rattle.ion_symtab.specs.declared.limits.Limits.{Limits}
@@ -17,9 +16,9 @@ use Rattle.ion_text.specs.declared.reader.TextReader.{TextReader}
 use Rattle.ion_text.specs.declared.state.Met.{Met}
 use Rattle.ion_text.specs.declared.state.Met.TheVariants as met
 use Rattle.ion_tokens.specs.Said.{said, says}
-use Rattle.ion_text.specs.Machine.{Reading, Token, turn}
+use Rattle.ion_text.specs.Machine.{Reading, turn}
 use Rattle.ion_text.specs.Run.{State, Effect, uses, tells, leaves, fails, noticed, behind_given, behind_left, on_said, on_scan, token_of}
-use Rattle.ion_text.specs.Views.{state_of, token_in, Told, Notices, DidMeet, IsBehind, is_left, decided, comes_again, Meets, MeetsWith}
+use Rattle.ion_text.specs.Views.{state_of, token_in, Told, DidMeet, IsBehind, is_left, decided, comes_again, Meets, MeetsWith}
 
 told_same : (e f : Effect) (with_it : Value → State → Effect) (given : Option Value) (m : State) → e ≡ f → Told f with_it given m → Told e with_it given m
 told_same e f with_it None m h t = t

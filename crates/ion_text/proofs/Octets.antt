@@ -1,15 +1,12 @@
 -- One octet, as often as it comes.
-use Rattle.std.proofs.Common.{◌≡◌, ◌≢◌, ℕ, zero, suc, ◌+◌, ◌-◌, ◌<◌, Bool, true, false, List, [], ◌∷◌, Option, Some, None, Result, Ok, Err, refl, sym, ap, ◌∙◌, subst, arith}
-use Rattle.std.specs.Prelude.{nat_lt, if◌then◌else◌}
-use Rattle.std.proofs.lemmas.Bool.Decides.{nat_tests}
+use Rattle.std.proofs.Common.{◌≡◌, ◌≢◌, ℕ, zero, suc, ◌+◌, ◌-◌, ◌<◌, true, false, [], ◌∷◌, Option, Some, None, Result, Ok, Err, refl, sym, ap, ◌∙◌, subst, arith}
+use Rattle.std.specs.Prelude.{if◌then◌else◌}
 use Rattle.ion_model.specs.declared.value.Value.{Value}
 use Rattle.ion_model.specs.declared.refusal.Reason.{Reason}
 use Rattle.ion_model.specs.declared.refusal.Reason.TheVariants as reasons
-use Rattle.ion_model.specs.Reasons.{reason_number}
 use Rattle.ion_symtab.specs.declared.limits.Limits.{Limits}
 use Rattle.ion_symtab.specs.declared.catalog.Catalog.{Catalog}
 use Rattle.ion_tokens.specs.declared.mode.Place.{Place}
-use Rattle.ion_tokens.specs.Views.{scanned}
 use Rattle.ion_tokens.specs.Scanning.{Known, Lexeme, Outcome, Next, Given, Left, Refused, feed, follow, run}
 use Rattle.ion_tokens.proofs.Runs.{feed_used, given_used, left_used}
 use Rattle.ion_text.specs.declared.reader.TextReader.{TextReader}
@@ -17,9 +14,9 @@ use Rattle.ion_text.specs.declared.state.Taken.{Taken}
 use Rattle.ion_text.specs.declared.state.Taken.TheVariants as taken
 use Rattle.ion_text.specs.declared.state.Met.{Met}
 use Rattle.ion_text.specs.declared.state.Met.TheVariants as met
-use Rattle.ion_text.specs.Machine.{Reading, Turn, goes, gives, refuses, late, place, settle}
-use Rattle.ion_text.specs.Run.{State, Effect, uses, tells, leaves, fails, lesser, or_worse, waits, with_scan, on_scan, on_settled, on_octet, takes}
-use Rattle.ion_text.specs.Views.{state_of, Told, DidTake, DidMeet, Gave, IsBehind, Meets, is_left, comes_again, worse}
+use Rattle.ion_text.specs.Machine.{Reading, Turn, goes, gives, late, place, settle}
+use Rattle.ion_text.specs.Run.{State, Effect, tells, leaves, fails, lesser, or_worse, unsettled, with_scan, on_scan, on_settled, on_octet, takes}
+use Rattle.ion_text.specs.Views.{state_of, Told, DidTake, Gave, IsBehind, Meets, is_left, comes_again, worse}
 
 told_same : (e f : Effect) (with_it : Value → State → Effect) (given : Option Value) (m : State) → e ≡ f → Told f with_it given m → Told e with_it given m
 told_same e f with_it None m h t = t
@@ -115,11 +112,11 @@ module _ (g : Catalog) (l : Limits) (o : ℕ) where
   takes_more (suc n) m h = let e : n ≡ suc n - 1 = omega arith in ap (λ j. on_octet g l (λ k. takes g l j k o) m (feed (place m.reading) m.scan o)) e
 
   -- what waits goes on
-  pub octet_goes_on : (again : State → Effect) (m : State) (x : Outcome) → waits m.reading x ≡ true → on_octet g l again m x ≡ on_scan g l again m.reading x
+  pub octet_goes_on : (again : State → Effect) (m : State) (x : Outcome) → unsettled m.scan m.reading x ≡ true → on_octet g l again m x ≡ on_scan g l again m.reading x
   octet_goes_on again m x w = ap (λ b. if b then on_scan g l again m.reading x else on_settled g l again m.scan x (settle g l m.reading)) w
 
   -- what waited is settled
-  pub octet_settles : (again : State → Effect) (m : State) (x : Outcome) (t : Turn) → waits m.reading x ≡ false → settle g l m.reading ≡ t → on_octet g l again m x ≡ on_settled g l again m.scan x t
+  pub octet_settles : (again : State → Effect) (m : State) (x : Outcome) (t : Turn) → unsettled m.scan m.reading x ≡ false → settle g l m.reading ≡ t → on_octet g l again m x ≡ on_settled g l again m.scan x t
   octet_settles again m x t w e =
       ap (λ b. if b then on_scan g l again m.reading x else on_settled g l again m.scan x (settle g l m.reading)) w
       ∙ ap (on_settled g l again m.scan x) e
@@ -156,7 +153,7 @@ module _ (g : Catalog) (l : Limits) (n o : ℕ) where
 
   module _ (m : State) (p : Place) (here : p ≡ place m.reading) (some : 0 < n) where
     -- what waits goes on
-    pub goes_on_did : (result : Result Taken Reason) (new : TextReader) → waits m.reading (feed p m.scan o) ≡ true → DidTake (on_scan g l (λ k. takes g l (n - 1) k o) m.reading (feed p m.scan o)) result new → DidTake (takes g l n m o) result new
+    pub goes_on_did : (result : Result Taken Reason) (new : TextReader) → unsettled m.scan m.reading (feed p m.scan o) ≡ true → DidTake (on_scan g l (λ k. takes g l (n - 1) k o) m.reading (feed p m.scan o)) result new → DidTake (takes g l n m o) result new
     goes_on_did result new w d =
         take_same (takes g l n m o) (on_scan g l (λ k. takes g l (n - 1) k o) m.reading (feed p m.scan o)) result new
         (takes_more g l o n m some
@@ -164,19 +161,19 @@ module _ (g : Catalog) (l : Limits) (n o : ℕ) where
         ∙ octet_goes_on g l o (λ k. takes g l (n - 1) k o) m (feed p m.scan o) w)) d
 
     -- it is settled
-    pub settles : (t : Turn) → waits m.reading (feed p m.scan o) ≡ false → settle g l m.reading ≡ t → takes g l n m o ≡ on_settled g l (λ k. takes g l (n - 1) k o) m.scan (feed p m.scan o) t
+    pub settles : (t : Turn) → unsettled m.scan m.reading (feed p m.scan o) ≡ false → settle g l m.reading ≡ t → takes g l n m o ≡ on_settled g l (λ k. takes g l (n - 1) k o) m.scan (feed p m.scan o) t
     settles t w e =
         takes_more g l o n m some
         ∙ (ap (λ q. on_octet g l (λ k. takes g l (n - 1) k o) m (feed q m.scan o)) (sym here)
         ∙ octet_settles g l o (λ k. takes g l (n - 1) k o) m (feed p m.scan o) t w e)
 
-    pub settles_goes : (r : Reading) (h : Catalog) (k : Limits) (s : Known) (result : Result Taken Reason) (new : TextReader) → waits m.reading (feed p m.scan o) ≡ false → settle g l m.reading ≡ goes r → h ≡ g → k ≡ l → s ≡ m.scan
+    pub settles_goes : (r : Reading) (h : Catalog) (k : Limits) (s : Known) (result : Result Taken Reason) (new : TextReader) → unsettled m.scan m.reading (feed p m.scan o) ≡ false → settle g l m.reading ≡ goes r → h ≡ g → k ≡ l → s ≡ m.scan
         → DidTake (on_scan h k (λ j. takes h k (n - 1) j o) r (feed p s o)) result new → DidTake (takes g l n m o) result new
     settles_goes r h k s result new w e f i j d =
         take_same (takes g l n m o) (on_scan h k (λ j. takes h k (n - 1) j o) r (feed p s o)) result new
         (settles (goes r) w e ∙ same_scan g h l k (n - 1) o p m.scan s r f i j) d
 
-    pub settles_late : (reason cause : Reason) (r : Reading) (h : Catalog) (k : Limits) (s : Known) (result : Result Taken Reason) (new : TextReader) → waits m.reading (feed p m.scan o) ≡ false → settle g l m.reading ≡ late reason r → h ≡ g → k ≡ l → s ≡ m.scan
+    pub settles_late : (reason cause : Reason) (r : Reading) (h : Catalog) (k : Limits) (s : Known) (result : Result Taken Reason) (new : TextReader) → unsettled m.scan m.reading (feed p m.scan o) ≡ false → settle g l m.reading ≡ late reason r → h ≡ g → k ≡ l → s ≡ m.scan
         → DidTake (on_scan h k (λ j. takes h k (n - 1) j o) r (feed p s o)) result new → cause ≡ worse reason result → cause ≢ reasons.Memory → takes g l n m o ≡ fails cause
     settles_late reason cause r h k s result new w e f i j d same other =
         settles (late reason r) w e
@@ -184,6 +181,6 @@ module _ (g : Catalog) (l : Limits) (n o : ℕ) where
         ∙ (take_worse reason (on_scan h k (λ j. takes h k (n - 1) j o) r (feed p s o)) result new d (λ m. other (same ∙ m))
         ∙ ap fails (sym same)))
 
-    pub settles_gives : (given : Option Value) (now : State) (r : Reading) → waits m.reading (feed p m.scan o) ≡ false → Gave (settle g l m.reading) given r → now ≡ with_scan m.scan r → Told (takes g l n m o) leaves given now
+    pub settles_gives : (given : Option Value) (now : State) (r : Reading) → unsettled m.scan m.reading (feed p m.scan o) ≡ false → Gave (settle g l m.reading) given r → now ≡ with_scan m.scan r → Told (takes g l n m o) leaves given now
     settles_gives None now r w e same = absurd e
     settles_gives (Some v) now r w e same = settles (gives v r) w e ∙ ap (leaves v) (sym same)

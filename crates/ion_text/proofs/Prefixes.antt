@@ -1,18 +1,17 @@
 -- What was taken up of the front of a piece was taken up of the piece.
-use Rattle.std.proofs.Common.{◌≡◌, ℕ, ◌+◌, ◌<◌, ◌≤◌, List, [], ◌∷◌, ◌++◌, length, take, drop, get_or, Option, Some, None, Result, Ok, Err, refl, ap, sym, ◌∙◌, subst, arith}
+use Rattle.std.proofs.Common.{◌≡◌, ℕ, ◌+◌, ◌<◌, ◌≤◌, List, length, take, drop, get_or, Result, Ok, Err, ap, sym, ◌∙◌, subst, arith}
 use Rattle.std.proofs.lemmas.Grind.{common_steps}
 use Rattle.std.proofs.lemmas.List.{length-take-le, take-append-drop}
-use Rattle.ion_model.specs.declared.value.Value.{Value}
 use Rattle.ion_model.specs.declared.refusal.Refusal.{Refusal}
 use Rattle.ion_symtab.specs.declared.limits.Limits.{Limits}
 use Rattle.ion_symtab.specs.declared.catalog.Catalog.{Catalog}
 use Rattle.ion_text.specs.declared.reader.TextReader.{TextReader}
 use Rattle.ion_text.specs.declared.state.Taken.{Taken}
 use Rattle.ion_text.specs.declared.state.Taken.TheVariants as taken
-use Rattle.ion_text.specs.Run.{State, Run, run, eats, leaves}
-use Rattle.ion_text.specs.Runs.{led, then_run, run-append}
+use Rattle.ion_text.specs.Run.{State, run, eats, leaves}
+use Rattle.ion_text.specs.Runs.{then_run, run-append}
 use Rattle.ion_text.specs.Views.{state_of, Told}
-use Rattle.ion_text.specs.Progress.{Took, GaveLast, LedLeaving}
+use Rattle.ion_text.specs.Progress.{Took, GaveLast}
 
 module _ (g : Catalog) (l : Limits) (to : ℕ) (m : State) (piece : List ℕ) (n : ℕ) (within : n ≤ length piece) where
   size : length (take n piece) ≡ n

@@ -1,6 +1,6 @@
 -- Octets that are handed to the scanner at once.
-use Rattle.std.proofs.Common.{◌≡◌, ◌≢◌, ℕ, zero, suc, ◌+◌, ◌-◌, ◌<◌, ◌≤◌, Bool, true, false, cond, List, [], ◌∷◌, ◌++◌, length, take, drop, get_or, Option, Some, None, Result, Ok, Err, refl, ap, sym, ◌∙◌, subst, arith, length-append, append-nil, ◌⊎◌, inl, inr}
-use Rattle.std.specs.Prelude.{◌==◌, ◌&&◌, ◌||◌, not, nat_le, bytes_eq, codes, if◌then◌else◌}
+use Rattle.std.proofs.Common.{◌≡◌, ◌≢◌, ℕ, suc, ◌+◌, ◌-◌, ◌<◌, ◌≤◌, Bool, true, false, cond, List, [], ◌∷◌, ◌++◌, length, take, get_or, Option, Some, None, Result, Ok, Err, refl, ap, sym, ◌∙◌, subst, arith, length-append, inl}
+use Rattle.std.specs.Prelude.{◌==◌, ◌&&◌, not, nat_le, bytes_eq, codes, if◌then◌else◌}
 use Rattle.std.proofs.lemmas.Bool.Decides.{nat_tests}
 use Rattle.std.proofs.Math.Seq.{take-append-add, take-append_seam}
 use Rattle.std.proofs.lemmas.List.{get_or-append-add, take_all}
@@ -25,12 +25,12 @@ use Rattle.ion_tokens.specs.Views.{scanned, begun_in, behind, form_of}
 use Rattle.ion_tokens.specs.Scanning as scanning
 use Rattle.ion_tokens.specs.Scanning.{Known, Lexeme, Outcome, Next, Given, Left, Refused, start_of, go_to, cut, past, acts, blob_ends, feed, follow}
 use Rattle.ion_tokens.proofs.Runs.{feed_used, next_used}
-use Rattle.ion_tokens.proofs.LastOctets.{LastOctet, IsLast, last_octet, refused_here}
+use Rattle.ion_tokens.proofs.LastOctets.{IsLast, last_octet, refused_here}
 use Rattle.ion_text.specs.declared.state.Now.{Now}
 use Rattle.ion_text.specs.declared.state.Now.TheVariants as nows
 use Rattle.ion_text.specs.declared.state.Frame.{Frame}
 use Rattle.ion_text.specs.Machine.{Reading, Symbols, goes, at, place, settle, settled}
-use Rattle.ion_text.specs.Run.{State, Effect, or_worse, uses, tells, leaves, fails, noticed, shut, reaches, longest_top, is_long_begun, with_scan, eats, takes, on_scan, on_settled, waits, failed, Run, run, run_on}
+use Rattle.ion_text.specs.Run.{State, Effect, or_worse, uses, tells, leaves, fails, noticed, shut, reaches, longest_top, is_long_begun, with_scan, eats, takes, on_scan, on_settled, unsettled, failed, run, run_on}
 use Rattle.ion_text.specs.declared.reader.TextReader.{TextReader}
 use Rattle.ion_text.specs.declared.state.Taken.{Taken}
 use Rattle.ion_text.specs.declared.state.Taken.TheVariants as taken
@@ -40,7 +40,7 @@ use Rattle.ion_text.specs.Views.{floor, IsCalm, base, worse, state_of, Told, Did
 use Rattle.ion_text.specs.Progress.{GaveLast, LedLeaving}
 use Rattle.ion_text.proofs.Octets.{given_here, left_here, take_worse}
 use Rattle.ion_tokens.specs.Ahead.{OnNext}
-use Rattle.ion_text.specs.Runs.{led, then_run, run-append, Quiet, Stays, drive}
+use Rattle.ion_text.specs.Runs.{led, then_run, run-append, Quiet, drive}
 
 start_in : Outcome → ℕ → ℕ
 start_in (Next s) n = s.start
@@ -202,7 +202,7 @@ module _ (g : Catalog) (l : Limits) (r : Reading) (calm : IsCalm r.now) (s : Kno
   calm_octet again k x false = ap (on_settled g l again k x) settles
 
   eaten : (k : Known) (o : ℕ) (y : Outcome) → feed (place r) k o ≡ y → eats g l (with_scan k r) o ≡ on_scan g l (λ m. takes g l 2 m o) r y
-  eaten k o y f = calm_octet (λ m. takes g l 2 m o) k (feed (place r) k o) (waits r (feed (place r) k o)) ∙ ap (on_scan g l (λ m. takes g l 2 m o) r) f
+  eaten k o y f = calm_octet (λ m. takes g l 2 m o) k (feed (place r) k o) (unsettled k r (feed (place r) k o)) ∙ ap (on_scan g l (λ m. takes g l 2 m o) r) f
 
   -- where all octets are used and end nothing
   pub all_led : (t : Known) → scanning.run (place r) piece s ≡ Next t → run g l s.used (with_scan s r) piece ≡ led (with_scan t r)

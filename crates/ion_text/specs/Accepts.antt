@@ -16,7 +16,7 @@ use Rattle.ion_tokens.specs.declared.mode.Mark.{Mark}
 use Rattle.ion_tokens.specs.declared.mode.Mark.TheVariants as marks
 use Rattle.ion_tokens.specs.declared.mode.TokenKind.{TokenKind}
 use Rattle.ion_tokens.specs.declared.mode.TokenKind.TheVariants as kinds
-use Rattle.ion_tokens.specs.Table.{end_of, next, before}
+use Rattle.ion_tokens.specs.Table.{end_of}
 use Rattle.ion_tokens.specs.Bounds.{is_idle}
 use Rattle.ion_tokens.specs.Bodies.{Content, Word, Id, Quoted, Short, Long, Number', TypedNull, Operator, Clob, Blob, Mark', IsBody}
 use Rattle.ion_tokens.specs.Scanning.{Known, Lexeme, Outcome, Next, Given, Left, start_of, feed, at_end, initial, follow}
@@ -29,7 +29,8 @@ use Rattle.ion_text.specs.declared.state.Frame.{Frame}
 use Rattle.ion_text.specs.Grammar.{is_two_quotes, Document}
 use Rattle.ion_tokens.specs.Said.{said}
 use Rattle.ion_text.specs.Machine.{Reading, Turn, goes, gives, refuses, late, Symbols, at, fresh, place, settle, turn, released, ended, paid, held_payload, turned, within, turn_now}
-use Rattle.ion_text.specs.Run.{State, Effect, uses, tells, eats, takes, waits, waits_now, on_scan, on_settled, on_said, behind_given, behind_left, with_scan, token_of, is_top, is_fresh, Run, run, run_on, once_more, with_value, ends, ends_of, end_now, end_ready, end_waiting, end_settled, end_said, end_turned, cut_short, trace}
+use Rattle.ion_text.specs.Run.{State, Effect, uses, tells, eats, takes, waits, waits_now, unsettled, on_scan, on_settled, on_said, behind_given, behind_left, with_scan, token_of, is_top, is_fresh, Run, run, run_on, once_more, with_value, ends, ends_of, end_now, end_ready, end_waiting, end_settled, end_said, end_turned, cut_short, trace}
+use Rattle.ion_text.specs.Segments.{NotRefused, settles_then, waits_unsettled}
 use Rattle.ion_text.specs.Reads.{continues, continues_now}
 use Rattle.ion_text.specs.Places.{Leading, settle_same, settle_still}
 use Rattle.ion_tokens.specs.Ahead.{is_quoting, is_sane, is_colons, is_quoted, is_segment}
@@ -81,7 +82,7 @@ fresh_top r h = go r.frames r.notes r.now h
     go (f ∷ fs) ss n h = absurd cc
 
 -- a mark's kind says the mark
-mark_said : (k : TokenKind) (octets : List ℕ) (m : Mark) (c : Content) → k ≡ kinds.Mark m → IsBody k octets (Ok c) → c ≡ Mark' m
+pub mark_said : (k : TokenKind) (octets : List ℕ) (m : Mark) (c : Content) → k ≡ kinds.Mark m → IsBody k octets (Ok c) → c ≡ Mark' m
 mark_said k octets m c e h = let b : Ok c ≡ Ok (Mark' m) = subst (λ x. IsBody x octets (Ok c)) e h in cc
 
 module _ (g : Catalog) (l : Limits) where
@@ -183,37 +184,37 @@ module _ (g : Catalog) (l : Limits) where
     again = λ k. takes g l 2 k o
 
     eats_direct : (r : Reading) (x : Outcome) → feed (place r) s o ≡ x → DirectAt r x → eats g l (with_scan s r) o ≡ on_scan g l (λ k. takes g l 2 k o) r x
-    eats_direct r x e w = subst (λ y. eats g l (with_scan s r) o ≡ on_scan g l (λ k. takes g l 2 k o) r y) e (go (waits r (feed (place r) s o)) refl (subst (DirectAt r) (sym e) w))
+    eats_direct r x e w = subst (λ y. eats g l (with_scan s r) o ≡ on_scan g l (λ k. takes g l 2 k o) r y) e (go (unsettled s r (feed (place r) s o)) refl (subst (DirectAt r) (sym e) w))
       where
-        go : (b : Bool) → waits r (feed (place r) s o) ≡ b → DirectAt r (feed (place r) s o)
+        go : (b : Bool) → unsettled s r (feed (place r) s o) ≡ b → DirectAt r (feed (place r) s o)
             → (if b then on_scan g l (λ k. takes g l 2 k o) r (feed (place r) s o) else on_settled g l (λ k. takes g l 2 k o) s (feed (place r) s o) (settle g l r)) ≡ on_scan g l (λ k. takes g l 2 k o) r (feed (place r) s o)
         go true f d = refl
-        go false f (inl d) = absurd (let n : true ≡ false = sym d ∙ f in cc)
+        go false f (inl d) = absurd (let n : true ≡ false = sym (waits_unsettled s r (feed (place r) s o) d) ∙ f in cc)
         go false f (inr d) = ap (on_settled g l (λ k. takes g l 2 k o) s (feed (place r) s o)) d
 
-    eats_settled : (r : Reading) (x : Outcome) (t : Turn) → feed (place r) s o ≡ x → waits r x ≡ false → settle g l r ≡ t → eats g l (with_scan s r) o ≡ on_settled g l (λ k. takes g l 2 k o) s x t
-    eats_settled r x t e w f = subst (λ y. eats g l (with_scan s r) o ≡ on_settled g l (λ k. takes g l 2 k o) s y t) e (go (waits r (feed (place r) s o)) (ap (waits r) e ∙ w))
+    eats_settled : (r : Reading) (x : Outcome) (t : Turn) → feed (place r) s o ≡ x → NotRefused x → waits r x ≡ false → settle g l r ≡ t → eats g l (with_scan s r) o ≡ on_settled g l (λ k. takes g l 2 k o) s x t
+    eats_settled r x t e told w f = subst (λ y. eats g l (with_scan s r) o ≡ on_settled g l (λ k. takes g l 2 k o) s y t) e (go (unsettled s r (feed (place r) s o)) (ap (unsettled s r) e ∙ settles_then (place r) s r o x e told w))
       where
         go : (b : Bool) → b ≡ false → (if b then on_scan g l (λ k. takes g l 2 k o) r (feed (place r) s o) else on_settled g l (λ k. takes g l 2 k o) s (feed (place r) s o) (settle g l r)) ≡ on_settled g l (λ k. takes g l 2 k o) s (feed (place r) s o) t
         go true h = absurd cc
         go false h = ap (on_settled g l (λ k. takes g l 2 k o) s (feed (place r) s o)) f
 
     -- An octet that is used, by what comes of it at the scanner.
-    used_run : (to : ℕ) (rest : State → Run) (x : Outcome) (ts : List Placed) (r : Reading) (all : List Value) → feed (place r) s o ≡ x → TopOk g l r → EndedBy s r → Going g l r ts all → (waits r x ≡ false → TurnGoes g l (settle g l r) ts all)
+    used_run : (to : ℕ) (rest : State → Run) (x : Outcome) (ts : List Placed) (r : Reading) (all : List Value) → feed (place r) s o ≡ x → NotRefused x → TopOk g l r → EndedBy s r → Going g l r ts all → (waits r x ≡ false → TurnGoes g l (settle g l r) ts all)
         → ((k : Reading) (all : List Value) → place k ≡ place r → TopOk g l k → EndedBy s k → Going g l k ts all → DirectAt k x → Went (on_scan g l (λ k. takes g l 2 k o) k x) rest all)
         → Streamed (run_on to (λ n. eats g l n o) rest (eats g l (with_scan s r) o)) all
-    used_run to rest x ts r all e ok ended d settled went = go (waits r x) refl
+    used_run to rest x ts r all e told ok ended d settled went = go (waits r x) refl
       where
         direct : (k : Reading) (all : List Value) → place k ≡ place r → TopOk g l k → EndedBy s k → Going g l k ts all → DirectAt k x → Went (eats g l (with_scan s k) o) rest all
         direct k all p ok ended d w = subst (λ y. Went y rest all) (sym (eats_direct k x (ap (λ q. feed q s o) p ∙ e) w)) (went k all p ok ended d w)
 
         by : (t : Turn) → settle g l r ≡ t → waits r x ≡ false → Leading g l (λ n. (place n ≡ place r) × (is_top n.frames ≡ is_top r.frames)) t → Leading g l (λ n. settle g l n ≡ goes n) t → Settled t → TurnGoes g l t ts all → Streamed (run_on to (λ n. eats g l n o) rest (eats g l (with_scan s r) o)) all
         by (goes k) f w a b c i =
-            let scan : eats g l (with_scan s r) o ≡ eats g l (with_scan s k) o = eats_settled r x (goes k) e w f ∙ sym (eats_direct k x (ap (λ q. feed q s o) a.0 ∙ e) (inr b)) in
+            let scan : eats g l (with_scan s r) o ≡ eats g l (with_scan s k) o = eats_settled r x (goes k) e told w f ∙ sym (eats_direct k x (ap (λ q. feed q s o) a.0 ∙ e) (inr b)) in
             subst (λ y. Streamed (run_on to (λ n. eats g l n o) rest y) all) (sym scan)
             (went_run to (λ n. eats g l n o) rest (eats g l (with_scan s k) o) all (direct k all a.0 (λ h. calm_now k.now modes.Blank (c modes.Blank h)) (settled_ended k s.used c) i (inr b)))
         by (gives v k) f w a b c i =
-            subst (λ y. Streamed (run_on to (λ n. eats g l n o) rest y) all) (sym (eats_settled r x (gives v k) e w f))
+            subst (λ y. Streamed (run_on to (λ n. eats g l n o) rest y) all) (sym (eats_settled r x (gives v k) e told w f))
             (with_streamed v to (once_more to rest (eats g l (with_scan s k) o)) i.0 all (went_more to rest (eats g l (with_scan s k) o) i.0 (direct k i.0 a.0 (λ h. calm_now k.now modes.Blank (c modes.Blank h)) (settled_ended k s.used c) i.2 (inr b))) i.1)
         by (refuses y) f w a b c i = absurd i
         by (late y k) f w a b c i = absurd i
@@ -274,7 +275,7 @@ module _ (g : Catalog) (l : Limits) where
       by (refuses y) h e = absurd e
       by (late y n) h e = absurd e
 
-  ready_still : (r : Reading) → r.now ≡ nows.Ready → settle g l r ≡ goes r
+  pub ready_still : (r : Reading) → r.now ≡ nows.Ready → settle g l r ≡ goes r
   ready_still r e = subst (λ n. settle g l (at r.start r.context r.frames r.notes n) ≡ goes (at r.start r.context r.frames r.notes n)) (sym e) refl
 
   -- no colon stands where a value may come
@@ -421,7 +422,7 @@ module _ (g : Catalog) (l : Limits) where
 
         settled : (x : Turn) → settle g l r ≡ x → waits r (Left t.lexeme s') ≡ false → Leading g l (λ n. (place n ≡ place r) × (is_top n.frames ≡ is_top r.frames)) x → Leading g l (λ n. settle g l n ≡ goes n) x → Settled x → TurnGoes g l x (t ∷ ts) all → Streamed (run g l to (with_scan s r) (o ∷ os)) all
         settled (goes k) i w a b c y =
-            behind k all a.0 (λ h. calm_now k.now modes.Blank (c modes.Blank h)) b y (eats g l (with_scan s r) o) (eats_settled s o r (Left t.lexeme s') (goes k) e w i)
+            behind k all a.0 (λ h. calm_now k.now modes.Blank (c modes.Blank h)) b y (eats g l (with_scan s r) o) (eats_settled s o r (Left t.lexeme s') (goes k) e tt w i)
         settled (gives v k) i w a b c y = absurd (never r.now refl)
           where
             top : is_top r.frames ≡ true
@@ -601,7 +602,7 @@ module _ (g : Catalog) (l : Limits) where
       let a = follows_as (place r) s o (Next s') sane here in
       let f = finely_as (place r) s o (Next s') fine here in
       let i = blank_idle s' os m a.0 in
-      used_run s o to (λ n. run g l (to + 1) n os) (Next s') [] r all here (calm_ok g l s r calm) (calm_ended s r calm) d (blank_settled r s' all (calm_ok g l s r calm) d i)
+      used_run s o to (λ n. run g l (to + 1) n os) (Next s') [] r all here tt (calm_ok g l s r calm) (calm_ended s r calm) d (blank_settled r s' all (calm_ok g l s r calm) d i)
       (λ k rest p ok ended d w. next_went s s' os [] o (λ n. run g l (to + 1) n os) m a.0 f (feed_used (place r) s s' o here) tt
       (λ k rest c d. streams s' os [] m a.0 f (exactly_as (place r) s o (Next s') ex here) tt (to + 1) k rest c d) k rest ok ended d w)
   streams _ _ _ (goes_on s o os t ts s' e m) sane fine ex ops to r all calm d =
@@ -609,7 +610,7 @@ module _ (g : Catalog) (l : Limits) where
       let here : feed (place r) s o ≡ Next s' = ap (λ q. feed q s o) (sym p.0) ∙ e in
       let a = follows_as (place r) s o (Next s') sane here in
       let f = finely_as (place r) s o (Next s') fine here in
-      used_run s o to (λ n. run g l (to + 1) n os) (Next s') (t ∷ ts) r all here (calm_ok g l s r calm) (calm_ended s r calm) d
+      used_run s o to (λ n. run g l (to + 1) n os) (Next s') (t ∷ ts) r all here tt (calm_ok g l s r calm) (calm_ended s r calm) d
       (λ w. going_settle g l r t ts all p.1 d p.2 (next_agrees r.frames r.now s' os t ts p.1 m a.0 f (said_body t.lexeme.kind t.lexeme.octets p.1 p.2) w))
       (λ k rest q ok ended d w. next_went s s' os (t ∷ ts) o (λ n. run g l (to + 1) n os) m a.0 f (feed_used (place r) s s' o here) ops
       (λ k rest c d. streams s' os (t ∷ ts) m a.0 f (exactly_as (place r) s o (Next s') ex here) ops (to + 1) k rest c d) k rest ok ended d w)
@@ -618,7 +619,7 @@ module _ (g : Catalog) (l : Limits) where
       let here : feed (place r) s o ≡ Given t.lexeme s' = ap (λ q. feed q s o) (sym p.0) ∙ e in
       let f = finely_as (place r) s o (Given t.lexeme s') fine here in
       let two = given_far t.lexeme f.1 in
-      used_run s o to (λ n. run g l (to + 1) n os) (Given t.lexeme s') (t ∷ ts) r all here (calm_ok g l s r calm) (calm_ended s r calm) d
+      used_run s o to (λ n. run g l (to + 1) n os) (Given t.lexeme s') (t ∷ ts) r all here tt (calm_ok g l s r calm) (calm_ended s r calm) d
       (λ w. going_settle g l r t ts all p.1 d p.2 (sym (given_agrees r.frames r.now s' t.lexeme p.1 (said_body t.lexeme.kind t.lexeme.octets p.1 p.2) two) ∙ w))
       (λ k rest q ok ended d w. given_went s s' os t ts o (λ n. run g l (to + 1) n os) m f.2 f.3 f.0 (one_more (place r) s s' o t.lexeme here) f.4 ops.1 two
       (λ k rest c d. streams s' os ts m f.2 f.0 (exactly_as (place r) s o (Given t.lexeme s') ex here) ops.1 (to + 1) k rest c d) k rest ok ended d w)

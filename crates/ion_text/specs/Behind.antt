@@ -1,7 +1,6 @@
 -- What the reader of octets holds stands for the octets: whole pieces, and the tokens of the open item.
-use Rattle.std.proofs.Common.{◌≡◌, ℕ, ◌+◌, ◌-◌, ◌≤◌, List, [], ◌∷◌, ◌++◌, Bool, true, false, ◌&&◌, ◌||◌, Ok, refl, ap, sym, ◌∙◌, subst, arith, append_assoc, append-nil, ◌⊎◌, inl, inr}
+use Rattle.std.proofs.Common.{◌≡◌, ℕ, ◌+◌, ◌≤◌, List, [], ◌∷◌, ◌++◌, Bool, true, false, ◌&&◌, ◌||◌, Ok, refl, ap, sym, ◌∙◌, subst, arith, append_assoc, append-nil, ◌⊎◌, inl, inr}
 use Rattle.ion_model.specs.declared.value.Value.{Value}
-use Rattle.ion_model.specs.Measures.{depth}
 use Rattle.ion_symtab.specs.declared.limits.Limits.{Limits}
 use Rattle.ion_symtab.specs.declared.catalog.Catalog.{Catalog}
 use Rattle.ion_symtab.specs.Slots.{Slot, system_slots}
@@ -11,14 +10,14 @@ use Rattle.ion_tokens.specs.declared.mode.Mode.{Mode}
 use Rattle.ion_tokens.specs.declared.mode.TokenKind.{TokenKind}
 use Rattle.ion_tokens.specs.declared.mode.TokenKind.TheVariants as kinds
 use Rattle.ion_tokens.specs.Bounds.{is_idle}
-use Rattle.ion_tokens.specs.Bodies.{Content, Word, Long, IsBody}
+use Rattle.ion_tokens.specs.Bodies.{Content, Long, IsBody}
 use Rattle.ion_tokens.specs.Scanning.{Known, Lexeme, Outcome, Next, Given, Left, Refused, feed}
 use Rattle.ion_tokens.specs.Lexed.{Placed}
 use Rattle.ion_text.specs.declared.state.Now.{Now}
 use Rattle.ion_text.specs.declared.state.Now.TheVariants as nows
 use Rattle.ion_text.specs.declared.state.Frame.{Frame}
 use Rattle.ion_text.specs.declared.state.Frame.TheVariants as frames
-use Rattle.ion_text.specs.Grammar.{Says, Annotations, no_annotation, one_annotation, Segments, segment, joined, Pieces, begins, marked, turns, holds, is_long, ends_long, begins_long, begins_as_long, is_two_quotes, end_of, span}
+use Rattle.ion_text.specs.Grammar.{Says, Annotations, no_annotation, one_annotation, Segments, segment, joined, Pieces, marked, turns, holds, is_long, ends_long, begins_long, begins_as_long, is_two_quotes, end_of, span}
 use Rattle.ion_tokens.specs.Said.{said}
 use Rattle.ion_text.specs.Machine.{Reading, Turn, goes, gives, refuses, late, Symbols, at, fresh, place, place_in, settle, turn, turn_now, begun_at}
 use Rattle.ion_text.specs.Run.{waits, waits_now, token_of, is_top, is_fresh}

@@ -55,6 +55,11 @@ ends_behind (x ∷ []) [] h = absurd cc
 ends_behind (x ∷ []) (u ∷ us) h = h
 ends_behind (x ∷ y ∷ ts) us h = ends_behind (y ∷ ts) us h
 
+-- tokens end with the last one
+pub last_end : (front : List Placed) (t : Placed) (ts : List Placed) (k d : ℕ) → end_of k (front ++ t ∷ ts) ≡ end_of d (t ∷ ts)
+last_end [] t ts k d = refl
+last_end (x ∷ xs) t ts k d = last_end xs t ts x.lexeme.end d
+
 pub end_more : (ts : List Placed) (t : Placed) (d : ℕ) → end_of d (ts ++ t ∷ []) ≡ t.lexeme.end
 end_more [] t d = refl
 end_more (u ∷ ts) t d = end_more ts t u.lexeme.end

@@ -14,7 +14,7 @@ use Rattle.ion_tokens.proofs.Found as found
 use Rattle.ion_tokens.proofs.Histories.{stands_finds, behind_front}
 use Rattle.ion_tokens.proofs.Runs.{feed_used}
 use Rattle.ion_tokens.proofs.Splits.{GivenSplit, given_split, LeftSplit, left_split}
-use Rattle.ion_text.specs.Machine.{Reading, Turn, goes, gives, refuses, late, place, settle, turn}
+use Rattle.ion_text.specs.Machine.{Reading, Turn, goes, gives, refuses, late, settle, turn}
 use Rattle.ion_text.specs.Run.{is_top, token_of}
 use Rattle.ion_text.specs.Reads.{continues}
 use Rattle.ion_text.specs.Places.{Leading, settle_still}

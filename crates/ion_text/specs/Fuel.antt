@@ -7,7 +7,6 @@ use Rattle.ion_tokens.specs.Bounds.{is_idle}
 use Rattle.ion_symtab.specs.declared.limits.Limits.{Limits}
 use Rattle.ion_symtab.specs.declared.catalog.Catalog.{Catalog}
 use Rattle.ion_tokens.specs.declared.mode.Place.{Place}
-use Rattle.ion_tokens.specs.declared.mode.Lob.{Lob}
 use Rattle.ion_tokens.specs.declared.mode.Mode.{Mode}
 use Rattle.ion_tokens.specs.declared.mode.Mode.TheVariants as modes
 use Rattle.ion_tokens.specs.declared.mode.TokenKind.TheVariants as kinds
@@ -15,7 +14,7 @@ use Rattle.ion_tokens.specs.Bodies.{Content}
 use Rattle.ion_tokens.specs.Scanning.{Known, Lexeme, Outcome, Next, Given, Left, Refused, feed}
 use Rattle.ion_tokens.specs.Said.{said}
 use Rattle.ion_text.specs.Machine.{Reading, Turn, goes, gives, refuses, late, place, settle, turn}
-use Rattle.ion_text.specs.Run.{State, Effect, uses, tells, leaves, fails, eats, takes, waits, shut, reaches, noticed, on_octet, on_scan, on_settled, on_said, behind_given, behind_left, or_worse, with_scan, token_of, Run, run_on, once_more}
+use Rattle.ion_text.specs.Run.{State, Effect, uses, tells, leaves, fails, eats, takes, unsettled, shut, reaches, noticed, on_octet, on_scan, on_settled, on_said, behind_given, behind_left, or_worse, with_scan, token_of, Run, run_on, once_more}
 use Rattle.ion_tokens.specs.Ahead.{IsUsed, LeftIn, LeavesIn}
 use Rattle.ion_tokens.specs.Again as again
 use Rattle.ion_tokens.specs.Again.{blank_uses, slash_uses, word_leaves}
@@ -108,7 +107,7 @@ module _ (g : Catalog) (l : Limits) where
   settled_used a b s x (late e r) h = ap (or_worse e) (h r)
 
   octet_used : (a b : State → Effect) (m : State) (x : Outcome) → ((r : Reading) → on_scan g l a r x ≡ on_scan g l b r x) → on_octet g l a m x ≡ on_octet g l b m x
-  octet_used a b m x h = go (waits m.reading x)
+  octet_used a b m x h = go (unsettled m.scan m.reading x)
     where
       go : (w : Bool) → (if w then on_scan g l a m.reading x else on_settled g l a m.scan x (settle g l m.reading)) ≡ (if w then on_scan g l b m.reading x else on_settled g l b m.scan x (settle g l m.reading))
       go true = h m.reading
@@ -144,7 +143,7 @@ module _ (g : Catalog) (l : Limits) where
   NotLeaves (leaves v m) = ⊥
   NotLeaves _ = Unit {0}
 
-  noticed_stays : (r : Reading) (s : Known) → NotLeaves (noticed l r s)
+  pub noticed_stays : (r : Reading) (s : Known) → NotLeaves (noticed l r s)
   noticed_stays r s = go (shut r.now && not (is_idle s.mode)) (nat_le (reaches r.frames r s) l.item)
     where
       go : (a b : Bool) → NotLeaves (if a then fails reasons.Unexpected else (if b then uses (record { scan = s; reading = r }) else fails reasons.ItemTooLong))
@@ -158,13 +157,13 @@ module _ (g : Catalog) (l : Limits) where
   worse_stays e (leaves v m) = tt
   worse_stays e (fails f) = tt
 
-  given_stays : (s : Known) (t : Turn) → NotLeaves (behind_given l s t)
+  pub given_stays : (s : Known) (t : Turn) → NotLeaves (behind_given l s t)
   given_stays s (goes r) = noticed_stays r s
   given_stays s (gives v r) = tt
   given_stays s (refuses e) = tt
   given_stays s (late e r) = worse_stays e (noticed l r s)
 
-  said_stays : (c : Result Content Reason) (f : Content → Effect) → ((c : Content) → NotLeaves (f c)) → NotLeaves (on_said c f)
+  pub said_stays : (c : Result Content Reason) (f : Content → Effect) → ((c : Content) → NotLeaves (f c)) → NotLeaves (on_said c f)
   said_stays (Ok c) f h = h c
   said_stays (Err e) f h = tt
 
@@ -175,7 +174,7 @@ module _ (g : Catalog) (l : Limits) where
   scan_stays again r (Refused n e) u = tt
 
   pub eats_stays : (r : Reading) (s : Known) (o : ℕ) → settle g l r ≡ goes r → IsUsed (feed (place r) s o) → NotLeaves (eats g l (with_scan s r) o)
-  eats_stays r s o e u = go (waits r (feed (place r) s o))
+  eats_stays r s o e u = go (unsettled s r (feed (place r) s o))
     where
       again : State → Effect
       again = λ k. takes g l 2 k o

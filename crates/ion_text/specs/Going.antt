@@ -1,5 +1,5 @@
 -- Tokens that go on to the end of a document, read one by one, and that the reader of octets has no reason to refuse before.
-use Rattle.std.proofs.Common.{◌≡◌, ℕ, ◌+◌, ◌-◌, ◌≤◌, List, [], ◌∷◌, ◌++◌, Bool, true, false, Result, Ok, Err, Option, Some, None, refl, ap, sym, ◌∙◌, subst, arith, ◌⊎◌, inl, inr}
+use Rattle.std.proofs.Common.{◌≡◌, ℕ, ◌+◌, ◌≤◌, List, [], ◌∷◌, ◌++◌, Bool, true, false, Result, Ok, Err, Option, Some, None, refl, ap, sym, ◌∙◌, subst, arith, ◌⊎◌, inl, inr}
 use Rattle.std.proofs.lemmas.Bool.{cond-false}
 use Rattle.ion_model.specs.declared.value.Value.{Value}
 use Rattle.ion_model.specs.declared.refusal.Reason.{Reason}
@@ -256,7 +256,7 @@ module _ (g : Catalog) (l : Limits) where
       go (refuses y) k d = absurd d
       go (late y m) k d = absurd d
 
-  never_top : (r : Reading) → is_top r.frames ≡ false → is_top r.frames ≡ true → IsTopNow r.now
+  pub never_top : (r : Reading) → is_top r.frames ≡ false → is_top r.frames ≡ true → IsTopNow r.now
   never_top r h k = let n : true ≡ false = sym k ∙ h in absurd cc
 
   inside_direct : (r : Reading) (t : Placed) (c : Content) (ts : List Placed) (all : List Value) → is_top r.frames ≡ false → Going r (t ∷ ts) all → said t.lexeme.kind t.lexeme.octets ≡ Ok c → Direct r (token_of t.lexeme c) → InsideNext r.start t c ts
@@ -332,7 +332,7 @@ module _ (g : Catalog) (l : Limits) where
   waiting_end (nows.LongName v) end d w k = absurd w
   waiting_end (nows.Keyed s) end d w k = absurd w
 
-  settled_bound : (start end : ℕ) (fs : List Frame) (t : Turn) (ts : List Placed) (all : List Value) → is_top fs ≡ true → Settles g l start end fs t → TurnGoes t ts all ⊎ TurnEnds t all → end ≤ start + l.item
+  pub settled_bound : (start end : ℕ) (fs : List Frame) (t : Turn) (ts : List Placed) (all : List Value) → is_top fs ≡ true → Settles g l start end fs t → TurnGoes t ts all ⊎ TurnEnds t all → end ≤ start + l.item
   settled_bound start end fs (goes r) ts all h (inl k) d = absurd (let n : true ≡ false = sym h ∙ k.0 in cc)
   settled_bound start end fs (goes r) ts all h (inr k) d = k.1
   settled_bound start end fs (gives v r) ts all h k d = k.1

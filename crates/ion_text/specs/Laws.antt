@@ -1,5 +1,5 @@
 -- The promises of the reader of text, over the grammar.
-use Rattle.std.proofs.Common.{◌≡◌, ◌↔◌, ℕ, ◌+◌, List, ◌++◌, Result, Ok, Err, Option, ap, sym, ◌∙◌, option_to_list, ◌⊎◌, inl, inr, subst, Some}
+use Rattle.std.proofs.Common.{◌≡◌, ◌↔◌, ℕ, List, ◌++◌, Result, Ok, Err, Option, ap, sym, ◌∙◌, option_to_list, ◌⊎◌, inl, inr, subst, Some}
 use Rattle.ion_model.specs.declared.value.Value.{Value}
 use Rattle.ion_model.specs.declared.refusal.Refusal.{Refusal}
 use Rattle.ion_symtab.specs.declared.limits.Limits.{Limits}

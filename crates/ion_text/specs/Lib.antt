@@ -37,10 +37,12 @@ pub mod Accepts
 pub mod Laws
 pub mod Stops
 pub mod Reasons
+pub mod Segments
 pub mod Sizes
 pub mod Stands
 pub mod MarkerWords
 pub mod Progress
 pub mod Lengths
 pub mod Small
+pub mod Bounded
 pub mod showing

@@ -1,14 +1,13 @@
 -- Which tokens are one word of the form of a version marker.
-use Rattle.std.proofs.Common.{◌≡◌, ℕ, ◌+◌, ◌-◌, ◌^◌, ◌==◌, min, arith, nat_lt, List, [], ◌∷◌, ◌++◌, length, Bool, true, false, Ok, Option, Some, None, refl, ap, ◌∙◌, if◌then◌else◌, codes, ◌&&◌}
+use Rattle.std.proofs.Common.{◌≡◌, ℕ, ◌-◌, ◌^◌, ◌==◌, min, arith, nat_lt, List, [], ◌∷◌, ◌++◌, length, Bool, true, false, Ok, Option, Some, None, refl, ap, ◌∙◌, if◌then◌else◌, codes, ◌&&◌}
 use Rattle.std.proofs.lemmas.Slice.Eq.{bytes_eq-Decides}
 use Rattle.std.specs.Str.{bytes_eq}
 use Rattle.ion_model.specs.declared.kind.Kind.TheVariants as values
-use Rattle.ion_scalar.specs.declared.number.Number.{Number}
 use Rattle.ion_symtab.specs.Slots.{Slot}
 use Rattle.ion_tokens.specs.declared.mode.Place.{Place}
 use Rattle.ion_tokens.specs.declared.mode.TokenKind.{TokenKind}
 use Rattle.ion_tokens.specs.declared.mode.TokenKind.TheVariants as kinds
-use Rattle.ion_tokens.specs.Bodies.{Content, Word, Id, Long, Operator, Clob, Blob, IsBody, IsWordBody, id_of, number_in}
+use Rattle.ion_tokens.specs.Bodies.{Content, Word, Id, Long, IsBody, IsWordBody, id_of, number_in}
 use Rattle.ion_tokens.specs.Lexed.{Placed}
 use Rattle.ion_text.specs.declared.state.Held.{Held}
 use Rattle.ion_text.specs.declared.state.Held.TheVariants as helds

@@ -18,7 +18,6 @@ use Rattle.ion_tokens.specs.declared.mode.Keep.{Keep}
 use Rattle.ion_tokens.specs.declared.mode.Keep.TheVariants as keeps
 use Rattle.ion_tokens.specs.declared.mode.End.{End}
 use Rattle.ion_tokens.specs.declared.mode.End.TheVariants as ends'
-use Rattle.ion_tokens.specs.declared.mode.Mark.{Mark}
 use Rattle.ion_tokens.specs.declared.mode.Mark.TheVariants as marks
 use Rattle.ion_tokens.specs.declared.mode.TokenKind.{TokenKind}
 use Rattle.ion_tokens.specs.declared.mode.TokenKind.TheVariants as kinds

@@ -1,5 +1,5 @@
 -- Runs over pieces, and what a reader stands for between two of them.
-use Rattle.std.specs.Prelude.{◌≡◌, ◌≢◌, ◌<◌, ◌≤◌, ℕ, ◌+◌, Bool, true, false, List, [], ◌∷◌, ◌++◌, length, take, drop, get_or, Option, Some, None, Result, Ok, Err, IsNone, IfSome}
+use Rattle.std.specs.Prelude.{◌≡◌, ◌≢◌, ◌<◌, ◌≤◌, ℕ, ◌+◌, Bool, true, false, List, [], ◌∷◌, ◌++◌, length, take, drop, get_or, Option, Some, None, Result, Ok, Err, IfSome}
 use Rattle.ion_model.specs.declared.value.Value.{Value}
 use Rattle.ion_model.specs.declared.refusal.Reason.{Reason}
 use Rattle.ion_model.specs.declared.refusal.Reason.TheVariants.{Memory}
@@ -7,12 +7,16 @@ use Rattle.ion_model.specs.declared.refusal.Refusal.{Refusal}
 use Rattle.ion_symtab.specs.declared.items.Step.{Step}
 use Rattle.ion_symtab.specs.declared.limits.Limits.{Limits}
 use Rattle.ion_symtab.specs.declared.catalog.Catalog.{Catalog}
+use Rattle.ion_tokens.specs.declared.mode.Mode.{Mode}
+use Rattle.ion_tokens.specs.declared.mode.Mode.TheVariants as modes
 use Rattle.ion_tokens.specs.Bounds.{IsSteady}
-use Rattle.ion_tokens.specs.Views.{scanned, looks, failure}
+use Rattle.ion_tokens.specs.Views.{scanned, looks, failure, held_in}
+use Rattle.ion_text.specs.declared.state.Now.{Now}
+use Rattle.ion_text.specs.declared.state.Now.TheVariants as nows
 use Rattle.ion_text.specs.declared.state.Taken.{Taken}
 use Rattle.ion_text.specs.declared.state.Taken.TheVariants as taken
 use Rattle.ion_text.specs.declared.reader.TextReader.{TextReader}
-use Rattle.ion_text.specs.Run.{State, Effect, leaves, Run, run, eats, once_more, begun}
+use Rattle.ion_text.specs.Run.{State, leaves, Run, run, eats, once_more, begun}
 use Rattle.ion_text.specs.Runs.{led}
 use Rattle.ion_text.specs.Views.{state_of, IsFine, Told}
 
@@ -88,10 +92,23 @@ failed r = or_first r.failed (failure r.scanner)
 abbrev pub octets_used : TextReader → ℕ
 octets_used r = (scanned r.scanner).used
 
--- how many values may come before another octet is used: one, unless one came before the octet that is awaited
-abbrev pub pending_by : Option ℕ → ℕ
-pending_by None = 1
-pending_by (Some o) = 0
+-- how many octets of the open token are kept
+abbrev pub octets_kept : TextReader → ℕ
+octets_kept r = held_in (scanned r.scanner)
+
+-- no value and no token has begun, so that no octet shows the end of one
+abbrev pub is_quiet : Now → Mode → Bool
+is_quiet nows.Ready modes.Blank = true
+is_quiet _ _ = false
+
+abbrev pub pending_by : Bool → Option ℕ → ℕ
+pending_by quiet (Some o) = 0
+pending_by true None = 0
+pending_by false None = 1
+
+-- how many values may come before another octet is used: none where the next octet can't show the end of one, or showed it already
+abbrev pub pending : TextReader → ℕ
+pending r = pending_by (is_quiet r.stage (scanned r.scanner).mode) r.awaited
 
 -- The run over these octets gave these values and ended in what the reader holds. Where an octet is awaited, it shows the end of the last
 -- of them, which came before it.

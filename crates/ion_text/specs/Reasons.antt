@@ -40,7 +40,7 @@ use Rattle.ion_text.specs.declared.state.Frame.{Frame}
 use Rattle.ion_text.specs.declared.state.Frame.TheVariants as frames
 use Rattle.ion_text.specs.Grammar.{is_keyword}
 use Rattle.ion_text.specs.Machine.{Reading, Turn, goes, gives, refuses, late, Token, Symbols, at, fresh, place, settle, turn, turn_now, ended, within, turned, held_symbol, held_payload, released, begun_at, on_ready, on_after, on_name, on_pending, on_long, on_long_name, on_keyed, on_comma, struct_closed, list_closed, sexp_closed, bare_close, deeper, paid, noted, resolved, keyed, named}
-use Rattle.ion_text.specs.Run.{State, Effect, uses, tells, leaves, fails, begun, eats, takes, waits, noticed, shut, reaches, lesser, or_worse, on_scan, on_settled, on_said, behind_given, behind_left, with_scan, token_of, Run, run, run_on, once_more, trace, ends, ends_of, refused_of, cut_short, end_late, end_settled, end_turned, end_said, end_waiting, end_ready, end_now, is_fresh}
+use Rattle.ion_text.specs.Run.{State, Effect, uses, tells, leaves, fails, begun, eats, takes, unsettled, noticed, shut, reaches, lesser, or_worse, on_scan, on_settled, on_said, behind_given, behind_left, with_scan, token_of, Run, run, run_on, once_more, trace, ends_of, refused_of, cut_short, end_late, end_settled, end_turned, end_said, end_waiting, end_ready, end_now, is_fresh}
 
 abbrev pub TurnDecides : Turn → Type 0
 TurnDecides (goes r) = Unit {0}
@@ -333,7 +333,7 @@ module _ (g : Catalog) (l : Limits) where
 
   takes_decides : (n : ℕ) (m : State) (o : ℕ) → EffectDecides (takes g l n m o)
   takes_decides zero m o = tt
-  takes_decides (suc n) m o = go (waits m.reading (feed (place m.reading) m.scan o)) (λ k. takes_decides n k o)
+  takes_decides (suc n) m o = go (unsettled m.scan m.reading (feed (place m.reading) m.scan o)) (λ k. takes_decides n k o)
     where
       go : (b : Bool) → ((k : State) → EffectDecides (takes g l n k o))
           → EffectDecides (if b then on_scan g l (λ k. takes g l n k o) m.reading (feed (place m.reading) m.scan o) else on_settled g l (λ k. takes g l n k o) m.scan (feed (place m.reading) m.scan o) (settle g l m.reading))

@@ -1,5 +1,5 @@
 -- The reader of octets: the scanner, and behind it the reader of tokens; and whole runs of it.
-use Rattle.std.specs.Prelude.{ℕ, zero, suc, ◌+◌, ◌-◌, ◌==◌, Bool, true, false, ◌&&◌, not, List, [], ◌∷◌, nat_lt, nat_le, if◌then◌else◌, Result, Ok, Err, Option, Some, None}
+use Rattle.std.specs.Prelude.{ℕ, zero, suc, ◌+◌, ◌-◌, ◌==◌, Bool, true, false, ◌&&◌, ◌||◌, not, List, [], ◌∷◌, nat_lt, nat_le, if◌then◌else◌, Result, Ok, Err, Option, Some, None}
 use Rattle.ion_model.specs.declared.value.Value.{Value}
 use Rattle.ion_model.specs.declared.refusal.Reason.{Reason}
 use Rattle.ion_model.specs.declared.refusal.Refusal.{Refusal}
@@ -45,6 +45,13 @@ abbrev pub is_top : List Frame → Bool
 is_top [] = true
 is_top (f ∷ fs) = false
 
+abbrev pub has_segment : Option Begun → Bool
+has_segment None = false
+has_segment (Some b) = of_form b.form where
+  of_form : Form → Bool
+  of_form forms.Long = true
+  of_form _ = false
+
 abbrev pub waits_now : Bool → Now → Outcome → Bool
 waits_now top (nows.Pending h end) x = symbol_waits x
 waits_now top (nows.Long w end) x = long_waits top x
@@ -53,6 +60,15 @@ waits_now top _ x = false
 
 abbrev pub waits : Reading → Outcome → Bool
 waits r x = waits_now (is_top r.frames) r.now x
+
+-- behind a long string that waits a segment of it has begun, and what is refused is refused in it
+abbrev pub in_segment : Now → Known → Bool
+in_segment (nows.Long w end) s = has_segment (begun_in s)
+in_segment _ s = false
+
+-- nothing that waits is settled before the octet
+abbrev pub unsettled : Known → Reading → Outcome → Bool
+unsettled s r x = waits r x || in_segment r.now s
 
 -- no token may begin but a mark of one octet
 abbrev pub shut : Now → Bool
@@ -137,7 +153,7 @@ module _ (g : Catalog) (l : Limits) where
   on_settled again s x (late e r) = or_worse e (on_scan again r x)
 
   abbrev pub on_octet : (State → Effect) → State → Outcome → Effect
-  on_octet again m x = if waits m.reading x then on_scan again m.reading x else on_settled again m.scan x (settle g l m.reading)
+  on_octet again m x = if unsettled m.scan m.reading x then on_scan again m.reading x else on_settled again m.scan x (settle g l m.reading)
 
   -- the octet, which may end so many tokens before it
   abbrev pub takes : ℕ → State → ℕ → Effect

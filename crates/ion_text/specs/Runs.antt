@@ -1,5 +1,5 @@
 -- Runs in pieces, and what they have to do with runs of the scanner.
-use Rattle.std.proofs.Common.{◌≡◌, ℕ, ◌+◌, List, [], ◌∷◌, ◌++◌, length, Bool, true, false, Result, Ok, Err, refl, ap, sym, ◌∙◌, subst, arith, append-nil, if◌then◌else◌, ◌⊎◌, inl, inr}
+use Rattle.std.proofs.Common.{◌≡◌, ℕ, ◌+◌, List, [], ◌∷◌, ◌++◌, length, Bool, true, false, Result, Ok, Err, refl, ap, sym, ◌∙◌, subst, arith, append-nil, if◌then◌else◌, ◌⊎◌, inl, inr, ◌||◌}
 use Rattle.ion_model.specs.declared.value.Value.{Value}
 use Rattle.ion_model.specs.declared.refusal.Refusal.{Refusal}
 use Rattle.ion_symtab.specs.declared.limits.Limits.{Limits}
@@ -10,7 +10,7 @@ use Rattle.ion_tokens.specs.Scanning as scanning
 use Rattle.ion_tokens.specs.Scanning.{Known, Outcome, Next, Given, Left, Refused, feed, follow}
 use Rattle.ion_tokens.specs.Ahead.{OnNext, AtEach}
 use Rattle.ion_text.specs.Machine.{Reading, goes, place, settle}
-use Rattle.ion_text.specs.Run.{State, Effect, uses, tells, leaves, fails, eats, takes, waits, noticed, on_scan, on_settled, Run, run, run_on, once_more, with_value, with_scan, begun, trace, trace_of}
+use Rattle.ion_text.specs.Run.{State, Effect, uses, tells, leaves, fails, eats, takes, waits, in_segment, unsettled, noticed, on_scan, on_settled, Run, run, run_on, once_more, with_value, with_scan, begun, trace, trace_of}
 
 abbrev pub on_now : List (Value × ℕ) → Result State Refusal → (State → Run) → Run
 on_now given (Ok m) rest = record { given = given ++ (rest m).given; now = (rest m).now }
@@ -82,9 +82,9 @@ module _ (g : Catalog) (l : Limits) where
   go_on again r s x false (inl e) = absurd cc
   go_on again r s x false (inr e) = ap (on_settled g l again s x) e
 
-  first_stays : (r : Reading) (p : Place) (s : Known) (o : ℕ) (os : List ℕ) → Stays r p s (o ∷ os) → (waits r (feed p s o) ≡ true) ⊎ (settle g l r ≡ goes r)
+  first_stays : (r : Reading) (p : Place) (s : Known) (o : ℕ) (os : List ℕ) → Stays r p s (o ∷ os) → (unsettled s r (feed p s o) ≡ true) ⊎ (settle g l r ≡ goes r)
   first_stays r p s o os (inl e) = inr e
-  first_stays r p s o os (inr w) = inl w.0
+  first_stays r p s o os (inr w) = inl (ap (λ b. b || in_segment r.now s) w.0)
 
   rest_stays : (r : Reading) (p : Place) (s t : Known) (o : ℕ) (os : List ℕ) → feed p s o ≡ Next t → Stays r p s (o ∷ os) → Stays r p t os
   rest_stays r p s t o os e (inl h) = inl h
@@ -101,5 +101,5 @@ module _ (g : Catalog) (l : Limits) where
       let f = followed (feed (place r) s o) (λ k. scanning.run (place r) os k) t e in
       let quiet = subst (λ x. OnNext x (λ t. (noticed l r t ≡ uses (with_scan t r)) × Quiet r (place r) t os)) f.1 q in
       let now : eats g l (with_scan s r) o ≡ uses (with_scan f.0 r) =
-      go_on (λ k. takes g l 2 k o) r s (feed (place r) s o) (waits r (feed (place r) s o)) (first_stays r (place r) s o os w) ∙ (ap (on_scan g l (λ k. takes g l 2 k o) r) f.1 ∙ quiet.0) in
+      go_on (λ k. takes g l 2 k o) r s (feed (place r) s o) (unsettled s r (feed (place r) s o)) (first_stays r (place r) s o os w) ∙ (ap (on_scan g l (λ k. takes g l 2 k o) r) f.1 ∙ quiet.0) in
       ap (run_on to (λ n. eats g l n o) (λ n. run g l (to + 1) n os)) now ∙ drive os (to + 1) r f.0 t f.2 quiet.1 (rest_stays r (place r) s f.0 o os f.1 w)

@@ -26,7 +26,9 @@ use Rattle.ion_text.specs.declared.state.Now.TheVariants as nows
 use Rattle.ion_text.specs.declared.state.Frame.{Frame}
 use Rattle.ion_text.specs.declared.state.Frame.TheVariants as frames
 use Rattle.ion_text.specs.Machine.{Reading, Turn, goes, gives, refuses, late, Symbols, at, fresh, place, place_in, settle, turn, turn_now}
-use Rattle.ion_text.specs.Run.{State, Effect, uses, tells, leaves, fails, begun, eats, takes, waits, waits_now, noticed, shut, reaches, or_worse, on_scan, on_settled, on_said, behind_given, behind_left, with_scan, token_of, is_top, Run, run, run_on, once_more, trace, ends_of, cut_short, end_late, end_settled, end_turned, end_said, end_waiting, end_ready, end_now, is_fresh}
+use Rattle.ion_text.specs.Run.{State, Effect, uses, tells, leaves, fails, begun, eats, takes, waits, waits_now, in_segment, unsettled, noticed, shut, reaches, or_worse, on_scan, on_settled, on_said, behind_given, behind_left, with_scan, token_of, is_top, Run, run, run_on, once_more, trace, ends_of, cut_short, end_late, end_settled, end_turned, end_said, end_waiting, end_ready, end_now, is_fresh}
+use Rattle.ion_text.specs.Behind.{or_parts}
+use Rattle.ion_text.specs.Segments.{NotRefused, unsettled_waits}
 use Rattle.ion_text.specs.Sound.{start_now}
 use Rattle.ion_text.specs.Passed.{said_body}
 use Rattle.ion_text.specs.Places.{Leading, settle_same}
@@ -446,18 +448,18 @@ module _ (g : Catalog) (l : Limits) where
     -- An octet behind what is read.
     takes_came : (n : ℕ) (s : Known) (r : Reading) → Near from s r → s.used ≡ used → Came from used o (takes g l n (with_scan s r) o)
     takes_came zero s r h e = tt
-    takes_came (suc n) s r h e = go (waits r (feed (place r) s o)) refl (λ k i j. takes_came n k.scan k.reading i j)
+    takes_came (suc n) s r h e = go (unsettled s r (feed (place r) s o)) refl (λ k i j. takes_came n k.scan k.reading i j)
       where
         again : State → Effect
         again k = takes g l n k o
 
-        go : (b : Bool) → waits r (feed (place r) s o) ≡ b → Again again → Came from used o (if b then on_scan g l again r (feed (place r) s o) else on_settled g l again s (feed (place r) s o) (settle g l r))
+        go : (b : Bool) → unsettled s r (feed (place r) s o) ≡ b → Again again → Came from used o (if b then on_scan g l again r (feed (place r) s o) else on_settled g l again s (feed (place r) s o) (settle g l r))
         go true w f =
             let z = feed_measured (place r) s o h.sized in
-            scan_came (place r) s r again (feed (place r) s o) refl e f z (comes_near from s r h (feed (place r) s o) z (λ t q i. waits_in r.now (is_top r.frames) t (subst (λ x. waits r x ≡ true) q w)))
+            scan_came (place r) s r again (feed (place r) s o) refl e f z (comes_near from s r h (feed (place r) s o) z (λ t q i. waits_in r.now (is_top r.frames) t (subst (λ x. waits r x ≡ true) q (unsettled_waits (place r) s r o (subst NotRefused (sym q) tt) w))))
         go false w f =
             settled_came s r.frames r.now again (settle g l r) e h.sized f (settle_near from s r h) (settled_in (open_nodes r) r.start (wait_end r.now) (settle g l r) (settle_weighs g l r))
-            (settle_same g l r.start r.context r.frames r.notes r.now) (shown_before s r.start r.context r.frames r.notes r.now h w)
+            (settle_same g l r.start r.context r.frames r.notes r.now) (shown_before s r.start r.context r.frames r.notes r.now h (or_parts (waits r (feed (place r) s o)) (in_segment r.now s) w).0)
 
     -- the octet that showed the end of a value, again
     fresh_came : (s : Known) (c : List Slot) → Comes from (fresh c) (feed places.Top s o) → s.used ≡ used → Sized s → Came from used o (takes g l 3 (with_scan s (fresh c)) o)

@@ -1,5 +1,5 @@
 -- What the reader of tokens holds stands for the tokens of the open item, and what it gives they mean.
-use Rattle.std.proofs.Common.{◌≡◌, ℕ, ◌+◌, ◌-◌, ◌≤◌, arith, nat_le, nat_lt, List, [], ◌∷◌, ◌++◌, length, Bool, true, false, Result, Ok, Err, Option, Some, refl, ap, sym, ◌∙◌, subst, append_assoc, append-nil, if◌then◌else◌, ◌⊎◌, inl, inr, codes, ◌||◌, ◌&&◌}
+use Rattle.std.proofs.Common.{◌≡◌, ℕ, ◌+◌, ◌≤◌, arith, nat_le, nat_lt, List, [], ◌∷◌, ◌++◌, length, Bool, true, false, Result, Ok, Err, Option, Some, refl, ap, sym, ◌∙◌, subst, append_assoc, append-nil, if◌then◌else◌, ◌⊎◌, inl, inr, codes, ◌||◌, ◌&&◌}
 use Rattle.std.proofs.lemmas.Slice.Eq.{bytes_eq-Decides}
 use Rattle.std.specs.Str.{bytes_eq}
 use Rattle.ion_model.specs.declared.value.Value.{Value}
@@ -11,7 +11,6 @@ use Rattle.ion_model.specs.declared.refusal.Reason.{Reason}
 use Rattle.ion_model.specs.declared.refusal.Reason.TheVariants as reasons
 use Rattle.ion_model.specs.Measures.{depth, annotated}
 use Rattle.ion_model.specs.Kinds.{is_table}
-use Rattle.ion_scalar.specs.declared.number.Number.{Number}
 use Rattle.ion_scalar.specs.declared.number.Number.TheVariants as numbers
 use Rattle.ion_symtab.specs.declared.limits.Limits.{Limits}
 use Rattle.ion_symtab.specs.declared.catalog.Catalog.{Catalog}
@@ -191,10 +190,13 @@ symbol_said (Quoted w) = true
 symbol_said (TypedNull k) = true
 symbol_said _ = false
 
--- an id of the context has a symbol
-abbrev pub Resolves : List Slot → Content → Type 0
-Resolves c (Id id) = (s : Option (List ℕ)) × (resolve c id ≡ Ok s)
-Resolves c _ = Unit {0}
+-- this is held of such a token, where a value may come
+abbrev pub IsHeld : List Slot → Content → Held → Type 0
+IsHeld c (Word w) h = h ≡ held_word w
+IsHeld c (Id id) h = (s : Option (List ℕ)) × (resolve c id ≡ Ok s) × (h ≡ helds.Symbol s)
+IsHeld c (Quoted w) h = h ≡ helds.Symbol (Some w)
+IsHeld c (TypedNull k) h = h ≡ helds.Null k
+IsHeld c _ h = Unit {0}
 
 pub record PendingFor (c : List Slot) (fs : List Frame) (ss : Symbols) (h : Held) (ts : List Placed) : Type 0 where
   pub before : List Placed
@@ -206,7 +208,7 @@ pub record PendingFor (c : List Slot) (fs : List Frame) (ss : Symbols) (h : Held
   pub stood : Stood c said h
   pub other : (w : List ℕ) → said ≡ Long w → ⊥
   pub named : symbol_said said ≡ true
-  pub known : Resolves c said
+  pub known : IsHeld c said h
   pub unmarked : is_unmarked h ≡ true → is_version_word (token ∷ []) ≡ false
 
 pub record LongFor (c : List Slot) (fs : List Frame) (ss : Symbols) (w : List ℕ) (ts : List Placed) : Type 0 where
@@ -434,11 +436,11 @@ module _ (g : Catalog) (l : Limits) where
   symbol_stood : (c : List Slot) (said : Content) (s : Option (List ℕ)) → IsSymbol c said s → Stood c said (helds.Symbol s)
   symbol_stood c said s d = record { value = λ q h. subst (IsScalar c said) (let n : payloads.Symbol s ≡ q = cc in n) (is_symbol said s d); marker = λ s h. absurd cc; note = λ t h. subst (IsSymbol c said) (let n : s ≡ t = cc in n) d }
 
-  waits_sounds : (c : List Slot) (fs : List Frame) (ss : Symbols) (ts : List Placed) (t : Placed) (said : Content) (h : Held) (start end : ℕ) → ReadyFor c fs ss ts → Says (value_place fs) t said → Stood c said h → ((w : List ℕ) → said ≡ Long w → ⊥) → (symbol_said said ≡ true) → Resolves c said → (is_unmarked h ≡ true → is_version_word (t ∷ []) ≡ false) → Sounds c start end (ts ++ t ∷ []) (goes (at start c fs ss (nows.Pending h end)))
+  waits_sounds : (c : List Slot) (fs : List Frame) (ss : Symbols) (ts : List Placed) (t : Placed) (said : Content) (h : Held) (start end : ℕ) → ReadyFor c fs ss ts → Says (value_place fs) t said → Stood c said h → ((w : List ℕ) → said ≡ Long w → ⊥) → (symbol_said said ≡ true) → IsHeld c said h → (is_unmarked h ≡ true → is_version_word (t ∷ []) ≡ false) → Sounds c start end (ts ++ t ∷ []) (goes (at start c fs ss (nows.Pending h end)))
   waits_sounds c fs ss ts t said h start end d i s n k f m = inl ((refl, record { before = ts; ready = d; token = t; said = said; whole = refl; says = i; stood = s; other = n; named = k; known = f; unmarked = m }), refl, refl)
 
   id_sounds : (c : List Slot) (fs : List Frame) (ss : Symbols) (ts : List Placed) (t : Placed) (id start end : ℕ) (r : Result (Option (List ℕ)) Reason) → ReadyFor c fs ss ts → Says (value_place fs) t (Id id) → resolve c id ≡ r → Sounds c start end (ts ++ t ∷ []) (resolved r (λ s. goes (at start c fs ss (nows.Pending (helds.Symbol s) end))))
-  id_sounds c fs ss ts t id start end (Ok s) d i e = waits_sounds c fs ss ts t (Id id) (helds.Symbol s) start end d i (symbol_stood c (Id id) s (is_id id s e)) (λ w x. cc) refl (s, e) (λ x. id_no_word t id i.body)
+  id_sounds c fs ss ts t id start end (Ok s) d i e = waits_sounds c fs ss ts t (Id id) (helds.Symbol s) start end d i (symbol_stood c (Id id) s (is_id id s e)) (λ w x. cc) refl (s, e, refl) (λ x. id_no_word t id i.body)
   id_sounds c fs ss ts t id start end (Err x) d i e = tt
 
   opens_sounds : (c : List Slot) (fs : List Frame) (ss : Symbols) (ts : List Placed) (t : Placed) (start end : ℕ) (b : Bool) → ReadyFor c fs ss ts → Says (value_place fs) t (Mark' marks.ListOpen) → Sounds c start end (ts ++ t ∷ []) (if b then goes (at start c (frames.List ss [] ∷ fs) [] nows.Ready) else refuses reasons.Depth)
@@ -508,10 +510,10 @@ module _ (g : Catalog) (l : Limits) where
 
   -- a token where a value may come
   pub ready_sounds : (c : List Slot) (fs : List Frame) (ss : Symbols) (ts : List Placed) (t : Placed) (said : Content) (start : ℕ) → Deep l.depth fs → (d : ReadyFor c fs ss ts) → Says (value_place fs) t said → ((w : List ℕ) → said ≡ Long w → (long_behind c fs d.front d.outer && begins_long (d.notes ++ t ∷ [])) ≡ false) → Sounds c start t.lexeme.end (ts ++ t ∷ []) (on_ready g l.depth l.item t.lexeme.end start c fs ss said)
-  ready_sounds c fs ss ts t (Word w) start dd d i n = waits_sounds c fs ss ts t (Word w) (held_word w) start t.lexeme.end d i (word_stood c w) (λ v x. cc) refl tt (λ x. word_no_word t w i.body x)
+  ready_sounds c fs ss ts t (Word w) start dd d i n = waits_sounds c fs ss ts t (Word w) (held_word w) start t.lexeme.end d i (word_stood c w) (λ v x. cc) refl refl (λ x. word_no_word t w i.body x)
   ready_sounds c fs ss ts t (Id id) start dd d i n = id_sounds c fs ss ts t id start t.lexeme.end (resolve c id) d i refl
-  ready_sounds c fs ss ts t (Quoted w) start dd d i n = waits_sounds c fs ss ts t (Quoted w) (helds.Symbol (Some w)) start t.lexeme.end d i (symbol_stood c (Quoted w) (Some w) (is_quoted w)) (λ v x. cc) refl tt (λ x. other_word t (Quoted w) (λ v e. cc) (λ id e. cc) i.body)
-  ready_sounds c fs ss ts t (TypedNull k) start dd d i n = waits_sounds c fs ss ts t (TypedNull k) (helds.Null k) start t.lexeme.end d i (record { value = λ q h. subst (IsScalar c (TypedNull k)) (let n : payloads.Null k ≡ q = cc in n) (is_typed_null k); marker = λ s h. absurd cc; note = λ s h. absurd cc }) (λ v x. cc) refl tt (λ x. other_word t (TypedNull k) (λ v e. cc) (λ id e. cc) i.body)
+  ready_sounds c fs ss ts t (Quoted w) start dd d i n = waits_sounds c fs ss ts t (Quoted w) (helds.Symbol (Some w)) start t.lexeme.end d i (symbol_stood c (Quoted w) (Some w) (is_quoted w)) (λ v x. cc) refl refl (λ x. other_word t (Quoted w) (λ v e. cc) (λ id e. cc) i.body)
+  ready_sounds c fs ss ts t (TypedNull k) start dd d i n = waits_sounds c fs ss ts t (TypedNull k) (helds.Null k) start t.lexeme.end d i (record { value = λ q h. subst (IsScalar c (TypedNull k)) (let n : payloads.Null k ≡ q = cc in n) (is_typed_null k); marker = λ s h. absurd cc; note = λ s h. absurd cc }) (λ v x. cc) refl refl (λ x. other_word t (TypedNull k) (λ v e. cc) (λ id e. cc) i.body)
   ready_sounds c fs ss ts t (Long w) start dd d i n = inl ((refl, record { before = ts; ready = d; segments = t ∷ []; whole = refl; are = segment t w i; apart = n w refl }), refl, refl)
   ready_sounds c fs ss ts t (Short w) start dd d i n = plain_sounds c fs ss ts (t ∷ []) (payloads.Str w) start t.lexeme.end d (one_token (value_place fs) t (Short w) (payloads.Str w) i (is_short w)) (one_apart c fs ss ts t _ d i (λ v x. cc)) (λ a b. other_word t (Short w) (λ v e. cc) (λ id e. cc) i.body) (λ a. flat_level (annotated ss (payloads.Str w)) (flat_text ss w))
   ready_sounds c fs ss ts t (Number' (numbers.Int z)) start dd d i n = plain_sounds c fs ss ts (t ∷ []) (payloads.Int z) start t.lexeme.end d (one_token (value_place fs) t _ _ i (is_int z)) (one_apart c fs ss ts t _ d i (λ v x. cc)) (λ a b. other_word t (Number' (numbers.Int z)) (λ v e. cc) (λ id e. cc) i.body) (λ a. flat_level (annotated ss (payloads.Int z)) (flat_number ss (numbers.Int z)))

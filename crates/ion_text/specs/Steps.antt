@@ -17,14 +17,14 @@ use Rattle.ion_tokens.specs.Scanned.{Scanned, Continues}
 use Rattle.ion_text.specs.Grammar.{Pieces, begins}
 use Rattle.ion_tokens.specs.Said.{said}
 use Rattle.ion_text.specs.Machine.{Reading, Turn, goes, gives, refuses, late, place, place_in, settle, turn}
-use Rattle.ion_text.specs.Run.{State, Effect, uses, tells, leaves, fails, begun, eats, takes, waits, noticed, on_octet, on_scan, on_settled, on_said, behind_given, behind_left, or_worse, with_scan, token_of, is_top, shut, reaches, Run, run, run_on, once_more, with_value}
+use Rattle.ion_text.specs.Run.{State, Effect, uses, tells, leaves, fails, begun, eats, takes, waits, in_segment, unsettled, noticed, on_octet, on_scan, on_settled, on_said, behind_given, behind_left, or_worse, with_scan, token_of, is_top, shut, reaches, Run, run, run_on, once_more, with_value}
 use Rattle.ion_tokens.specs.Ahead.{is_sane, Follows, is_quoted}
 use Rattle.ion_tokens.specs.Follows.{feed_follows}
 use Rattle.ion_text.specs.Quotes.{Fine, Finely, feed_fine, given_far, left_none}
 use Rattle.ion_tokens.proofs.Scans.{scanned_next, scanned_given, scanned_left}
 use Rattle.ion_text.specs.Passed.{said_passes}
 use Rattle.ion_text.specs.Places.{Leading, settle_same}
-use Rattle.ion_text.specs.Behind.{Behind, Reads, Apart, ApartAt, Open, IsLongNow, open_apart, token_read, settled_read, nothing_open}
+use Rattle.ion_text.specs.Behind.{Behind, Reads, Apart, ApartAt, Open, IsLongNow, open_apart, token_read, settled_read, nothing_open, or_parts}
 
 module _ (g : Catalog) (l : Limits) where
   -- what came of an octet
@@ -98,17 +98,22 @@ module _ (g : Catalog) (l : Limits) where
         (token_read g l Scanned u vs s r ahead (ApartAt o s r) b x (λ a. (subst (λ y. Apart (is_top r.frames) y) e a, λ t. given_far x fi.1)) Scanned (u ++ o ∷ []) s' [] (λ n. Open s'.mode) k h
         (λ q. scanned_given (place r) s u (b.front ++ b.item) ahead b.scanned o c s' x e (said_passes x.kind x.octets k h) q) sane fi.0))
 
-    token_left : (s s' : Known) (r : Reading) (ahead : List ℕ) (again : State → Effect) → Continues (o ∷ []) ahead → AtOctet again → (b : Behind g l Scanned u vs s r ahead (ApartAt o s r)) → (x : Lexeme) → feed (place r) s o ≡ Left x s' → is_sane s'.mode ≡ true → Finely s.mode (Left x s')
-        → After u vs o (on_said (said x.kind x.octets) (λ c. behind_left again s' (turn g l r (token_of x c))))
-    token_left s s' r ahead again c f b x e sane fi =
-        said_after (said x.kind x.octets) (λ c. behind_left again s' (turn g l r (token_of x c)))
-        (λ k h. left_after again s' (turn g l r (token_of x k)) f
-        (token_read g l Scanned u vs s r ahead (ApartAt o s r) b x (λ a. (fi.1, λ t. left_none x.kind x.start x.end (unquoted (is_top r.frames) (is_quoted x.kind) t (subst (λ y. Apart (is_top r.frames) y) e a)))) Scanned u s' (o ∷ []) (λ n. ApartAt o s' n) k h
-        (λ q. scanned_left (place r) s u (b.front ++ b.item) ahead b.scanned o c s' x e (said_passes x.kind x.octets k h) q) sane fi.0))
+    -- what a token that is left leads to
+    pub left_reads : (s s' : Known) (r : Reading) (ahead : List ℕ) → Continues (o ∷ []) ahead → (b : Behind g l Scanned u vs s r ahead (ApartAt o s r)) → (x : Lexeme) → feed (place r) s o ≡ Left x s' → is_sane s'.mode ≡ true → Finely s.mode (Left x s') → (k : Content) → said x.kind x.octets ≡ Ok k
+        → Reads g l Scanned u vs s' (o ∷ []) (λ n. ApartAt o s' n) (turn g l r (token_of x k))
+    left_reads s s' r ahead c b x e sane fi k h =
+        token_read g l Scanned u vs s r ahead (ApartAt o s r) b x (λ a. (fi.1, λ t. left_none x.kind x.start x.end (unquoted (is_top r.frames) (is_quoted x.kind) t (subst (λ y. Apart (is_top r.frames) y) e a)))) Scanned u s' (o ∷ []) (λ n. ApartAt o s' n) k h
+        (λ q. scanned_left (place r) s u (b.front ++ b.item) ahead b.scanned o c s' x e (said_passes x.kind x.octets k h) q) sane fi.0
       where
         unquoted : (top quoted : Bool) → top ≡ true → (top && quoted) ≡ false → quoted ≡ false
         unquoted true quoted h k = k
         unquoted false quoted h k = absurd cc
+
+    token_left : (s s' : Known) (r : Reading) (ahead : List ℕ) (again : State → Effect) → Continues (o ∷ []) ahead → AtOctet again → (b : Behind g l Scanned u vs s r ahead (ApartAt o s r)) → (x : Lexeme) → feed (place r) s o ≡ Left x s' → is_sane s'.mode ≡ true → Finely s.mode (Left x s')
+        → After u vs o (on_said (said x.kind x.octets) (λ c. behind_left again s' (turn g l r (token_of x c))))
+    token_left s s' r ahead again c f b x e sane fi =
+        said_after (said x.kind x.octets) (λ c. behind_left again s' (turn g l r (token_of x c)))
+        (λ k h. left_after again s' (turn g l r (token_of x k)) f (left_reads s s' r ahead c b x e sane fi k h))
 
     -- An octet at the scanner.
     scan_after : (s : Known) (r : Reading) (ahead : List ℕ) (again : State → Effect) → Continues (o ∷ []) ahead → AtOctet again → (b : Behind g l Scanned u vs s r ahead (ApartAt o s r)) → (x : Outcome) → feed (place r) s o ≡ x
@@ -135,17 +140,17 @@ module _ (g : Catalog) (l : Limits) where
     places_only fs now (late x r) h = tt
 
     octet_after : (s : Known) (r : Reading) (ahead : List ℕ) (again : State → Effect) → Continues (o ∷ []) ahead → AtOctet again → (b : Behind g l Scanned u vs s r ahead (ApartAt o s r)) → After u vs o (on_octet g l again (with_scan s r) (feed (place r) s o))
-    octet_after s r ahead again c f b = go (waits r (feed (place r) s o)) refl
+    octet_after s r ahead again c f b = go (unsettled s r (feed (place r) s o)) refl
       where
-        go : (w : Bool) → waits r (feed (place r) s o) ≡ w → After u vs o (if w then on_scan g l again r (feed (place r) s o) else on_settled g l again s (feed (place r) s o) (settle g l r))
+        go : (w : Bool) → unsettled s r (feed (place r) s o) ≡ w → After u vs o (if w then on_scan g l again r (feed (place r) s o) else on_settled g l again s (feed (place r) s o) (settle g l r))
         go true e = octet_scanned s r ahead again c f b
-        go false e = settled_after s ahead again (place r) c f (settle g l r) (settled_read g l Scanned u vs s ahead o r.start r.context r.frames r.notes r.now b e) (places_only r.frames r.now (settle g l r) (settle_same g l r.start r.context r.frames r.notes r.now))
+        go false e = settled_after s ahead again (place r) c f (settle g l r) (settled_read g l Scanned u vs s ahead o r.start r.context r.frames r.notes r.now b (or_parts (waits r (feed (place r) s o)) (in_segment r.now s) e).0) (places_only r.frames r.now (settle g l r) (settle_same g l r.start r.context r.frames r.notes r.now))
 
     pub takes_after : (n : ℕ) (s : Known) (r : Reading) (ahead : List ℕ) → Continues (o ∷ []) ahead → Behind g l Scanned u vs s r ahead (ApartAt o s r) → After u vs o (takes g l n (with_scan s r) o)
     takes_after zero s r ahead c b = tt
     takes_after (suc n) s r ahead c b = octet_after s r ahead (λ k. takes g l n k o) c (λ k h. takes_after n k.scan k.reading (o ∷ []) ([], refl) h) b
 
-  open_at : (u : List ℕ) (vs : List Value) (o : ℕ) (s : Known) (r : Reading) → Behind g l Scanned u vs s r [] (Open s.mode) → Behind g l Scanned u vs s r [] (ApartAt o s r)
+  unfoldable pub open_at : (u : List ℕ) (vs : List Value) (o : ℕ) (s : Known) (r : Reading) → Behind g l Scanned u vs s r [] (Open s.mode) → Behind g l Scanned u vs s r [] (ApartAt o s r)
   open_at u vs o s r b = record {
     front = b.front;
     item = b.item;

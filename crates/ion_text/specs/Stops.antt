@@ -1,5 +1,5 @@
 -- Where a run is refused, and what the refusal says.
-use Rattle.std.proofs.Common.{◌≡◌, ℕ, ◌+◌, ◌-◌, ◌≤◌, List, [], ◌∷◌, ◌++◌, length, take, Bool, true, false, Result, Ok, Err, Option, Some, None, refl, ap, sym, ◌∙◌, subst, arith, append_assoc, append-nil, length-append, if◌then◌else◌}
+use Rattle.std.proofs.Common.{◌≡◌, ℕ, ◌+◌, ◌≤◌, List, [], ◌∷◌, ◌++◌, length, take, Bool, true, false, Result, Ok, Err, Option, Some, None, refl, ap, sym, ◌∙◌, subst, arith, append_assoc, append-nil, length-append, if◌then◌else◌}
 use Rattle.std.proofs.Math.Seq.{take-append-add}
 use Rattle.ion_model.specs.declared.value.Value.{Value}
 use Rattle.ion_model.specs.declared.refusal.Reason.{Reason}
@@ -11,14 +11,14 @@ use Rattle.ion_symtab.specs.declared.catalog.Catalog.{Catalog}
 use Rattle.ion_symtab.specs.Trace.{plain}
 use Rattle.ion_symtab.specs.Promises.{BeginsNone, NoTables, GivesNoTable}
 use Rattle.ion_tokens.specs.Bodies.{Content}
-use Rattle.ion_tokens.specs.Scanning.{Lexeme, at_end, run as scanned}
+use Rattle.ion_tokens.specs.Scanning.{Lexeme, at_end}
 use Rattle.ion_tokens.proofs.Runs.{next_used}
 use Rattle.ion_tokens.specs.Said.{said}
 use Rattle.ion_text.specs.declared.state.Now.{Now}
 use Rattle.ion_text.specs.declared.state.Now.TheVariants as nows
 use Rattle.ion_text.specs.Grammar.{Document}
 use Rattle.ion_text.specs.Machine.{Reading, Turn, goes, gives, refuses, late, place, settle, turn}
-use Rattle.ion_text.specs.Run.{State, Effect, uses, tells, leaves, fails, begun, eats, Run, run, run_on, once_more, trace, ends, ends_of, refused_of, cut_short, end_late, end_settled, end_turned, end_said, end_waiting, end_ready, end_now, is_fresh, token_of}
+use Rattle.ion_text.specs.Run.{State, Effect, uses, tells, leaves, fails, begun, eats, Run, run, run_on, once_more, trace, ends_of, refused_of, cut_short, end_late, end_settled, end_turned, end_said, end_waiting, end_ready, end_now, is_fresh, token_of}
 use Rattle.ion_text.specs.Runs.{run-append, on_now}
 use Rattle.ion_text.specs.Steps.{Stood, Ran, run_ran, begun_stood}
 use Rattle.ion_text.specs.Admits.{stood_accepted}
@@ -47,7 +47,7 @@ module _ (g : Catalog) (l : Limits) where
     pub stopped : (run g l 0 begun (before ++ o ∷ [])).now ≡ Err r
     pub same : run g l 0 begun u ≡ run g l 0 begun (before ++ o ∷ [])
 
-  behind_run : (u w : List ℕ) → run g l 0 begun (u ++ w) ≡ on_now (run g l 0 begun u).given (run g l 0 begun u).now (λ n. run g l (length u) n w)
+  pub behind_run : (u w : List ℕ) → run g l 0 begun (u ++ w) ≡ on_now (run g l 0 begun u).given (run g l 0 begun u).now (λ n. run g l (length u) n w)
   behind_run u w = run-append g l 0 (length u) u w (omega arith) begun
 
   refused_on : (x : Run) (r : Refusal) (f : State → Run) → x.now ≡ Err r → on_now x.given x.now f ≡ x

@@ -25,7 +25,6 @@ use Rattle.ion_text.specs.declared.state.Now.{Now}
 use Rattle.ion_text.specs.declared.state.Now.TheVariants as nows
 use Rattle.ion_text.specs.declared.state.Frame.{Frame}
 use Rattle.ion_text.specs.Grammar.{is_two_quotes}
-use Rattle.ion_tokens.specs.Said.{said}
 use Rattle.ion_text.specs.Run.{waits_now, token_of, is_top}
 use Rattle.ion_text.specs.Reads.{continues_now}
 use Rattle.ion_text.specs.Complete.{segment_kind}

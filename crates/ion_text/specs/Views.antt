@@ -1,5 +1,5 @@
 -- What a reader in memory stands for.
-use Rattle.std.specs.Prelude.{◌≡◌, ◌≢◌, ◌+◌, ℕ, List, [], ◌∷◌, reverse, Option, Some, None, Result, Ok, Err, IsNone, Bool, true, false}
+use Rattle.std.specs.Prelude.{◌≡◌, ◌≢◌, ◌+◌, ℕ, List, [], reverse, Option, Some, None, Result, Ok, Err, IsNone, Bool, true, false}
 use Rattle.ion_model.specs.declared.value.Value.{Value}
 use Rattle.ion_model.specs.declared.refusal.Reason.{Reason}
 use Rattle.ion_model.specs.declared.refusal.Refusal.{Refusal}

@@ -14,4 +14,15 @@ pub mod Froms
 pub mod Closing
 pub mod Opened
 pub mod Between
+pub mod Exacts
+pub mod Halts
+pub mod Chains
+pub mod Ahead
+pub mod Inside
+pub mod Halting
+pub mod Told
+pub mod Stuck
+pub mod Unended
+pub mod Awaited
+pub mod Refusing
 pub mod Given

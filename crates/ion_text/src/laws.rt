@@ -1,14 +1,13 @@
 //! Laws of text documents. Each stands on an empty function: its contract is the law. What they say of
 //! reading is said of the definitions of `specs/Run.antt`, which read octet by octet; `TextReader` is
 //! proved to answer what they say.
-ghost use Rattle.std.specs.Prelude.{◌≡◌, ◌≢◌, ◌↔◌, ◌≤◌, ◌++◌, ℕ, List, length, take, codes, Some, None, Err};
+ghost use Rattle.std.specs.Prelude.{◌≡◌, ◌↔◌, ◌++◌, ℕ, List, length, codes, Some, None, Err};
 ghost use Rattle.ion_model.specs.declared.value.Value.{Value};
-ghost use Rattle.ion_model.specs.declared.refusal.Reason.TheVariants.{Incomplete};
 ghost use Rattle.ion_model.specs.declared.refusal.Refusal.{Refusal};
 ghost use Rattle.ion_model.specs.Kept.{AreKept};
 ghost use Rattle.ion_symtab.specs.declared.limits.Limits.{Limits};
 ghost use Rattle.ion_symtab.specs.Tables.{Table};
-ghost use Rattle.ion_symtab.specs.Promises.{BeginsNone, GivesNoTable, HasReasons, IsSmall, NoTables, Shown, Shows};
+ghost use Rattle.ion_symtab.specs.Promises.{GivesNoTable, HasReasons, IsSmall, NoTables, Refuses, Shown, Shows};
 ghost use Rattle.ion_symtab.specs.Trace.{Grows, Streams, plain};
 ghost use Rattle.ion_symtab.specs.ContextTexts.{AreTextTables};
 ghost use Rattle.ion_text.specs.Grammar.{Document, OpenRest, Whole};
@@ -63,20 +62,14 @@ pub fn reading_grows()
         Grows (trace g l u) (trace g l (u ++ w)) }
 {}
 
-/// Where an octet is refused, no document begins with the octets up to it, and the end repeats the refusal; a
-/// refusal at the end alone counts all octets; neither is for want of memory or a fault of the catalog, and the
-/// first is not for want of more octets.
+/// Where an octet is refused, no document begins with the octets up to it, they show the values given, and
+/// the end repeats the refusal; a refusal at the end alone counts all octets; neither is for want of memory
+/// or a fault of the catalog, and the first is not for want of more octets.
 pub fn reading_refuses()
-    ensures within { (g : List Table) (l : Limits) (u : List ℕ) (r : Refusal) →
-        (trace g l u).refused ≡ Some r → r.offset ≤ length u }
-    ensures none { (g : List Table) (l : Limits) (u : List ℕ) (r : Refusal) →
-        (trace g l u).refused ≡ Some r → BeginsNone (Document g l) (take r.offset u) }
-    ensures ends { (g : List Table) (l : Limits) (u : List ℕ) (r : Refusal) →
-        (trace g l u).refused ≡ Some r → (trace g l u).ends ≡ Err r }
+    ensures whole { (g : List Table) (l : Limits) (u : List ℕ) (r : Refusal) →
+        (trace g l u).refused ≡ Some r → Refuses (Document g l) (Whole g l) u (trace g l u) r }
     ensures unfinished { (g : List Table) (l : Limits) (u : List ℕ) (r : Refusal) →
         (trace g l u).refused ≡ None → (trace g l u).ends ≡ Err r → r.offset ≡ length u }
-    ensures before_end { (g : List Table) (l : Limits) (u : List ℕ) (r : Refusal) →
-        (trace g l u).refused ≡ Some r → r.reason ≢ Incomplete }
     ensures reasons { (g : List Table) (l : Limits) (u : List ℕ) → HasReasons (trace g l u) }
 {}
 

@@ -7,12 +7,8 @@ mod reader;
 mod scalar;
 mod spelling;
 mod state;
-#[cfg(test)]
-mod tests;
 mod words;
 mod writer;
-#[cfg(test)]
-mod writer_tests;
 
 pub use reader::TextReader;
 pub use scalar::symbol_text;

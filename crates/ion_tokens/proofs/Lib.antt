@@ -5,6 +5,7 @@ pub mod Begins
 pub mod Causes
 pub mod Cutting
 pub mod Digits
+pub mod Encodings
 pub mod EndCauses
 pub mod Ended
 pub mod Escapes

@@ -6,7 +6,7 @@ use Rattle.std.proofs.lemmas.Bool.{false≢true}
 use Rattle.std.proofs.lemmas.Bool.Decides.{nat_tests}
 use lib.Utf8.{encode, scalar_cases}
 use Rattle.std.proofs.Math.Seq.{take-append_seam}
-use Rattle.std.proofs.str.Laws.{Shape, of1, of2, of3, of4, shape}
+use Rattle.ion_tokens.proofs.Encodings.{Encoding, one_octet, two_octets, three_octets, four_octets, encoding}
 use Rattle.ion_tokens.specs.declared.mode.Place.{Place}
 use Rattle.ion_tokens.specs.declared.mode.Style.{Style}
 use Rattle.ion_tokens.specs.declared.mode.Within.{Within}
@@ -70,14 +70,14 @@ begins_front : (xs ys : List ℕ) → xs ≢ [] → BeginsOther xs → BeginsOth
 begins_front [] ys n h = absurd (n refl)
 begins_front (x ∷ xs) ys n h = h
 
-raw_other : (c : ℕ) → c ≢ 39 → Shape c → (encode c ≢ []) × BeginsOther (encode c)
-raw_other c n (of1 l e) = rw e ((λ f. cc), n)
-raw_other c n (of2 x y l u f t e) = rw e ((λ f. cc), (λ i. omega arith))
-raw_other c n (of3 x y z l u f g t e) = rw e ((λ f. cc), (λ i. omega arith))
-raw_other c n (of4 x y z v l u f g h t e) = rw e ((λ f. cc), (λ i. omega arith))
+raw_other : (c : ℕ) → c ≢ 39 → Encoding c → (encode c ≢ []) × BeginsOther (encode c)
+raw_other c n (one_octet l e) = rw e ((λ f. cc), n)
+raw_other c n (two_octets x y l u f t e) = rw e ((λ f. cc), (λ i. omega arith))
+raw_other c n (three_octets x y z l u f g t e) = rw e ((λ f. cc), (λ i. omega arith))
+raw_other c n (four_octets x y z v l u f g h t e) = rw e ((λ f. cc), (λ i. omega arith))
 
 element_other : (e : Element) → IsElement styles.QuotedSymbol e → (spelling e ≢ []) × BeginsOther (spelling e)
-element_other (Raw c) i = raw_other c (⊎_elim (λ l. absurd (false≢true l)) (λ n. n) i.2) (shape c (scalar_cases c i.0))
+element_other (Raw c) i = raw_other c (⊎_elim (λ l. absurd (false≢true l)) (λ n. n) i.2) (encoding c (scalar_cases c i.0))
 element_other (RawLine e) i = absurd (false≢true i)
 element_other (Simple letter o) i = ((λ f. cc), (λ i. omega arith))
 element_other (Hidden Lf) i = ((λ f. cc), (λ i. omega arith))

@@ -4,8 +4,8 @@ use Rattle.std.specs.Prelude.{Some}
 use Rattle.std.specs.Char.{IsScalar}
 use Rattle.std.proofs.lemmas.Bool.Decides.{nat_tests}
 use lib.Utf8.{encode, scalar, scalar_cases}
-use Rattle.std.proofs.str.Laws as law
-use Rattle.std.proofs.str.Laws.{Shape, of1, of2, of3, of4, order}
+use Rattle.ion_tokens.proofs.Encodings as law
+use Rattle.ion_tokens.proofs.Encodings.{Encoding, one_octet, two_octets, three_octets, four_octets, order}
 use Rattle.ion_tokens.specs.Octets.{hexadecimal_digit}
 use Rattle.ion_tokens.specs.declared.mode.Place.{Place}
 use Rattle.ion_tokens.specs.declared.mode.Style.{Style}
@@ -76,17 +76,17 @@ no_clob s c h l = by (is_clob s) h where
   by true h = absurd (omega (arith, h refl))
 
 -- a raw character that isn't a long string's quote
-pub read_raw : (p : Place) (s : Style) (c : ℕ) (w : Within) (kept : List ℕ) → ((o : ℕ) → (o ≡ c) ⊎ (128 ≤ o) → Admits w o) → IsScalar c → c ≢ 92 → c ≢ quote_of s → Stands c → (IsTrue (is_clob s) → c < 128) → Shape c
+pub read_raw : (p : Place) (s : Style) (c : ℕ) (w : Within) (kept : List ℕ) → ((o : ℕ) → (o ≡ c) ⊎ (128 ≤ o) → Admits w o) → IsScalar c → c ≢ 92 → c ≢ quote_of s → Stands c → (IsTrue (is_clob s) → c < 128) → Encoding c
     → Goes p s w kept (encode c) within.Plain (kept ++ encode c)
-read_raw p s c w kept a scalar slash quote stands clob (of1 low e) = rw e (raw_step p s w c kept within.Plain (keeps.One c) (a c (inl refl)) (raw_one s c low slash quote stands))
-read_raw p s c w kept a scalar slash quote stands clob (of2 x y l u f t e) =
+read_raw p s c w kept a scalar slash quote stands clob (one_octet low e) = rw e (raw_step p s w c kept within.Plain (keeps.One c) (a c (inl refl)) (raw_one s c low slash quote stands))
+read_raw p s c w kept a scalar slash quote stands clob (two_octets x y l u f t e) =
     let least : 128 ≤ c = at_least_128 c (omega (arith, ap length e)) in
     let text : is_clob s ≡ false = no_clob s c clob least in
     rw e (goes_to p s w within.Plain (x ∷ y ∷ []) kept ((kept ++ x ∷ []) ++ y ∷ []) (kept ++ x ∷ y ∷ []) (append_assoc kept (x ∷ []) (y ∷ []))
     (goes_then p s w (within.Utf8 1 128 191) within.Plain (x ∷ []) (y ∷ []) kept (kept ++ x ∷ []) ((kept ++ x ∷ []) ++ y ∷ [])
     (raw_step p s w x kept (within.Utf8 1 128 191) (keeps.One x) (a x (inr (omega arith))) (raw_two s x text (quote_small s) (omega arith) u))
     (goes_one p s (within.Utf8 1 128 191) y (kept ++ x ∷ []) within.Plain (keeps.One y) (utf8_last s 128 191 y f.0 (omega arith)))))
-read_raw p s c w kept a scalar slash quote stands clob (of3 x y z l u f g t e) =
+read_raw p s c w kept a scalar slash quote stands clob (three_octets x y z l u f g t e) =
     let least : 2048 ≤ c = at_least_2048 c (omega (arith, ap length e)) in
     let text : is_clob s ≡ false = no_clob s c clob (omega arith) in
     let k : (c < 55296) ⊎ ((57344 ≤ c) × (c < 1114112)) = scalar_cases c scalar in
@@ -97,7 +97,7 @@ read_raw p s c w kept a scalar slash quote stands clob (of3 x y z l u f g t e) =
     (goes_then p s (within.Utf8 2 (least_three x) (most_three x)) (within.Utf8 1 128 191) within.Plain (y ∷ []) (z ∷ []) (kept ++ x ∷ []) ((kept ++ x ∷ []) ++ y ∷ []) (((kept ++ x ∷ []) ++ y ∷ []) ++ z ∷ [])
     (goes_one p s (within.Utf8 2 (least_three x) (most_three x)) y (kept ++ x ∷ []) (within.Utf8 1 128 191) (keeps.One y) (utf8_more s 2 (least_three x) (most_three x) y (omega arith) second.0 second.1))
     (goes_one p s (within.Utf8 1 128 191) z ((kept ++ x ∷ []) ++ y ∷ []) within.Plain (keeps.One z) (utf8_last s 128 191 z g.0 (omega arith))))))
-read_raw p s c w kept a scalar slash quote stands clob (of4 x y z v l u f g h t e) =
+read_raw p s c w kept a scalar slash quote stands clob (four_octets x y z v l u f g h t e) =
     let least : 65536 ≤ c = at_least_65536 c (omega (arith, ap length e)) in
     let text : is_clob s ≡ false = no_clob s c clob (omega arith) in
     let k : (c < 55296) ⊎ ((57344 ≤ c) × (c < 1114112)) = scalar_cases c scalar in

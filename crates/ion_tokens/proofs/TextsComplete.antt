@@ -4,7 +4,7 @@ use Rattle.std.specs.List.{flat_map, AllByRecursion}
 use Rattle.std.proofs.lemmas.Bool.Decides.{nat_tests}
 use Rattle.std.proofs.lemmas.Bool.{true≢false}
 use lib.Utf8.{encode, scalar_cases}
-use Rattle.std.proofs.str.Laws.{shape, order}
+use Rattle.ion_tokens.proofs.Encodings.{encoding, order}
 use Rattle.ion_tokens.specs.declared.mode.Place.{Place}
 use Rattle.ion_tokens.specs.declared.mode.Style.{Style}
 use Rattle.ion_tokens.specs.declared.mode.Within.{Within}
@@ -106,7 +106,7 @@ read_plain p s w kept c es q h i =
       tt,
       read_raw p s c w kept
           (λ o is. ready_octet s w (Raw c ∷ es) o h (⊎_elim (λ e. grind (arith, nat_tests)) (λ l e. omega arith) is) (λ long. ⊎_elim (λ e f. q long (sym e ∙ f)) (λ l e. omega arith) is))
-          i.0 i.1 no_quote i.3 i.4 (shape c (scalar_cases c i.0)),
+          i.0 i.1 no_quote i.3 i.4 (encoding c (scalar_cases c i.0)),
     )
 
 read_character : (p : Place) (s : Style) (w : Within) (kept : List ℕ) (c : ℕ) (es : List Element) → Ready s w (Raw c ∷ es) → IsRaw s c → (IsTrue (is_long s) → ClosesFirst (Raw c ∷ es)) → Reads p s w kept (Raw c) es

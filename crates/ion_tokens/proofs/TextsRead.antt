@@ -5,7 +5,7 @@ use Rattle.std.specs.List.{flat_map, AllByRecursion}
 use Rattle.std.specs.Char.{IsScalar}
 use Rattle.std.proofs.lemmas.Bool.{false≢true, true≢false}
 use Rattle.std.proofs.lemmas.Bool.Decides.{nat_tests}
-use Rattle.std.proofs.str.Laws.{order}
+use Rattle.ion_tokens.proofs.Encodings.{order}
 use lib.Utf8.{encode, scalar, scalar_cases}
 use Rattle.ion_tokens.specs.Octets.{hexadecimal_digit, escaped}
 use Rattle.ion_model.specs.declared.refusal.Reason.TheVariants as reasons

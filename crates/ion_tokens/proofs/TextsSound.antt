@@ -5,8 +5,8 @@ use Rattle.std.specs.List.{flat_map}
 use Rattle.std.specs.Char.{IsScalar}
 use Rattle.std.proofs.lemmas.Bool.{true≢false}
 use Rattle.std.proofs.lemmas.Bool.Decides.{nat_tests}
-use Rattle.std.proofs.str.Laws as law
-use Rattle.std.proofs.str.Laws.{order}
+use Rattle.ion_tokens.proofs.Encodings as law
+use Rattle.ion_tokens.proofs.Encodings.{order}
 use lib.Utf8.{encode}
 use Rattle.ion_model.specs.declared.refusal.Reason.TheVariants as reasons
 use Rattle.ion_tokens.specs.declared.mode.Style.{Style}

@@ -36,7 +36,7 @@ module _ (g : Catalog) (l : Limits) (u : List ℕ) (vs : List Value) (m : State)
 
   -- in an item, they are too
   within_item : Waits g l m.scan m.reading.now → is_fresh m.reading ≡ false → (item : List Placed) → b.item ≡ item → NoneLonger (stood_front g l u vs m b still).front
-  within_item wait f [] e = between (no_tokens g l u vs m b still e).0
+  within_item wait f [] e = between (no_tokens g l u vs m.scan m.reading [] [] (Open m.scan.mode) b ([], refl) e).0
   within_item wait f (t ∷ ts) e = λ v rest s i w.
       let x = stood_front g l u vs m b still in
       let ends : length x.front ≡ m.reading.start = x.ends ∙ ap (λ (y : Bool). if y then start_of m.scan.mode m.scan.start m.scan.used else m.reading.start) f in

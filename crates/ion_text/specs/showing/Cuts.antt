@@ -216,7 +216,7 @@ begins_once colon k octets t t' r r' a b e n =
     (subst (λ p. Is p t.lexeme (run p octets (at modes.Blank [] colon k k))) e (one_found colon k octets t r a)) (one_found colon k octets t' r' b) n
 
 -- a token that has begun isn't forgotten
-begun_kept : (p : Place) (os : List ℕ) (s t : Known) → is_sane s.mode ≡ true → is_idle s.mode ≡ false → run p os s ≡ Next t → is_idle t.mode ≡ false
+pub begun_kept : (p : Place) (os : List ℕ) (s t : Known) → is_sane s.mode ≡ true → is_idle s.mode ≡ false → run p os s ≡ Next t → is_idle t.mode ≡ false
 begun_kept p [] s t h i e = subst (λ (x : Known). is_idle x.mode ≡ false) (next_is s t e) i
 begun_kept p (o ∷ os) s t h i e =
     let x = followed (feed p s o) (λ n. run p os n) t e in

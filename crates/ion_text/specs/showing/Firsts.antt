@@ -32,6 +32,7 @@ use Rattle.ion_text.specs.Going.{mark_kind}
 use Rattle.ion_text.specs.Behind.{name_some}
 use Rattle.ion_text.specs.Sound.{Opened, NowStands, ReadyFor, symbol_said, value_place}
 use Rattle.ion_text.specs.Meets.{is_long_text, LongOn, long_feed}
+use Rattle.ion_text.specs.Segments.{long_quoting}
 use Rattle.ion_text.specs.Found.{next_is}
 use Rattle.ion_text.specs.showing.Cuts.{Is, one_found}
 
@@ -145,7 +146,7 @@ abbrev lexeme_of : Lexeme → Result (Option Lexeme) Reason → Lexeme
 lexeme_of d (Ok (Some x)) = x
 lexeme_of d _ = d
 
-long_run : (p : Place) (os : List ℕ) (s : Known) → is_long_text s.mode ≡ true → LongOn (run p os s)
+pub long_run : (p : Place) (os : List ℕ) (s : Known) → is_long_text s.mode ≡ true → LongOn (run p os s)
 long_run p [] s h = h
 long_run p (o ∷ os) s h = go (feed p s o) (long_feed p s o h) (λ t i. long_run p os t i)
   where
@@ -154,30 +155,6 @@ long_run p (o ∷ os) s h = go (feed p s o) (long_feed p s o h) (λ t i. long_ru
     go (Given x t) h f = h
     go (Left x t) h f = h
     go (Refused n e) h f = tt
-
-long_quoting : (m : Mode) → is_long_text m ≡ true → is_quoting m ≡ true
-long_quoting (modes.Text styles.LongString w) h = refl
-long_quoting (modes.Text styles.ShortString w) h = absurd cc
-long_quoting (modes.Text styles.QuotedSymbol w) h = absurd cc
-long_quoting (modes.Text styles.ShortClob w) h = absurd cc
-long_quoting (modes.Text styles.LongClob w) h = absurd cc
-long_quoting modes.Quote h = refl
-long_quoting modes.Quotes h = refl
-long_quoting modes.Blank h = absurd cc
-long_quoting modes.Slash h = absurd cc
-long_quoting modes.LineComment h = absurd cc
-long_quoting modes.BlockComment h = absurd cc
-long_quoting modes.BlockCommentStar h = absurd cc
-long_quoting modes.Colon h = absurd cc
-long_quoting modes.Word h = absurd cc
-long_quoting modes.KindName h = absurd cc
-long_quoting modes.Number h = absurd cc
-long_quoting modes.NumberSlash h = absurd cc
-long_quoting (modes.Operator x) h = absurd cc
-long_quoting modes.OperatorSlash h = absurd cc
-long_quoting (modes.Infinity n) h = absurd cc
-long_quoting modes.Brace h = absurd cc
-long_quoting (modes.Lob l) h = absurd cc
 
 -- `::` behind a blank is no token that has begun
 pub colons_never : (p : Place) (now used : ℕ) (token r more : List ℕ) (s : Known) → token ++ r ≡ 58 ∷ 58 ∷ more → run p token (blank true now used) ≡ Next s → is_idle s.mode ≡ false → ⊥

@@ -23,7 +23,8 @@ use Rattle.ion_text.specs.declared.state.Now.TheVariants as nows
 use Rattle.ion_text.specs.declared.state.Frame.{Frame}
 use Rattle.ion_text.specs.declared.state.Frame.TheVariants as frames
 use Rattle.ion_text.specs.Machine.{Reading, Turn, goes, gives, refuses, late, Token, Symbols, at, fresh, place, settle, turn, turned, ended, paid, released, held_payload, within}
-use Rattle.ion_text.specs.Run.{State, Effect, uses, tells, leaves, fails, eats, takes, waits, waits_now, noticed, on_octet, on_scan, on_settled, on_said, behind_given, behind_left, or_worse, with_scan, token_of, is_top, is_fresh, shut, reaches, run, run_on, once_more}
+use Rattle.ion_text.specs.Run.{State, Effect, uses, tells, leaves, fails, eats, takes, waits, waits_now, unsettled, noticed, on_octet, on_scan, on_settled, on_said, behind_given, behind_left, or_worse, with_scan, token_of, is_top, is_fresh, shut, reaches, run, run_on, once_more}
+use Rattle.ion_text.specs.Segments.{NotRefused, unsettled_waits}
 use Rattle.ion_text.specs.Reads.{Walk, walked, stopped, adds, on_turn, on_placed, on_judged, continues, reads}
 use Rattle.ion_text.specs.Places.{Leading, same_place, settle_same}
 use Rattle.ion_text.specs.Quotes.{Fine}
@@ -88,7 +89,7 @@ module _ (g : Catalog) (l : Limits) where
   released_freed end start c [] (s ∷ ss) h = paid_freed end start c [] (s ∷ ss) (held_payload h)
   released_freed end start c (f ∷ fs) ss h = paid_freed end start c (f ∷ fs) ss (held_payload h)
 
-  waiting_freed : (start : ℕ) (c : List Slot) (fs : List Frame) (ss : Symbols) (now : Now) → IsWaiting g l now → Leading g l (Freed start) (settle g l (at start c fs ss now))
+  pub waiting_freed : (start : ℕ) (c : List Slot) (fs : List Frame) (ss : Symbols) (now : Now) → IsWaiting g l now → Leading g l (Freed start) (settle g l (at start c fs ss now))
   waiting_freed start c fs ss (nows.Pending h end) w = released_freed end start c fs ss h
   waiting_freed start c fs ss (nows.Long v end) w = ended_freed end start c fs _
   waiting_freed start c fs ss nows.Ready w = absurd w
@@ -216,7 +217,7 @@ module _ (g : Catalog) (l : Limits) where
   Waits s (nows.Long w end) = (is_idle s.mode || is_quoting s.mode) ≡ true
   Waits s _ = Unit {0}
 
-  idle_waits : (s : Known) (now : Now) → is_idle s.mode ≡ true → Waits s now
+  pub idle_waits : (s : Known) (now : Now) → is_idle s.mode ≡ true → Waits s now
   idle_waits s (nows.Pending h end) i = i
   idle_waits s (nows.Long w end) i = ap (λ b. b || is_quoting s.mode) i
   idle_waits s nows.Ready i = tt
@@ -225,7 +226,7 @@ module _ (g : Catalog) (l : Limits) where
   idle_waits s (nows.LongName w) i = tt
   idle_waits s (nows.Keyed k) i = tt
 
-  free_waits : (s : Known) (now : Now) → IsFree now → Waits s now
+  pub free_waits : (s : Known) (now : Now) → IsFree now → Waits s now
   free_waits s (nows.Pending h end) i = absurd i
   free_waits s (nows.Long w end) i = absurd i
   free_waits s nows.Ready i = tt
@@ -243,7 +244,7 @@ module _ (g : Catalog) (l : Limits) where
   next_waits top (nows.LongName w) s e = tt
   next_waits top (nows.Keyed k) s e = tt
 
-  settle_free : (start : ℕ) (c : List Slot) (fs : List Frame) (ss : Symbols) (now : Now) → Leading g l (λ n. IsFree n.now) (settle g l (at start c fs ss now))
+  pub settle_free : (start : ℕ) (c : List Slot) (fs : List Frame) (ss : Symbols) (now : Now) → Leading g l (λ n. IsFree n.now) (settle g l (at start c fs ss now))
   settle_free start c fs ss now = go now refl
     where
       part : (t : Turn) → Leading g l (Freed start) t → Leading g l (λ n. IsFree n.now) t
@@ -314,7 +315,7 @@ module _ (g : Catalog) (l : Limits) where
     settled_waits s again r f h (late e n) k = worse_waits e (on_scan g l again n (feed (place r) s o))
 
     octet_waits : (s : Known) (r : Reading) (again : State → Effect) → Again again → Fine s → WaitsBehind (on_octet g l again (with_scan s r) (feed (place r) s o))
-    octet_waits s r again f h = go (waits r (feed (place r) s o)) refl
+    octet_waits s r again f h = go (unsettled s r (feed (place r) s o)) refl
       where
         both : (t : Turn) → Leading g l (λ n. IsFree n.now) t → Leading g l (λ n. (place n ≡ place r) × (is_top n.frames ≡ is_top r.frames)) t → Leading g l (λ n. IsFree n.now × (place n ≡ place r)) t
         both (goes n) a b = (a, b.0)
@@ -322,8 +323,8 @@ module _ (g : Catalog) (l : Limits) where
         both (refuses e) a b = tt
         both (late e n) a b = tt
 
-        go : (w : Bool) → waits r (feed (place r) s o) ≡ w → WaitsBehind (if w then on_scan g l again r (feed (place r) s o) else on_settled g l again s (feed (place r) s o) (settle g l r))
-        go true e = scan_waits s r again f h (feed (place r) s o) refl (λ t i. next_waits (is_top r.frames) r.now t (sym (ap (waits r) i) ∙ e))
+        go : (w : Bool) → unsettled s r (feed (place r) s o) ≡ w → WaitsBehind (if w then on_scan g l again r (feed (place r) s o) else on_settled g l again s (feed (place r) s o) (settle g l r))
+        go true e = scan_waits s r again f h (feed (place r) s o) refl (λ t i. next_waits (is_top r.frames) r.now t (sym (ap (waits r) i) ∙ unsettled_waits (place r) s r o (subst NotRefused (sym i) tt) e))
         go false e = settled_waits s again r f h (settle g l r) (both (settle g l r) (settle_free r.start r.context r.frames r.notes r.now) (settle_same g l r.start r.context r.frames r.notes r.now))
 
     takes_waits : (n : ℕ) (m : State) → Fine m.scan → WaitsBehind (takes g l n m o)

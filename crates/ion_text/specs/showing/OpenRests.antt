@@ -26,9 +26,10 @@ use Rattle.ion_text.specs.declared.state.Now.{Now}
 use Rattle.ion_text.specs.declared.state.Now.TheVariants as nows
 use Rattle.ion_text.specs.declared.state.Frame.{Frame}
 use Rattle.ion_text.specs.Grammar.{OpenRest, end_of}
-use Rattle.ion_text.specs.Machine.{Reading, Symbols, at, place}
+use Rattle.ion_text.specs.Machine.{Reading, Symbols, place}
 use Rattle.ion_text.specs.Run.{State, is_top, is_fresh, reaches, longest_top, is_long_begun}
 use Rattle.ion_text.specs.Behind.{IsFirst, Open, none_open}
+use Rattle.ion_text.specs.Complete.{last_end}
 use Rattle.ion_text.specs.Admits.{no_item}
 use Rattle.ion_text.specs.Quiet.{CalmNow}
 use Rattle.ion_text.specs.Sound.{EndsAt, NowStands}
@@ -53,12 +54,8 @@ lexed_end : (ts : List Placed) (colon : Bool) (before : ℕ) (octets : List ℕ)
 lexed_end [] colon before octets after end rest (c, b, o) = sym b
 lexed_end (t ∷ ts) colon before octets after end rest (q, b, h) = lexed_end ts (colon_behind t) t.lexeme.end q after end rest h
 
-last_end : (front : List Placed) (t : Placed) (ts : List Placed) (k d : ℕ) → end_of k (front ++ t ∷ ts) ≡ end_of d (t ∷ ts)
-last_end [] t ts k d = refl
-last_end (x ∷ xs) t ts k d = last_end xs t ts x.lexeme.end d
-
 -- and none begins behind that
-start_before : (front : List Placed) (t : Placed) (ts : List Placed) (colon : Bool) (before : ℕ) (octets : List ℕ) (after : Bool) (end : ℕ) (rest : List ℕ) → LexesTo colon before octets (front ++ t ∷ ts) after end rest → t.lexeme.start ≤ end
+pub start_before : (front : List Placed) (t : Placed) (ts : List Placed) (colon : Bool) (before : ℕ) (octets : List ℕ) (after : Bool) (end : ℕ) (rest : List ℕ) → LexesTo colon before octets (front ++ t ∷ ts) after end rest → t.lexeme.start ≤ end
 start_before [] t ts colon before octets after end rest (q, b, h) =
     let p = lexed_front ts (colon_behind t) t.lexeme.end q after end rest h in omega (arith, p.2, b.end, b.start)
 start_before (x ∷ xs) t ts colon before octets after end rest (q, b, h) = start_before xs t ts (colon_behind x) x.lexeme.end q after end rest h

@@ -25,7 +25,7 @@ use Rattle.ion_tokens.proofs.Histories.{begins_completes}
 use Rattle.ion_tokens.proofs.Holds.{InMode}
 use Rattle.ion_tokens.proofs.Moves.{at as scanning}
 use Rattle.ion_tokens.proofs.Wholes.{run_behind}
-use Rattle.ion_tokens.specs.Scanned.{Scanned}
+use Rattle.ion_tokens.specs.Scanned.{Scanned, Continues}
 use Rattle.ion_text.specs.declared.state.Held.{Held}
 use Rattle.ion_text.specs.declared.state.Now.{Now}
 use Rattle.ion_text.specs.declared.state.Now.TheVariants as nows
@@ -39,9 +39,9 @@ use Rattle.ion_text.specs.Places.{Leading}
 use Rattle.ion_text.specs.Passed.{said_body}
 use Rattle.ion_text.specs.Pieces.{ReadSoFar, GoesOn, pieces_read, quoted_kind, walked_now, settled_first, more_read, top_now}
 use Rattle.ion_text.specs.Complete.{Begins, starts, segment_kind, segments_long, ends_behind}
-use Rattle.ion_text.specs.Going.{Going, says_so, mark_kind}
+use Rattle.ion_text.specs.Going.{Going, going_said, says_so, mark_kind}
 use Rattle.ion_text.specs.Spans.{IsWaiting}
-use Rattle.ion_text.specs.Behind.{IsFirst, Open}
+use Rattle.ion_text.specs.Behind.{Behind as Stands, IsFirst, Open}
 use Rattle.ion_text.specs.Admits.{no_item}
 use Rattle.ion_text.specs.Sound.{NowStands, PendingFor, LongFor, symbol_said}
 use Rattle.ion_text.specs.Steps.{Stood}
@@ -50,7 +50,7 @@ use Rattle.ion_text.specs.showing.Cuts.{Behind, Parted, parted, lexed_front, Is,
 use Rattle.ion_text.specs.showing.Firsts.{OpensItem, opens_item, symbol_kind, now_first}
 use Rattle.ion_text.specs.showing.Compare.{Found', lexes_once, begins_after}
 use Rattle.ion_text.specs.showing.Once.{begins_lexed, operator_inside, whole_going, whole_found, whole_operators}
-use Rattle.ion_text.specs.showing.Longest.{escaped, k as behind_all, octets as all_octets, theirs as their_tokens, size as their_size}
+use Rattle.ion_text.specs.showing.Longest.{escaped, k as behind_all, octets as all_octets, theirs as their_tokens, size as their_size, long as their_long}
 use Rattle.ion_text.specs.showing.Walks.{Met, Walking, walking_said, settled_reads, adds_is, behind_read, meet}
 use Rattle.ion_text.specs.showing.Stays.{Arrived, arrived}
 use Rattle.ion_text.specs.showing.Froms.{fresh_parts, From, AllFrom, settle_from, walked_from, Waits}
@@ -61,7 +61,7 @@ lexed_from : (n : ℕ) (ts : List Placed) (colon : Bool) (before : ℕ) (octets 
 lexed_from n [] colon before octets after end rest g l k h = tt
 lexed_from n (t ∷ ts) colon before octets after end rest g l k (q, b, h) = (omega (arith, k, b.start), lexed_from n ts (colon_behind t) t.lexeme.end q after end rest g l (omega (arith, k, b.end)) h)
 
-segment_is : (k : TokenKind) → is_segment k ≡ true → k ≡ kinds.LongString
+pub segment_is : (k : TokenKind) → is_segment k ≡ true → k ≡ kinds.LongString
 segment_is kinds.LongString h = refl
 segment_is kinds.Word h = absurd cc
 segment_is kinds.KindName h = absurd cc
@@ -83,13 +83,13 @@ blank_token more x octets left rest colon n t b e f = (
 )
 
 -- what stands behind a symbol, or a string
-colons_token : (p : Place) (colon : Bool) (w r : List ℕ) (k : TokenKind) (kept : List ℕ) → IsLexeme p colon w r k kept → k ≡ kinds.Mark marks.Colons → (w ≡ codes "::") × (colon ≡ true)
+pub colons_token : (p : Place) (colon : Bool) (w r : List ℕ) (k : TokenKind) (kept : List ℕ) → IsLexeme p colon w r k kept → k ≡ kinds.Mark marks.Colons → (w ≡ codes "::") × (colon ≡ true)
 colons_token p colon w r k kept h e = let i = subst (λ x. IsLexeme p colon w r x kept) e h in (i.1, i.2)
 
-long_token : (p : Place) (colon : Bool) (w r : List ℕ) (k : TokenKind) (kept : List ℕ) → IsLexeme p colon w r k kept → k ≡ kinds.LongString → (x : List ℕ) × (w ≡ codes "''" ++ x)
+pub long_token : (p : Place) (colon : Bool) (w r : List ℕ) (k : TokenKind) (kept : List ℕ) → IsLexeme p colon w r k kept → k ≡ kinds.LongString → (x : List ℕ) × (w ≡ codes "''" ++ x)
 long_token p colon w r k kept h e = let i = subst (λ x. IsLexeme p colon w r x kept) e h in (39 ∷ (i.0 ++ codes "'''"), i.2)
 
-quoted_token : (p : Place) (colon : Bool) (w r : List ℕ) (k : TokenKind) (kept : List ℕ) → IsLexeme p colon w r k kept → k ≡ kinds.QuotedSymbol → length w ≡ 2 → w ≡ codes "''" ++ []
+pub quoted_token : (p : Place) (colon : Bool) (w r : List ℕ) (k : TokenKind) (kept : List ℕ) → IsLexeme p colon w r k kept → k ≡ kinds.QuotedSymbol → length w ≡ 2 → w ≡ codes "''" ++ []
 quoted_token p colon w r k kept h e n = let i = subst (λ x. IsLexeme p colon w r x kept) e h in by (i.0) (i.2)
   where
     by : (content : List ℕ) → w ≡ (39 ∷ content) ++ 39 ∷ [] → w ≡ codes "''" ++ []
@@ -113,7 +113,7 @@ symbol_colon p k octets c h e = go k (symbol_kind k octets c h e) h
     go kinds.Blob i h = absurd cc
 
 -- the last of a long string's tokens
-segments_last : (p : Place) (ts : List Placed) (w : List ℕ) → Segments p ts w → (front : List Placed) × (z : Placed) × (ts ≡ front ++ z ∷ []) × (z.place ≡ p) × (z.lexeme.kind ≡ kinds.LongString)
+pub segments_last : (p : Place) (ts : List Placed) (w : List ℕ) → Segments p ts w → (front : List Placed) × (z : Placed) × (ts ≡ front ++ z ∷ []) × (z.place ≡ p) × (z.lexeme.kind ≡ kinds.LongString)
 segments_last p _ _ (segment t w h) = ([], t, refl, h.place, segment_is t.lexeme.kind (segment_kind t.lexeme.kind t.lexeme.octets w h.body))
 segments_last p _ _ (joined ts v w t d h) = (ts, t, refl, h.place, segment_is t.lexeme.kind (segment_kind t.lexeme.kind t.lexeme.octets w h.body))
 
@@ -121,7 +121,7 @@ last_colon : (z : Placed) (colon : Bool) (before : ℕ) (octets : List ℕ) (aft
 last_colon z colon before octets after end rest (q, b, h) = h.0
 
 -- in a container the place isn't the top level
-inside_place : (f : Frame) (fs : List Frame) (now : Now) → places.Top ≡ place_in (f ∷ fs) now → ⊥
+pub inside_place : (f : Frame) (fs : List Frame) (now : Now) → places.Top ≡ place_in (f ∷ fs) now → ⊥
 inside_place (frames.List ss vs) fs now e = cc
 inside_place (frames.Sexp ss vs) fs now e = cc
 inside_place (frames.Named ss ms s) fs now e = cc
@@ -133,27 +133,21 @@ inside_place (frames.Fields ss ms) fs nows.Name e = cc
 inside_place (frames.Fields ss ms) fs (nows.LongName w) e = cc
 inside_place (frames.Fields ss ms) fs (nows.Keyed s) e = cc
 
-module _ (g : Catalog) (l : Limits) (u : List ℕ) (vs : List Value) (m : State) (b : Stood g l u vs m) (x : Placed) (xs : List Placed) (some : b.item ≡ x ∷ xs) where
-  abbrev s : Known
-  s = m.scan
-
-  abbrev r : Reading
-  r = m.reading
-
+module _ (g : Catalog) (l : Limits) (u : List ℕ) (vs : List Value) (s : Known) (r : Reading) (ahead : List ℕ) (A : Type 0) (b : Stands g l Scanned u vs s r ahead A) (used : s.used ≡ length u) (x : Placed) (xs : List Placed) (some : b.item ≡ x ∷ xs) where
   abbrev p : Place
-  p = place m.reading
+  p = place r
 
-  k : Behind p s u (b.front ++ b.item) []
-  k = behind_all g l u vs m b
+  abbrev pub k : Behind p s u (b.front ++ b.item) ahead
+  k = behind_all g l u vs s r ahead A b used
 
-  new : is_fresh r ≡ false
+  pub new : is_fresh r ≡ false
   new = by (is_fresh r) refl
     where
       by : (y : Bool) → is_fresh r ≡ y → y ≡ false
       by false e = refl
-      by true e = absurd (let n : [] ≡ x ∷ xs = sym (no_item g l Scanned u vs s r [] (Open s.mode) b e) ∙ some in cc)
+      by true e = absurd (let n : [] ≡ x ∷ xs = sym (no_item g l Scanned u vs s r ahead A b e) ∙ some in cc)
 
-  a : Arrived g l r.context r.frames r.now b.item
+  pub a : Arrived g l r.context r.frames r.notes r.now b.item
   a = arrived g l r.context r.frames r.notes r.now b.item b.deep b.stands new
 
   -- the item's first token is no `::`
@@ -178,7 +172,7 @@ module _ (g : Catalog) (l : Limits) (u : List ℕ) (vs : List Value) (m : State)
   read : reads g l (fresh system_slots) (b.front ++ b.item) ≡ walked (vs ++ []) a.r
   read = more_read g l b.front b.item vs r.context (pieces_read g l b.front vs r.context b.pieces) first b.first ∙ ap (adds vs) a.read
 
-  begins : starts g l 0 [] b.item ≡ r.start
+  pub begins : starts g l 0 [] b.item ≡ r.start
   begins = subst (λ y. IsFirst y r.start → starts g l 0 [] y ≡ r.start) (sym some) (λ e. e) b.begins
 
   -- where an item begins that no earlier token begins
@@ -197,55 +191,63 @@ module _ (g : Catalog) (l : Limits) (u : List ℕ) (vs : List Value) (m : State)
       by (inl (y, e, h, i)) = settled y h i (subst (Leading g l (From g l n)) e (settle_from g l n a.r.start a.r.context a.r.frames a.r.notes a.r.now f))
       by (inr (w, w', e)) = waiting w' e f
 
-  -- whole pieces at the front of the octets, before octets that show that no token has ended
-  module _ (f : Escape p s) (v rest : List ℕ) (t : List Value) (cut : u ≡ v ++ rest) (w : Whole g l v (rest ++ f.octets) t) where
-    theirs : LexesTo false 0 (u ++ f.octets) w.tokens w.colon w.end (w.blank ++ (rest ++ f.octets))
-    theirs = their_tokens g l u vs m b v rest f.octets t cut w
+  -- whole pieces at the front of the octets, before octets that go on with those ahead
+  module _ (more : List ℕ) (c : Continues more ahead) (v rest : List ℕ) (t : List Value) (cut : u ≡ v ++ rest) (w : Whole g l v (rest ++ more) t) where
+    pub theirs : LexesTo false 0 (u ++ more) w.tokens w.colon w.end (w.blank ++ (rest ++ more))
+    theirs = their_tokens g l u vs s r ahead A b used v rest more t cut w
 
-    size : w.end + length w.blank ≡ length v
-    size = their_size g l u vs m b v rest f.octets t cut w
+    pub size : w.end + length w.blank ≡ length v
+    size = their_size g l u vs s r ahead A b used v rest more t cut w
 
-    long : length v ≤ length u
-    long = omega (arith, ap length cut, length-append v rest)
+    pub long : length v ≤ length u
+    long = their_long g l u vs s r ahead A b used v rest more t cut w
 
-    ours : LexesTo false 0 (u ++ f.octets) (b.front ++ b.item) k.colon k.end (k.since ++ f.octets)
-    ours = k.lexes f.octets (f.octets, refl)
+    pub ours : LexesTo false 0 (u ++ more) (b.front ++ b.item) k.colon k.end (k.since ++ more)
+    ours = k.lexes more c
 
     going : Going g l (fresh system_slots) w.tokens t
-    going = whole_going g l v (rest ++ f.octets) t w
+    going = whole_going g l v (rest ++ more) t w
 
     met : Met (b.front ++ b.item) w.tokens
     met =
-        meet g l (λ s octets. Unit {0}) initial (u ++ f.octets) (b.front ++ b.item)
-        (begins_completes (b.front ++ b.item) false 0 (u ++ f.octets) [] (u ++ f.octets) initial (begins_lexed (b.front ++ b.item) false 0 (u ++ f.octets) k.colon k.end (k.since ++ f.octets) ours) refl (λ p. refl))
-        w.tokens (subst (λ y. Found' (λ s octets. Unit {0}) initial y w.tokens) (all_octets g l u vs m b v rest f.octets t cut w) (whole_found g l v (rest ++ f.octets) t w))
-        (whole_operators g l v (rest ++ f.octets) t w) (fresh system_slots) t (record { vs = vs ++ []; n = a.r; read = read }) going
+        meet g l (λ s octets. Unit {0}) initial (u ++ more) (b.front ++ b.item)
+        (begins_completes (b.front ++ b.item) false 0 (u ++ more) [] (u ++ more) initial (begins_lexed (b.front ++ b.item) false 0 (u ++ more) k.colon k.end (k.since ++ more) ours) refl (λ p. refl))
+        w.tokens (subst (λ y. Found' (λ s octets. Unit {0}) initial y w.tokens) (all_octets g l u vs s r ahead A b used v rest more t cut w) (whole_found g l v (rest ++ more) t w))
+        (whole_operators g l v (rest ++ more) t w) (fresh system_slots) t (record { vs = vs ++ []; n = a.r; read = read }) going
 
-    -- they have no token more
-    never_more : (z : Placed) (zs : List Placed) → w.tokens ≡ (b.front ++ b.item) ++ z ∷ zs → ⊥
-    never_more z zs e =
-        let d = parted (b.front ++ b.item) (z ∷ zs) false 0 (u ++ f.octets) w.colon w.end (w.blank ++ (rest ++ f.octets)) (subst (λ y. LexesTo false 0 (u ++ f.octets) y w.colon w.end (w.blank ++ (rest ++ f.octets))) e theirs) in
-        let one = lexes_once (b.front ++ b.item) false 0 (u ++ f.octets) d.flag k.colon d.mid k.end d.left (k.since ++ f.octets) d.first ours in
+    -- where they have more tokens, the reading goes on with those
+    pub going_behind : (ws : List Placed) → w.tokens ≡ (b.front ++ b.item) ++ ws → (all : List Value) × Going g l a.r ws all
+    going_behind ws e =
+        let more = behind_read g l (b.front ++ b.item) ws (fresh system_slots) a.r going.n (vs ++ []) going.vs read (ap (reads g l (fresh system_slots)) (sym e) ∙ going.read) in
+        (more.0 ++ going.later, record { vs = more.0; later = going.later; n = going.n; c = going.c; read = more.1; ends = going.ends; whole = refl })
+
+    -- where they have, the next one ends behind the octets
+    abbrev pub NoneMore : Type 0
+    NoneMore = (z : Placed) (zs : List Placed) → w.tokens ≡ (b.front ++ b.item) ++ z ∷ zs → Is p z.lexeme (run p more s) → z.lexeme.end ≤ s.used → ⊥
+
+    never_more : NoneMore → (z : Placed) (zs : List Placed) → w.tokens ≡ (b.front ++ b.item) ++ z ∷ zs → ⊥
+    never_more ended z zs e =
+        let d = parted (b.front ++ b.item) (z ∷ zs) false 0 (u ++ more) w.colon w.end (w.blank ++ (rest ++ more)) (subst (λ y. LexesTo false 0 (u ++ more) y w.colon w.end (w.blank ++ (rest ++ more))) e theirs) in
+        let one = lexes_once (b.front ++ b.item) false 0 (u ++ more) d.flag k.colon d.mid k.end d.left (k.since ++ more) d.first ours in
         let found = one_found d.flag d.mid d.left z d.second.0 d.second.1 in
-        let here : Is z.place z.lexeme (run z.place (k.since ++ f.octets) (scanning modes.Blank [] k.colon k.end k.end)) =
+        let here : Is z.place z.lexeme (run z.place (k.since ++ more) (scanning modes.Blank [] k.colon k.end k.end)) =
         subst (λ y. Is z.place z.lexeme (run z.place y (scanning modes.Blank [] k.colon k.end k.end))) one.2
         (subst (λ (y : ℕ). Is z.place z.lexeme (run z.place d.left (scanning modes.Blank [] k.colon y y))) one.1 (subst (λ y. Is z.place z.lexeme (run z.place d.left (scanning modes.Blank [] y d.mid d.mid))) one.0 found)) in
-        let more = behind_read g l (b.front ++ b.item) (z ∷ zs) (fresh system_slots) a.r going.n (vs ++ []) going.vs read (ap (reads g l (fresh system_slots)) (sym e) ∙ going.read) in
-        let at' = (walking_said g l a.r z zs (record { vs = more.0; n = going.n; read = more.1 })).0 ∙ a.here in
-        let placed : Is p z.lexeme (run p (k.since ++ f.octets) (scanning modes.Blank [] k.colon k.end k.end)) = subst (λ q. Is q z.lexeme (run q (k.since ++ f.octets) (scanning modes.Blank [] k.colon k.end k.end))) at' here in
-        let there = subst (Is p z.lexeme) (run_behind p k.since f.octets (scanning modes.Blank [] k.colon k.end k.end) s k.reached) placed in
-        let last = lexed_front zs (colon_behind z) z.lexeme.end d.second.0 w.colon w.end (w.blank ++ (rest ++ f.octets)) d.second.2 in
-        escaped p s f.octets z.lexeme f.escapes there (omega (arith, last.2, long, size, stood_used g l u vs m b))
+        let at' = (going_said g l a.r z zs (going_behind (z ∷ zs) e).0 (going_behind (z ∷ zs) e).1).0 ∙ a.here in
+        let placed : Is p z.lexeme (run p (k.since ++ more) (scanning modes.Blank [] k.colon k.end k.end)) = subst (λ q. Is q z.lexeme (run q (k.since ++ more) (scanning modes.Blank [] k.colon k.end k.end))) at' here in
+        let there = subst (Is p z.lexeme) (run_behind p k.since more (scanning modes.Blank [] k.colon k.end k.end) s k.reached) placed in
+        let last = lexed_front zs (colon_behind z) z.lexeme.end d.second.0 w.colon w.end (w.blank ++ (rest ++ more)) d.second.2 in
+        ended z zs e there (omega (arith, last.2, long, size, used))
 
     -- where they are the fewer, they end before the next token, and the open item begins no earlier
     fewer : (y : Placed) (ys : List Placed) → b.front ++ b.item ≡ w.tokens ++ y ∷ ys → y.place ≡ places.Top → length v ≤ r.start
-    fewer y ys e top = by (continues d.now (token_of y.lexeme c)) refl
+    fewer y ys e top = by (continues d.now (token_of y.lexeme content)) refl
       where
-        parts : Parted false 0 (u ++ f.octets) w.tokens (y ∷ ys) k.colon k.end (k.since ++ f.octets)
-        parts = parted w.tokens (y ∷ ys) false 0 (u ++ f.octets) k.colon k.end (k.since ++ f.octets) (subst (λ z. LexesTo false 0 (u ++ f.octets) z k.colon k.end (k.since ++ f.octets)) e ours)
+        parts : Parted false 0 (u ++ more) w.tokens (y ∷ ys) k.colon k.end (k.since ++ more)
+        parts = parted w.tokens (y ∷ ys) false 0 (u ++ more) k.colon k.end (k.since ++ more) (subst (λ z. LexesTo false 0 (u ++ more) z k.colon k.end (k.since ++ more)) e ours)
 
-        one : (parts.flag ≡ w.colon) × (parts.mid ≡ w.end) × (parts.left ≡ w.blank ++ (rest ++ f.octets))
-        one = lexes_once w.tokens false 0 (u ++ f.octets) parts.flag w.colon parts.mid w.end parts.left (w.blank ++ (rest ++ f.octets)) parts.first theirs
+        one : (parts.flag ≡ w.colon) × (parts.mid ≡ w.end) × (parts.left ≡ w.blank ++ (rest ++ more))
+        one = lexes_once w.tokens false 0 (u ++ more) parts.flag w.colon parts.mid w.end parts.left (w.blank ++ (rest ++ more)) parts.first theirs
 
         token : BeginsWith parts.flag parts.mid parts.left y (parts.second).0
         token = (parts.second).1
@@ -253,31 +255,31 @@ module _ (g : Catalog) (l : Limits) (u : List ℕ) (vs : List Value) (m : State)
         behind : length v ≤ y.lexeme.start
         behind =
             let plain = operator_inside y.place parts.flag token.token (parts.second).0 y.lexeme.kind y.lexeme.octets token.is (ap is_sexp top) in
-            let starts = begins_after parts.flag parts.mid parts.left y (parts.second).0 w.blank (rest ++ f.octets) token plain w.is_blank one.2 in
+            let starts = begins_after parts.flag parts.mid parts.left y (parts.second).0 w.blank (rest ++ more) token plain w.is_blank one.2 in
             omega (arith, starts, one.1, size)
 
         d : ReadSoFar g l w.tokens t w.context
         d = pieces_read g l w.tokens t w.context w.pieces
 
-        more : (ws : List Value) × (reads g l d.now (y ∷ ys) ≡ walked ws a.r)
-        more = behind_read g l w.tokens (y ∷ ys) (fresh system_slots) d.now a.r d.given (vs ++ []) d.read (ap (reads g l (fresh system_slots)) (sym e) ∙ read)
+        others : (ws : List Value) × (reads g l d.now (y ∷ ys) ≡ walked ws a.r)
+        others = behind_read g l w.tokens (y ∷ ys) (fresh system_slots) d.now a.r d.given (vs ++ []) d.read (ap (reads g l (fresh system_slots)) (sym e) ∙ read)
 
         is : (y.place ≡ place d.now) × (c : Content) × (said y.lexeme.kind y.lexeme.octets ≡ Ok c)
-        is = walking_said g l d.now y ys (record { vs = more.0; n = a.r; read = more.1 })
+        is = walking_said g l d.now y ys (record { vs = others.0; n = a.r; read = others.1 })
 
-        c : Content
-        c = is.1
+        content : Content
+        content = is.1
 
-        body : (c' : Content) → c ≡ c' → IsBody y.lexeme.kind y.lexeme.octets (Ok c')
-        body c' h = subst (λ z. IsBody y.lexeme.kind y.lexeme.octets (Ok z)) h (said_body y.lexeme.kind y.lexeme.octets c is.2)
+        body : (c' : Content) → content ≡ c' → IsBody y.lexeme.kind y.lexeme.octets (Ok c')
+        body c' h = subst (λ z. IsBody y.lexeme.kind y.lexeme.octets (Ok z)) h (said_body y.lexeme.kind y.lexeme.octets content is.2)
 
         quotes : ends_long w.tokens ≡ true → (z : List ℕ) → token.token ≡ codes "''" ++ z → ⊥
-        quotes h z i = w.no_segment h (blank_token (codes "''") z parts.left (w.blank ++ (rest ++ f.octets)) (parts.second).0 parts.flag parts.mid y token i one.2)
+        quotes h z i = w.no_segment h (blank_token (codes "''") z parts.left (w.blank ++ (rest ++ more)) (parts.second).0 parts.flag parts.mid y token i one.2)
 
-        goes_on : (c ≡ Mark' marks.Colons) ⊎ ((ends_long w.tokens ≡ true) × GoesOn (token_of y.lexeme c)) → ⊥
+        goes_on : (content ≡ Mark' marks.Colons) ⊎ ((ends_long w.tokens ≡ true) × GoesOn (token_of y.lexeme content)) → ⊥
         goes_on (inl h) =
             let i = colons_token y.place parts.flag token.token (parts.second).0 y.lexeme.kind y.lexeme.octets token.is (mark_kind y.lexeme.kind y.lexeme.octets marks.Colons (body (Mark' marks.Colons) h)) in
-            w.no_annotation (sym one.0 ∙ i.1) (blank_token (codes "::") [] parts.left (w.blank ++ (rest ++ f.octets)) (parts.second).0 parts.flag parts.mid y token (i.0 ∙ sym (append-nil (codes "::"))) one.2)
+            w.no_annotation (sym one.0 ∙ i.1) (blank_token (codes "::") [] parts.left (w.blank ++ (rest ++ more)) (parts.second).0 parts.flag parts.mid y token (i.0 ∙ sym (append-nil (codes "::"))) one.2)
         goes_on (inr (h, inl (z, i))) =
             let j = long_token y.place parts.flag token.token (parts.second).0 y.lexeme.kind y.lexeme.octets token.is (segment_is y.lexeme.kind (segment_kind y.lexeme.kind y.lexeme.octets z (body (Long z) i))) in
             quotes h j.0 j.1
@@ -287,27 +289,27 @@ module _ (g : Catalog) (l : Limits) (u : List ℕ) (vs : List Value) (m : State)
             wide : (start end : ℕ) → (end == start + 2) ≡ true → end ≡ start + length token.token → length token.token ≡ 2
             wide start end h i = grind (arith, nat_tests)
 
-        by : (z : Bool) → continues d.now (token_of y.lexeme c) ≡ z → length v ≤ r.start
-        by true h = absurd (goes_on (d.shuts (token_of y.lexeme c) h))
+        by : (z : Bool) → continues d.now (token_of y.lexeme content) ≡ z → length v ≤ r.start
+        by true h = absurd (goes_on (d.shuts (token_of y.lexeme content) h))
         by false h =
-            let there : adds d.later (reads g l (fresh w.context) (y ∷ ys)) ≡ walked more.0 a.r = sym (settled_reads g l d.now y ys c is.0 is.2 h ∙ settled_first g l (settle g l d.now) d.later (fresh w.context) (λ z. reads g l z (y ∷ ys)) d.settles) ∙ more.1 in
-            let walk = adds_is g l d.later more.0 a.r (reads g l (fresh w.context) (y ∷ ys)) there in
-            let all : AllFrom g l y.lexeme.start (y ∷ ys) = (omega arith, lexed_from y.lexeme.start ys (colon_behind y) y.lexeme.end (parts.second).0 k.colon k.end (k.since ++ f.octets) g l (omega (arith, token.start, token.end)) (parts.second).2) in
+            let there : adds d.later (reads g l (fresh w.context) (y ∷ ys)) ≡ walked others.0 a.r = sym (settled_reads g l d.now y ys content is.0 is.2 h ∙ settled_first g l (settle g l d.now) d.later (fresh w.context) (λ z. reads g l z (y ∷ ys)) d.settles) ∙ others.1 in
+            let walk = adds_is g l d.later others.0 a.r (reads g l (fresh w.context) (y ∷ ys)) there in
+            let all : AllFrom g l y.lexeme.start (y ∷ ys) = (omega arith, lexed_from y.lexeme.start ys (colon_behind y) y.lexeme.end (parts.second).0 k.colon k.end (k.since ++ more) g l (omega (arith, token.start, token.end)) (parts.second).2) in
             let from = begins_from y.lexeme.start (walked_from g l y.lexeme.start (y ∷ ys) (fresh w.context) a.r walk.0 all (λ i. tt, inl refl) walk.1) in
             omega (arith, from, behind)
 
     -- they end before the open item, or with its last token
-    pub ends_before : (length v ≤ r.start) ⊎ (w.tokens ≡ b.front ++ b.item)
-    ends_before = by met
+    pub ends_before : NoneMore → (length v ≤ r.start) ⊎ (w.tokens ≡ b.front ++ b.item)
+    ends_before ended = by met
       where
         by : Met (b.front ++ b.item) w.tokens → (length v ≤ r.start) ⊎ (w.tokens ≡ b.front ++ b.item)
         by (inl ([], e)) = inr (e ∙ append-nil (b.front ++ b.item))
-        by (inl (z ∷ zs, e)) = absurd (never_more z zs e)
+        by (inl (z ∷ zs, e)) = absurd (never_more ended z zs e)
         by (inr ([], e, h)) = inr (sym (e ∙ append-nil w.tokens))
         by (inr (y ∷ ys, e, h)) = inl (fewer y ys e h)
 
     -- with its last token they end only where it waits at the top level
-    waits_there : w.tokens ≡ b.front ++ b.item → IsWaiting g l r.now × (places.Top ≡ p)
+    pub waits_there : w.tokens ≡ b.front ++ b.item → IsWaiting g l r.now × (places.Top ≡ p)
     waits_there e = by a.is
       where
         n : going.n ≡ a.r
@@ -321,45 +323,50 @@ module _ (g : Catalog) (l : Limits) (u : List ℕ) (vs : List Value) (m : State)
         by (inr (h, h', i)) = (h, top_now g l a.r going.later going.c ends ∙ a.here)
 
     module _ (e : w.tokens ≡ b.front ++ b.item) where
-      one_end : (k.colon ≡ w.colon) × (k.end ≡ w.end) × (k.since ++ f.octets ≡ w.blank ++ (rest ++ f.octets))
+      pub one_end : (k.colon ≡ w.colon) × (k.end ≡ w.end) × (k.since ++ more ≡ w.blank ++ (rest ++ more))
       one_end =
-          lexes_once (b.front ++ b.item) false 0 (u ++ f.octets) k.colon w.colon k.end w.end (k.since ++ f.octets) (w.blank ++ (rest ++ f.octets)) ours
-          (subst (λ z. LexesTo false 0 (u ++ f.octets) z w.colon w.end (w.blank ++ (rest ++ f.octets))) e theirs)
+          lexes_once (b.front ++ b.item) false 0 (u ++ more) k.colon w.colon k.end w.end (k.since ++ more) (w.blank ++ (rest ++ more)) ours
+          (subst (λ z. LexesTo false 0 (u ++ more) z w.colon w.end (w.blank ++ (rest ++ more))) e theirs)
 
-      no_colons : k.colon ≡ true → BlankThen (codes "::") (k.since ++ f.octets) → ⊥
+      pub no_colons : k.colon ≡ true → BlankThen (codes "::") (k.since ++ more) → ⊥
       no_colons h q = w.no_annotation (sym one_end.0 ∙ h) (subst (BlankThen (codes "::")) one_end.2 q)
 
-      no_quotes : ends_long (b.front ++ b.item) ≡ true → BlankThen (codes "''") (k.since ++ f.octets) → ⊥
+      pub no_quotes : ends_long (b.front ++ b.item) ≡ true → BlankThen (codes "''") (k.since ++ more) → ⊥
       no_quotes h q = w.no_segment (ap ends_long e ∙ h) (subst (BlankThen (codes "''")) one_end.2 q)
 
   -- whether a colon may stand behind the last token
-  colon_last : (before : List Placed) (z : Placed) → b.front ++ b.item ≡ before ++ z ∷ [] → colon_behind z ≡ k.colon
+  pub colon_last : (before : List Placed) (z : Placed) → b.front ++ b.item ≡ before ++ z ∷ [] → colon_behind z ≡ k.colon
   colon_last before z e =
-      let d = parted before (z ∷ []) false 0 (u ++ []) k.colon k.end (k.since ++ []) (subst (λ y. LexesTo false 0 (u ++ []) y k.colon k.end (k.since ++ [])) e (k.lexes [] ([], refl))) in
-      last_colon z d.flag d.mid d.left k.colon k.end (k.since ++ []) d.second
+      let d = parted before (z ∷ []) false 0 (u ++ (ahead ++ [])) k.colon k.end (k.since ++ (ahead ++ [])) (subst (λ y. LexesTo false 0 (u ++ (ahead ++ [])) y k.colon k.end (k.since ++ (ahead ++ []))) e (k.lexes (ahead ++ []) ([], refl))) in
+      last_colon z d.flag d.mid d.left k.colon k.end (k.since ++ (ahead ++ [])) d.second
 
-  module _ (wait : Waits g l s r.now) (v rest : List ℕ) (t : List Value) (cut : u ≡ v ++ rest) (whole : ArePieces (Whole g l) v rest t) where
+  -- where no octet is refused, whatever follows
+  module _ (free : (octets : List ℕ) → Continues octets ahead) (wait : Waits g l s r.now) (v rest : List ℕ) (t : List Value) (cut : u ≡ v ++ rest) (whole : ArePieces (Whole g l) v rest t) where
     bare : Escape p s
     bare = escape p k.colon k.end s k.since k.holds
 
+    -- octets that show that no token has ended
+    shown : (f : Escape p s) (z : Placed) → Is p z.lexeme (run p f.octets s) → z.lexeme.end ≤ s.used → ⊥
+    shown f z i n = escaped p s f.octets z.lexeme f.escapes i n
+
     otherwise : (IsWaiting g l r.now → places.Top ≡ p → ⊥) → length v ≤ r.start
-    otherwise n = by (ends_before bare v rest t cut (whole bare.octets bare.are))
+    otherwise n = by (ends_before bare.octets (free bare.octets) v rest t cut (whole bare.octets bare.are) (λ z zs e. shown bare z))
       where
         by : (length v ≤ r.start) ⊎ ((whole bare.octets bare.are).tokens ≡ b.front ++ b.item) → length v ≤ r.start
         by (inl h) = h
-        by (inr e) = let q = waits_there bare v rest t cut (whole bare.octets bare.are) e in absurd (n q.0 q.1)
+        by (inr e) = let q = waits_there bare.octets (free bare.octets) v rest t cut (whole bare.octets bare.are) e in absurd (n q.0 q.1)
 
     -- octets behind which what stands at the end of the pieces goes on
     closed : (more : List ℕ) → p ≡ places.Top → (c : Closing s k.since more)
-        → ((f : Escape p s) → f.octets ≡ c.octets → (w : Whole g l v (rest ++ f.octets) t) → w.tokens ≡ b.front ++ b.item → ⊥) → length v ≤ r.start
-    closed more top c n = by (ends_before f v rest t cut (whole c.octets c.are))
+        → ((w : Whole g l v (rest ++ c.octets) t) → w.tokens ≡ b.front ++ b.item → ⊥) → length v ≤ r.start
+    closed more top c n = by (ends_before c.octets (free c.octets) v rest t cut (whole c.octets c.are) (λ z zs e. shown f z))
       where
         f : Escape p s
         f = record { octets = c.octets; are = c.are; escapes = subst (λ q. Escapes q s c.octets) (sym top) c.escapes }
 
         by : (length v ≤ r.start) ⊎ ((whole c.octets c.are).tokens ≡ b.front ++ b.item) → length v ≤ r.start
         by (inl h) = h
-        by (inr e) = absurd (n f refl (whole c.octets c.are) e)
+        by (inr e) = absurd (n (whole c.octets c.are) e)
 
     mode_at : (colon : Bool) → k.colon ≡ colon → p ≡ places.Top → InMode places.Top colon k.end s.mode s.kept s.start k.since
     mode_at colon e top = subst (λ q. InMode q colon k.end s.mode s.kept s.start k.since) top (subst (λ c. InMode p c k.end s.mode s.kept s.start k.since) e k.holds.mode)
@@ -371,7 +378,7 @@ module _ (g : Catalog) (l : Limits) (u : List ℕ) (vs : List Value) (m : State)
     behind_symbol : (h : Held) (ss : Symbols) → p ≡ places.Top → PendingFor r.context [] ss h b.item → is_idle s.mode ≡ true → length v ≤ r.start
     behind_symbol h ss top d idle =
         closed (codes "::") top c
-        (λ f e w i. no_colons f v rest t cut w i colon (subst (λ y. BlankThen (codes "::") (k.since ++ y)) (sym e) c.shows))
+        (λ w i. no_colons c.octets (free c.octets) v rest t cut w i colon c.shows)
       where
         colon : k.colon ≡ true
         colon = sym (colon_last (b.front ++ d.before) d.token (ap (λ y. b.front ++ y) d.whole ∙ sym (append_assoc b.front d.before (d.token ∷ [])))) ∙ symbol_colon d.token.place d.token.lexeme.kind d.token.lexeme.octets d.said d.says.body d.named
@@ -383,7 +390,7 @@ module _ (g : Catalog) (l : Limits) (u : List ℕ) (vs : List Value) (m : State)
     behind_long : (z : List ℕ) (ss : Symbols) → p ≡ places.Top → LongFor r.context [] ss z b.item → (is_idle s.mode || is_quoting s.mode) ≡ true → length v ≤ r.start
     behind_long z ss top d waits =
         closed (codes "''") top c
-        (λ f e w i. no_quotes f v rest t cut w i long_there (subst (λ y. BlankThen (codes "''") (k.since ++ y)) (sym e) c.shows))
+        (λ w i. no_quotes c.octets (free c.octets) v rest t cut w i long_there c.shows)
       where
         last : (front : List Placed) × (y : Placed) × (d.segments ≡ front ++ y ∷ []) × (y.place ≡ places.Top) × (y.lexeme.kind ≡ kinds.LongString)
         last = segments_last places.Top d.segments z d.are
@@ -403,8 +410,8 @@ module _ (g : Catalog) (l : Limits) (u : List ℕ) (vs : List Value) (m : State)
             (subst (λ y. Escape places.Top (scanning s.mode s.kept y s.start s.used)) (k.holds.flag ∙ colon) (subst (λ q. Escape q s) top bare)) (mode_at false colon top))
 
     -- Where an item is open, the pieces in front of it are the longest.
-    pub longest_open : length v ≤ r.start
-    longest_open = choose r.now refl r.frames refl
+    pub longest_item : length v ≤ r.start
+    longest_item = choose r.now refl r.frames refl
       where
         stands : (n : Now) → r.now ≡ n → r.frames ≡ [] → NowStands r.context [] r.notes b.item n
         stands n e i = subst (λ y. NowStands r.context [] r.notes b.item y) e (subst (λ y. NowStands r.context y r.notes b.item r.now) i b.stands)
@@ -421,3 +428,7 @@ module _ (g : Catalog) (l : Limits) (u : List ℕ) (vs : List Value) (m : State)
         choose nows.Name e [] i = otherwise (λ w q. subst (IsWaiting g l) e w)
         choose (nows.LongName z) e [] i = otherwise (λ w q. subst (IsWaiting g l) e w)
         choose (nows.Keyed z) e [] i = otherwise (λ w q. subst (IsWaiting g l) e w)
+
+-- where no octet is refused
+pub longest_open : (g : Catalog) (l : Limits) (u : List ℕ) (vs : List Value) (m : State) (b : Stood g l u vs m) (x : Placed) (xs : List Placed) → b.item ≡ x ∷ xs → Waits g l m.scan m.reading.now → (v rest : List ℕ) (t : List Value) → u ≡ v ++ rest → ArePieces (Whole g l) v rest t → length v ≤ m.reading.start
+longest_open g l u vs m b x xs some wait v rest t cut whole = longest_item g l u vs m.scan m.reading [] (Open m.scan.mode) b (stood_used g l u vs m b) x xs some (λ octets. (octets, refl)) wait v rest t cut whole

@@ -18,16 +18,16 @@ use Rattle.ion_text.specs.declared.state.Now.TheVariants as nows
 use Rattle.ion_text.specs.declared.state.Frame.{Frame}
 use Rattle.ion_text.specs.declared.state.Frame.TheVariants as frames
 use Rattle.ion_text.specs.Grammar.{Says, IsName, by_symbol, by_short, by_long, Annotations, no_annotation, one_annotation, Segments, Elements, no_element, comma, Members, no_field, field_comma, is_long, end_of, ends_long, begins_long}
-use Rattle.ion_text.specs.Machine.{Reading, Token, goes, Symbols, at, fresh, place, place_in, settle, begun_at, on_ready, held_word, resolved}
+use Rattle.ion_text.specs.Machine.{Reading, Token, goes, Symbols, at, fresh, place, place_in, settle, begun_at, on_ready, resolved}
 use Rattle.ion_text.specs.Run.{is_fresh, is_top}
 use Rattle.ion_text.specs.Reads.{done, on_turn, reads, first_token}
 use Rattle.ion_text.specs.Places.{Leading, settle_same, pending_at, long_at}
 use Rattle.ion_text.specs.Spans.{IsWaiting}
 use Rattle.ion_text.specs.Depths.{Deep}
 use Rattle.ion_text.specs.MarkerWords.{both_not}
-use Rattle.ion_text.specs.Sound.{Opened, Receives, IsInside, ReadyFor, Resolves, PendingFor, LongFor, NowStands, value_place, symbol_said, notes_not_long, not_long, long_behind, symbol_no_long}
+use Rattle.ion_text.specs.Sound.{Opened, Receives, IsInside, ReadyFor, IsHeld, EndsAt, PendingFor, LongFor, NowStands, value_place, symbol_said, notes_not_long, not_long, long_behind, symbol_no_long}
 use Rattle.ion_text.specs.Behind.{opened_some, some_more, last_long, name_some, IsSome}
-use Rattle.ion_text.specs.Complete.{symbol_no_colons, field_depths, ends_behind, InList, InStruct, Reached, Begins, starts, begun_behind, notes_begin, notes_read, read_behind, item_behind, ready_reached, opened, opened_sexp, opened_struct, elements_read, row_read, members_read, name_read, long_named, symbol_named, segments_read, segments_begin, first_start}
+use Rattle.ion_text.specs.Complete.{last_end, symbol_no_colons, field_depths, ends_behind, InList, InStruct, Reached, Begins, starts, begun_behind, notes_begin, notes_read, read_behind, item_behind, ready_reached, opened, opened_sexp, opened_struct, elements_read, row_read, members_read, name_read, long_named, symbol_named, segments_read, segments_begin, first_start}
 
 module _ (g : Catalog) (l : Limits) where
   -- what the containers wait for
@@ -176,17 +176,27 @@ module _ (g : Catalog) (l : Limits) where
   opened_read c (frames.Named ss ms s ∷ fs) ts more deep o = named_read c ss ms s fs ts more deep o (outer c fs o.front o.receives (opened_read c fs o.front true deep.1 o.outer))
 
   -- where the reader of tokens is, or what it settles to, in this place
-  pub record Arrived (c : List Slot) (fs : List Frame) (now : Now) (ts : List Placed) : Type 0 where
+  pub record Arrived (c : List Slot) (fs : List Frame) (ss : Symbols) (now : Now) (ts : List Placed) : Type 0 where
     pub r : Reading
     pub read : reads g l (fresh c) ts ≡ done r
     pub here : place r ≡ place_in fs now
     pub is : ((n : Reading) × (settle g l r ≡ goes n) × (is_fresh n ≡ false) × (n.start ≡ starts g l 0 [] ts)) ⊎ (IsWaiting g l now × IsWaiting g l r.now × (r.start ≡ starts g l 0 [] ts))
+    -- where a value may come it settles to that, and what waits waits so
+    pub ready : now ≡ nows.Ready → settle g l r ≡ goes (at (starts g l 0 [] ts) c fs ss nows.Ready)
+    pub waited : IsWaiting g l now → EndsAt now (end_of 0 ts) → r ≡ at (starts g l 0 [] ts) c fs ss now
 
   settled_place : (r n : Reading) → settle g l r ≡ goes n → place r ≡ place n
   settled_place r n e = sym (subst (Leading g l (λ m. (place m ≡ place r) × (is_top m.frames ≡ is_top r.frames))) e (settle_same g l r.start r.context r.frames r.notes r.now)).0
 
-  by_reached : (c : List Slot) (fs : List Frame) (now : Now) (ts : List Placed) (n : Reading) → Reached g l c (fresh c) ts n → place n ≡ place_in fs now → is_fresh n ≡ false → n.start ≡ starts g l 0 [] ts → Arrived c fs now ts
-  by_reached c fs now ts n d h new k = record { r = d.now; read = d.read; here = settled_place d.now n d.settles ∙ h; is = inl (n, d.settles, new, k) }
+  by_reached : (c : List Slot) (fs : List Frame) (ss : Symbols) (now : Now) (ts : List Placed) (n : Reading) → Reached g l c (fresh c) ts n → place n ≡ place_in fs now → is_fresh n ≡ false → n.start ≡ starts g l 0 [] ts → (now ≡ nows.Ready → n ≡ at (starts g l 0 [] ts) c fs ss nows.Ready) → (IsWaiting g l now → ⊥) → Arrived c fs ss now ts
+  by_reached c fs ss now ts n d h new k same free = record {
+    r = d.now;
+    read = d.read;
+    here = settled_place d.now n d.settles ∙ h;
+    is = inl (n, d.settles, new, k);
+    ready = λ e. d.settles ∙ ap goes (same e);
+    waited = λ w e. absurd (free w);
+  }
 
   -- a long string that ends what has come of the open containers ends the innermost s-expression so far
   ends_some : (ts us : List Placed) → IsSome us → ends_long (ts ++ us) ≡ ends_long us
@@ -227,9 +237,9 @@ module _ (g : Catalog) (l : Limits) where
       by (x ∷ xs) k = k
 
   -- annotations behind what has come
-  noted_arrives : (c : List Slot) (fs : List Frame) (front notes : List Placed) (ss : Symbols) → Opened c fs front true → Outer c fs front → Annotations c (value_place fs) notes ss → is_fresh (at 0 c fs ss nows.Ready) ≡ false → Arrived c fs nows.Ready (front ++ notes)
+  noted_arrives : (c : List Slot) (fs : List Frame) (front notes : List Placed) (ss : Symbols) → Opened c fs front true → Outer c fs front → Annotations c (value_place fs) notes ss → is_fresh (at 0 c fs ss nows.Ready) ≡ false → Arrived c fs ss nows.Ready (front ++ notes)
   noted_arrives c fs front _ _ o d no_annotation new =
-      subst (Arrived c fs nows.Ready) (sym (append-nil front)) (by_reached c fs nows.Ready front (at (starts g l 0 [] front) c fs [] nows.Ready) d refl new refl)
+      subst (Arrived c fs [] nows.Ready) (sym (append-nil front)) (by_reached c fs [] nows.Ready front (at (starts g l 0 [] front) c fs [] nows.Ready) d refl new refl (λ e. refl) (λ w. w))
   noted_arrives c fs front _ _ o d (one_annotation ts ss t colons said s a i j k) new = record {
     r = at (starts g l (starts g l 0 [] front) fs (ts ++ t ∷ colons ∷ [])) c fs (ss ++ s ∷ []) nows.Ready;
     read =
@@ -239,55 +249,68 @@ module _ (g : Catalog) (l : Limits) where
         ∙ notes_read g l c (value_place fs) (starts g l 0 [] front) fs (ts ++ t ∷ colons ∷ []) (ss ++ s ∷ []) refl (one_annotation ts ss t colons said s a i j k);
     here = refl;
     is = inl (at (starts g l (starts g l 0 [] front) fs (ts ++ t ∷ colons ∷ [])) c fs (ss ++ s ∷ []) nows.Ready, refl, new, starts_join c fs front (ts ++ t ∷ colons ∷ []) o);
+    ready = λ e. ap (λ (x : ℕ). goes (at x c fs (ss ++ s ∷ []) nows.Ready)) (starts_join c fs front (ts ++ t ∷ colons ∷ []) o);
+    waited = λ w e. absurd w;
   }
 
   ready_outer : (c : List Slot) (fs : List Frame) (ss : Symbols) (ts : List Placed) → Deep l.depth fs → (d : ReadyFor c fs ss ts) → Outer c fs d.front
   ready_outer c fs ss ts deep d = outer c fs d.front d.receives (opened_read c fs d.front true deep d.outer)
 
   -- what may be a symbol waits for `::`
-  symbol_waits : (end start : ℕ) (c : List Slot) (fs : List Frame) (ss : Symbols) (said : Content) → symbol_said said ≡ true → Resolves c said → (h : Held) × (on_ready g l.depth l.item end start c fs ss said ≡ goes (at start c fs ss (nows.Pending h end)))
-  symbol_waits end start c fs ss (Word w) e k = (held_word w, refl)
-  symbol_waits end start c fs ss (Id id) e k = (helds.Symbol k.0, ap (λ r. resolved r (λ s. goes (at start c fs ss (nows.Pending (helds.Symbol s) end)))) k.1)
-  symbol_waits end start c fs ss (Quoted w) e k = (helds.Symbol (Some w), refl)
-  symbol_waits end start c fs ss (TypedNull n) e k = (helds.Null n, refl)
-  symbol_waits end start c fs ss (Short w) e k = absurd cc
-  symbol_waits end start c fs ss (Long w) e k = absurd cc
-  symbol_waits end start c fs ss (Number' w) e k = absurd cc
-  symbol_waits end start c fs ss (Operator w) e k = absurd cc
-  symbol_waits end start c fs ss (Clob w) e k = absurd cc
-  symbol_waits end start c fs ss (Blob w) e k = absurd cc
-  symbol_waits end start c fs ss (Mark' w) e k = absurd cc
+  symbol_waits : (end start : ℕ) (c : List Slot) (fs : List Frame) (ss : Symbols) (said : Content) (h : Held) → symbol_said said ≡ true → IsHeld c said h → on_ready g l.depth l.item end start c fs ss said ≡ goes (at start c fs ss (nows.Pending h end))
+  symbol_waits end start c fs ss (Word w) h e k = ap (λ x. goes (at start c fs ss (nows.Pending x end))) (sym k)
+  symbol_waits end start c fs ss (Id id) h e k =
+      ap (λ r. resolved r (λ s. goes (at start c fs ss (nows.Pending (helds.Symbol s) end)))) k.1
+      ∙ ap (λ x. goes (at start c fs ss (nows.Pending x end))) (sym k.2)
+  symbol_waits end start c fs ss (Quoted w) h e k = ap (λ x. goes (at start c fs ss (nows.Pending x end))) (sym k)
+  symbol_waits end start c fs ss (TypedNull n) h e k = ap (λ x. goes (at start c fs ss (nows.Pending x end))) (sym k)
+  symbol_waits end start c fs ss (Short w) h e k = absurd cc
+  symbol_waits end start c fs ss (Long w) h e k = absurd cc
+  symbol_waits end start c fs ss (Number' w) h e k = absurd cc
+  symbol_waits end start c fs ss (Operator w) h e k = absurd cc
+  symbol_waits end start c fs ss (Clob w) h e k = absurd cc
+  symbol_waits end start c fs ss (Blob w) h e k = absurd cc
+  symbol_waits end start c fs ss (Mark' w) h e k = absurd cc
 
   said_no_colons : (said : Content) → symbol_said said ≡ true → said ≡ Mark' marks.Colons → ⊥
   said_no_colons said h e = never (symbol_said said) (ap symbol_said e) h
 
-  pending_arrives : (c : List Slot) (fs : List Frame) (ss : Symbols) (h : Held) (end : ℕ) (ts : List Placed) → Deep l.depth fs → PendingFor c fs ss h ts → Arrived c fs (nows.Pending h end) ts
+  pending_arrives : (c : List Slot) (fs : List Frame) (ss : Symbols) (h : Held) (end : ℕ) (ts : List Placed) → Deep l.depth fs → PendingFor c fs ss h ts → Arrived c fs ss (nows.Pending h end) ts
   pending_arrives c fs ss h end ts deep d =
       let e = d.ready in
       let t = d.token in
       let o = ready_outer c fs ss d.before deep e in
       let begin = begun_at (starts g l (starts g l 0 [] e.front) fs e.notes) t.lexeme.start fs ss in
-      let w = symbol_waits t.lexeme.end begin c fs ss d.said d.named d.known in
+      let w = symbol_waits t.lexeme.end begin c fs ss d.said h d.named d.known in
       let whole : e.front ++ (e.notes ++ t ∷ []) ≡ ts = sym (d.whole ∙ (ap (λ x. x ++ t ∷ []) e.whole ∙ append_assoc e.front e.notes (t ∷ []))) in
-      subst (Arrived c fs (nows.Pending h end)) whole (record {
-        r = at begin c fs ss (nows.Pending w.0 t.lexeme.end);
+      subst (Arrived c fs ss (nows.Pending h end)) whole (record {
+        r = at begin c fs ss (nows.Pending h t.lexeme.end);
         read =
             token_behind c fs e.front e.outer o e.notes ss e.noted t d.said [] d.says (said_no_colons d.said d.named) d.other
             ∙ (first_token g l (value_place fs) (at (starts g l (starts g l 0 [] e.front) fs e.notes) c fs ss nows.Ready) t d.said [] d.says refl (inr refl)
-            ∙ ap (λ x. on_turn x done) w.1);
-        here = pending_at fs w.0 t.lexeme.end ∙ sym (pending_at fs h end);
+            ∙ ap (λ x. on_turn x done) w);
+        here = pending_at fs h t.lexeme.end ∙ sym (pending_at fs h end);
         is = inr (tt, tt, begun_there c fs e.front e.outer o e.notes ss e.noted t []);
+        ready = λ e. absurd cc;
+        waited = λ w last.
+            ap (λ (x : ℕ). at x c fs ss (nows.Pending h t.lexeme.end)) (begun_there c fs e.front e.outer o e.notes ss e.noted t [])
+            ∙ ap (λ (x : ℕ). at (starts g l 0 [] (e.front ++ (e.notes ++ t ∷ []))) c fs ss (nows.Pending h x)) (sym (last ∙ (ap (end_of 0) (sym (append_assoc e.front e.notes (t ∷ []))) ∙ last_end (e.front ++ e.notes) t [] 0 0)));
       })
 
-  long_arrives : (c : List Slot) (fs : List Frame) (ss : Symbols) (w : List ℕ) (end : ℕ) (ts : List Placed) → Deep l.depth fs → LongFor c fs ss w ts → Arrived c fs (nows.Long w end) ts
+  long_arrives : (c : List Slot) (fs : List Frame) (ss : Symbols) (w : List ℕ) (end : ℕ) (ts : List Placed) → Deep l.depth fs → LongFor c fs ss w ts → Arrived c fs ss (nows.Long w end) ts
   long_arrives c fs ss w end ts deep d =
-      subst (Arrived c fs (nows.Long w end)) whole (record {
+      subst (Arrived c fs ss (nows.Long w end)) whole (record {
         r = at begin c fs ss (nows.Long w (end_of 0 d.segments));
         read =
             noted_behind c fs e.front e.outer o e.notes ss e.noted d.segments (notes_begin g l c (value_place fs) e.notes d.segments ss e.noted b) (apart (ends_long e.front) refl)
             ∙ segments_read g l c (value_place fs) (starts g l (starts g l 0 [] e.front) fs e.notes) fs ss d.segments w refl d.are;
         here = long_at fs w (end_of 0 d.segments) ∙ sym (long_at fs w end);
         is = inr (tt, tt, subst (λ x. begun_at (starts g l (starts g l 0 [] e.front) fs e.notes) (first_start 0 x) fs ss ≡ starts g l 0 [] (e.front ++ (e.notes ++ x))) (sym b.cut) (begun_there c fs e.front e.outer o e.notes ss e.noted b.first b.later));
+        ready = λ e. absurd cc;
+        waited = λ x last.
+            ap (λ (x : ℕ). at x c fs ss (nows.Long w (end_of 0 d.segments)))
+            (subst (λ x. begun_at (starts g l (starts g l 0 [] e.front) fs e.notes) (first_start 0 x) fs ss ≡ starts g l 0 [] (e.front ++ (e.notes ++ x))) (sym b.cut) (begun_there c fs e.front e.outer o e.notes ss e.noted b.first b.later))
+            ∙ ap (λ (x : ℕ). at (starts g l 0 [] (e.front ++ (e.notes ++ d.segments))) c fs ss (nows.Long w x)) (sym (last ∙ segments_end));
       })
     where
       e : ReadyFor c fs ss d.before
@@ -305,6 +328,11 @@ module _ (g : Catalog) (l : Limits) where
       whole : e.front ++ (e.notes ++ d.segments) ≡ ts
       whole = sym (d.whole ∙ (ap (λ x. x ++ d.segments) e.whole ∙ append_assoc e.front e.notes d.segments))
 
+      segments_end : end_of 0 (e.front ++ (e.notes ++ d.segments)) ≡ end_of 0 d.segments
+      segments_end =
+          ap (end_of 0) (sym (append_assoc e.front e.notes d.segments))
+          ∙ subst (λ x. end_of 0 ((e.front ++ e.notes) ++ x) ≡ end_of 0 x) (sym b.cut) (last_end (e.front ++ e.notes) b.first b.later 0 0)
+
       apart : (x : Bool) → ends_long e.front ≡ x → (x && begins_long (e.notes ++ d.segments)) ≡ false
       apart false k = refl
       apart true k = ap (λ x. x && begins_long (e.notes ++ d.segments)) (sym (long_outer c fs e.front e.outer k)) ∙ d.apart
@@ -314,7 +342,7 @@ module _ (g : Catalog) (l : Limits) where
   starts_front (t ∷ ts) us n = refl
 
   -- in a struct, a name behind what has come
-  module _ (c : List Slot) (ss : Symbols) (ms : List Field) (fs : List Frame) (before : List Placed) (deep : Deep l.depth (frames.Fields ss ms ∷ fs)) (o : Opened c (frames.Fields ss ms ∷ fs) before true) where
+  module _ (c : List Slot) (ss : Symbols) (ms : List Field) (fs : List Frame) (before : List Placed) (deep : Deep l.depth (frames.Fields ss ms ∷ fs)) (o : Opened c (frames.Fields ss ms ∷ fs) before true) (notes : Symbols) where
     name_there : (name : List Placed) → Begins g l places.Name name → reads g l (fresh c) (before ++ name) ≡ reads g l (at (starts g l 0 [] before) c (frames.Fields ss ms ∷ fs) [] nows.Name) name
     name_there name b = item_behind g l c places.Name (fresh c) (at (starts g l 0 [] before) c (frames.Fields ss ms ∷ fs) [] nows.Name) before name refl refl (opened_read c (frames.Fields ss ms ∷ fs) before true deep o) b (apart (ends_long before) refl)
       where
@@ -322,26 +350,28 @@ module _ (g : Catalog) (l : Limits) where
         apart false k = refl
         apart true k = absurd (let n : false ≡ true = long_outer c (frames.Fields ss ms ∷ fs) before o k in cc)
 
-    named_arrives : (now : Now) (name : List Placed) (r : Reading) (s : Option (List ℕ)) → places.Name ≡ place_in (frames.Fields ss ms ∷ fs) now → Begins g l places.Name name → reads g l (at (starts g l 0 [] before) c (frames.Fields ss ms ∷ fs) [] nows.Name) name ≡ done r → place r ≡ places.Name → settle g l r ≡ goes (at (starts g l 0 [] before) c (frames.Fields ss ms ∷ fs) [] (nows.Keyed s))
-        → Arrived c (frames.Fields ss ms ∷ fs) now (before ++ name)
-    named_arrives now name r s q b e h k = record {
+    named_arrives : (now : Now) → (now ≡ nows.Ready → ⊥) → (IsWaiting g l now → ⊥) → (name : List Placed) (r : Reading) (s : Option (List ℕ)) → places.Name ≡ place_in (frames.Fields ss ms ∷ fs) now → Begins g l places.Name name → reads g l (at (starts g l 0 [] before) c (frames.Fields ss ms ∷ fs) [] nows.Name) name ≡ done r → place r ≡ places.Name → settle g l r ≡ goes (at (starts g l 0 [] before) c (frames.Fields ss ms ∷ fs) [] (nows.Keyed s))
+        → Arrived c (frames.Fields ss ms ∷ fs) notes now (before ++ name)
+    named_arrives now unready free name r s q b e h k = record {
       r = r;
       read = name_there name b ∙ e;
       here = h ∙ q;
       is = inl (at (starts g l 0 [] before) c (frames.Fields ss ms ∷ fs) [] (nows.Keyed s), k, refl, starts_front before name (name_some c (frames.Fields ss ms ∷ fs) before o tt));
+      ready = λ e. absurd (unready e);
+      waited = λ w e. absurd (free w);
     }
 
-    long_name_arrives : (now : Now) (name : List Placed) (w : List ℕ) → places.Name ≡ place_in (frames.Fields ss ms ∷ fs) now → Segments places.Name name w → Arrived c (frames.Fields ss ms ∷ fs) now (before ++ name)
-    long_name_arrives now name w q d =
-        named_arrives now name (at (starts g l 0 [] before) c (frames.Fields ss ms ∷ fs) [] (nows.LongName w)) (Some w) q (segments_begin g l places.Name name w d) (long_named g l c (starts g l 0 [] before) (frames.Fields ss ms ∷ fs) name w refl d) refl refl
+    long_name_arrives : (now : Now) → (now ≡ nows.Ready → ⊥) → (IsWaiting g l now → ⊥) → (name : List Placed) (w : List ℕ) → places.Name ≡ place_in (frames.Fields ss ms ∷ fs) now → Segments places.Name name w → Arrived c (frames.Fields ss ms ∷ fs) notes now (before ++ name)
+    long_name_arrives now unready free name w q d =
+        named_arrives now unready free name (at (starts g l 0 [] before) c (frames.Fields ss ms ∷ fs) [] (nows.LongName w)) (Some w) q (segments_begin g l places.Name name w d) (long_named g l c (starts g l 0 [] before) (frames.Fields ss ms ∷ fs) name w refl d) refl refl
 
-    keyed_arrives : (s : Option (List ℕ)) (name : List Placed) → IsName c name s → Arrived c (frames.Fields ss ms ∷ fs) (nows.Keyed s) (before ++ name)
-    keyed_arrives _ _ (by_long ts w d) = long_name_arrives (nows.Keyed (Some w)) ts w refl d
+    keyed_arrives : (s : Option (List ℕ)) (name : List Placed) → IsName c name s → Arrived c (frames.Fields ss ms ∷ fs) notes (nows.Keyed s) (before ++ name)
+    keyed_arrives _ _ (by_long ts w d) = long_name_arrives (nows.Keyed (Some w)) (λ e. cc) (λ w. w) ts w refl d
     keyed_arrives _ _ (by_short t w h) =
-        named_arrives (nows.Keyed (Some w)) (t ∷ []) (at (starts g l 0 [] before) c (frames.Fields ss ms ∷ fs) [] (nows.Keyed (Some w))) (Some w) refl (record { first = t; later = []; said = Short w; cut = refl; says = h; no_colons = λ e. cc })
+        named_arrives (nows.Keyed (Some w)) (λ e. cc) (λ w. w) (t ∷ []) (at (starts g l 0 [] before) c (frames.Fields ss ms ∷ fs) [] (nows.Keyed (Some w))) (Some w) refl (record { first = t; later = []; said = Short w; cut = refl; says = h; no_colons = λ e. cc })
         (first_token g l places.Name (at (starts g l 0 [] before) c (frames.Fields ss ms ∷ fs) [] nows.Name) t (Short w) [] h refl (inr refl)) refl refl
     keyed_arrives s _ (by_symbol t said _ h i) =
-        named_arrives (nows.Keyed s) (t ∷ []) (at (starts g l 0 [] before) c (frames.Fields ss ms ∷ fs) [] (nows.Keyed s)) s refl (record { first = t; later = []; said = said; cut = refl; says = h; no_colons = symbol_no_colons g l c said s i })
+        named_arrives (nows.Keyed s) (λ e. cc) (λ w. w) (t ∷ []) (at (starts g l 0 [] before) c (frames.Fields ss ms ∷ fs) [] (nows.Keyed s)) s refl (record { first = t; later = []; said = said; cut = refl; says = h; no_colons = symbol_no_colons g l c said s i })
         (first_token g l places.Name (at (starts g l 0 [] before) c (frames.Fields ss ms ∷ fs) [] nows.Name) t said [] h refl (inr refl)
         ∙ ap (λ x. on_turn x done) (symbol_named g l c (starts g l 0 [] before) t.lexeme.end (frames.Fields ss ms ∷ fs) said s i)) refl refl
 
@@ -357,14 +387,14 @@ module _ (g : Catalog) (l : Limits) where
   inside_new begin c [] ss now i = absurd i
 
   -- The tokens of an open item are read.
-  pub arrived : (c : List Slot) (fs : List Frame) (ss : Symbols) (now : Now) (ts : List Placed) → Deep l.depth fs → NowStands c fs ss ts now → is_fresh (at 0 c fs ss now) ≡ false → Arrived c fs now ts
-  arrived c fs ss nows.Ready ts deep d new = subst (Arrived c fs nows.Ready) (sym d.whole) (noted_arrives c fs d.front d.notes ss d.outer (ready_outer c fs ss ts deep d) d.noted new)
+  pub arrived : (c : List Slot) (fs : List Frame) (ss : Symbols) (now : Now) (ts : List Placed) → Deep l.depth fs → NowStands c fs ss ts now → is_fresh (at 0 c fs ss now) ≡ false → Arrived c fs ss now ts
+  arrived c fs ss nows.Ready ts deep d new = subst (Arrived c fs ss nows.Ready) (sym d.whole) (noted_arrives c fs d.front d.notes ss d.outer (ready_outer c fs ss ts deep d) d.noted new)
   arrived c fs ss (nows.Pending h end) ts deep d new = pending_arrives c fs ss h end ts deep d
   arrived c fs ss (nows.Long w end) ts deep d new = long_arrives c fs ss w end ts deep d
-  arrived c fs ss nows.After ts deep d new = by_reached c fs nows.After ts (at (starts g l 0 [] ts) c fs [] (target fs false)) (opened_read c fs ts false deep d.0) (inside_place fs d.2) (inside_new (starts g l 0 [] ts) c fs [] (target fs false) d.2) refl
-  arrived c (frames.Fields xs ms ∷ fs) ss nows.Name ts deep d new = by_reached c (frames.Fields xs ms ∷ fs) nows.Name ts (at (starts g l 0 [] ts) c (frames.Fields xs ms ∷ fs) [] nows.Name) (opened_read c (frames.Fields xs ms ∷ fs) ts true deep d.0) refl refl refl
-  arrived c (frames.Fields xs ms ∷ fs) ss (nows.LongName w) ts deep d new = subst (Arrived c (frames.Fields xs ms ∷ fs) (nows.LongName w)) (sym d.whole) (long_name_arrives c xs ms fs d.before deep d.outer (nows.LongName w) d.name w refl d.is)
-  arrived c (frames.Fields xs ms ∷ fs) ss (nows.Keyed s) ts deep d new = subst (Arrived c (frames.Fields xs ms ∷ fs) (nows.Keyed s)) (sym d.whole) (keyed_arrives c xs ms fs d.before deep d.outer s d.name d.is)
+  arrived c fs ss nows.After ts deep d new = by_reached c fs ss nows.After ts (at (starts g l 0 [] ts) c fs [] (target fs false)) (opened_read c fs ts false deep d.0) (inside_place fs d.2) (inside_new (starts g l 0 [] ts) c fs [] (target fs false) d.2) refl (λ e. absurd cc) (λ w. w)
+  arrived c (frames.Fields xs ms ∷ fs) ss nows.Name ts deep d new = by_reached c (frames.Fields xs ms ∷ fs) ss nows.Name ts (at (starts g l 0 [] ts) c (frames.Fields xs ms ∷ fs) [] nows.Name) (opened_read c (frames.Fields xs ms ∷ fs) ts true deep d.0) refl refl refl (λ e. absurd cc) (λ w. w)
+  arrived c (frames.Fields xs ms ∷ fs) ss (nows.LongName w) ts deep d new = subst (Arrived c (frames.Fields xs ms ∷ fs) ss (nows.LongName w)) (sym d.whole) (long_name_arrives c xs ms fs d.before deep d.outer ss (nows.LongName w) (λ e. cc) (λ w. w) d.name w refl d.is)
+  arrived c (frames.Fields xs ms ∷ fs) ss (nows.Keyed s) ts deep d new = subst (Arrived c (frames.Fields xs ms ∷ fs) ss (nows.Keyed s)) (sym d.whole) (keyed_arrives c xs ms fs d.before deep d.outer ss s d.name d.is)
   arrived c [] ss nows.Name ts deep d new = absurd (d.1)
   arrived c (frames.List xs vs ∷ fs) ss nows.Name ts deep d new = absurd (d.1)
   arrived c (frames.Sexp xs vs ∷ fs) ss nows.Name ts deep d new = absurd (d.1)

@@ -24,7 +24,7 @@ use Rattle.ion_text.specs.declared.state.Now.TheVariants as nows
 use Rattle.ion_text.specs.declared.state.Frame.{Frame}
 use Rattle.ion_text.specs.Grammar.{is_keyword}
 use Rattle.ion_text.specs.Machine.{Reading, Turn, goes, gives, refuses, late, Symbols, at, place, place_in, settle, turn, turn_now, resolved, keyed, begun_at, held_word}
-use Rattle.ion_text.specs.Run.{State, Effect, uses, tells, leaves, fails, eats, takes, waits, waits_now, noticed, on_octet, on_scan, on_settled, on_said, behind_given, behind_left, or_worse, with_scan, token_of, is_top, is_fresh, shut, reaches, run, run_on, once_more}
+use Rattle.ion_text.specs.Run.{State, Effect, uses, tells, leaves, fails, eats, takes, waits, waits_now, in_segment, unsettled, noticed, on_octet, on_scan, on_settled, on_said, behind_given, behind_left, or_worse, with_scan, token_of, is_top, is_fresh, shut, reaches, run, run_on, once_more}
 use Rattle.ion_text.specs.Passed.{said_body}
 use Rattle.ion_text.specs.Places.{Leading, settle_same}
 use Rattle.ion_text.specs.Behind.{map_turn, or_parts}
@@ -32,6 +32,7 @@ use Rattle.ion_text.specs.Spans.{Closes, Spans, turn_spans}
 use Rattle.ion_text.specs.Sound.{start_now, symbol_said}
 use Rattle.ion_text.specs.Steps.{Stood, After, eats_after, takes_after}
 use Rattle.ion_text.specs.showing.Cuts.{Keeps, feed_keeps}
+use Rattle.ion_text.specs.Segments.{never}
 
 -- what is no fresh reading
 
@@ -40,7 +41,7 @@ pending_unfresh start c [] [] h end = refl
 pending_unfresh start c [] (s ∷ ss) h end = refl
 pending_unfresh start c (f ∷ fs) ss h end = refl
 
-keyed_unfresh : (start : ℕ) (c : List Slot) (fs : List Frame) (ss : Symbols) (s : Option (List ℕ)) → is_fresh (at start c fs ss (nows.Keyed s)) ≡ false
+pub keyed_unfresh : (start : ℕ) (c : List Slot) (fs : List Frame) (ss : Symbols) (s : Option (List ℕ)) → is_fresh (at start c fs ss (nows.Keyed s)) ≡ false
 keyed_unfresh start c [] [] s = refl
 keyed_unfresh start c [] (x ∷ ss) s = refl
 keyed_unfresh start c (f ∷ fs) ss s = refl
@@ -51,10 +52,6 @@ inside_unfresh r h = go r.frames h
     go : (fs : List Frame) → is_top fs ≡ false → is_fresh (at r.start r.context fs r.notes r.now) ≡ false
     go [] h = absurd cc
     go (f ∷ fs) h = refl
-
-never : (b : Bool) → b ≡ false → b ≡ true → ⊥
-never true e f = cc
-never false e f = cc
 
 -- tokens that may be symbols
 
@@ -234,7 +231,8 @@ module _ (g : Catalog) (l : Limits) where
     said_still (Ok c) f h = h c refl
     said_still (Err e) f h = tt
 
-    colon_free : (r : Reading) (x : Lexeme) (t : Known) (c : Content) → t.colon ≡ takes_colon (place r) x.kind → said x.kind x.octets ≡ Ok c → Leading g l (λ n. is_fresh n ≡ true → t.colon ≡ false) (turn g l r (token_of x c))
+    -- behind a token that is told where nothing is open no colon may stand
+    pub colon_free : (r : Reading) (x : Lexeme) (t : Known) (c : Content) → t.colon ≡ takes_colon (place r) x.kind → said x.kind x.octets ≡ Ok c → Leading g l (λ n. is_fresh n ≡ true → t.colon ≡ false) (turn g l r (token_of x c))
     colon_free r x t c e f = map_turn g l (λ n. is_fresh n ≡ true → takes_colon (place r) x.kind ≡ false) (λ n. is_fresh n ≡ true → t.colon ≡ false) (λ n h i. e ∙ h i) (turn g l r (token_of x c)) (turn_colon r x c (said_body x.kind x.octets c f))
 
     scan_still : (s : Known) (r : Reading) (again : State → Effect) → Again again → StillAt o s r → (x : Outcome) → feed (place r) s o ≡ x → Keeps (place r) s x → StillBehind o (on_scan g l again r x)
@@ -293,11 +291,11 @@ module _ (g : Catalog) (l : Limits) where
         go (nows.Keyed x) e = same (nows.Keyed x) e refl
 
     octet_still : (s : Known) (r : Reading) (again : State → Effect) → Again again → StillAt o s r → StillBehind o (on_octet g l again (with_scan s r) (feed (place r) s o))
-    octet_still s r again f h = go (waits r (feed (place r) s o)) refl
+    octet_still s r again f h = go (unsettled s r (feed (place r) s o)) refl
       where
-        go : (w : Bool) → waits r (feed (place r) s o) ≡ w → StillBehind o (if w then on_scan g l again r (feed (place r) s o) else on_settled g l again s (feed (place r) s o) (settle g l r))
+        go : (w : Bool) → unsettled s r (feed (place r) s o) ≡ w → StillBehind o (if w then on_scan g l again r (feed (place r) s o) else on_settled g l again s (feed (place r) s o) (settle g l r))
         go true e = octet_scanned s r again f h
-        go false e = settled_still s again (place r) f (settle g l r) (settling r.start r.context r.frames r.notes r.now s h e)
+        go false e = settled_still s again (place r) f (settle g l r) (settling r.start r.context r.frames r.notes r.now s h (or_parts (waits r (feed (place r) s o)) (in_segment r.now s) e).0)
 
     pub takes_still : (n : ℕ) (m : State) → StillAt o m.scan m.reading → StillBehind o (takes g l n m o)
     takes_still zero m h = tt

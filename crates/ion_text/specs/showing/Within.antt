@@ -22,7 +22,8 @@ use Rattle.ion_text.specs.declared.state.Now.{Now}
 use Rattle.ion_text.specs.declared.state.Now.TheVariants as nows
 use Rattle.ion_text.specs.declared.state.Frame.{Frame}
 use Rattle.ion_text.specs.Machine.{Reading, Turn, goes, gives, refuses, late, Symbols, at, place, settle, turn}
-use Rattle.ion_text.specs.Run.{State, Effect, uses, tells, leaves, fails, begun, eats, takes, waits, noticed, on_octet, on_scan, on_settled, on_said, behind_given, behind_left, or_worse, with_scan, token_of, is_top, is_fresh, shut, reaches, longest_top, is_long_begun, run, run_on, once_more}
+use Rattle.ion_text.specs.Run.{State, Effect, uses, tells, leaves, fails, begun, eats, takes, waits, unsettled, noticed, on_octet, on_scan, on_settled, on_said, behind_given, behind_left, or_worse, with_scan, token_of, is_top, is_fresh, shut, reaches, longest_top, is_long_begun, run, run_on, once_more}
+use Rattle.ion_text.specs.Segments.{NotRefused, unsettled_waits}
 use Rattle.ion_text.specs.Quotes.{le_of}
 use Rattle.ion_text.specs.Sound.{start_now}
 use Rattle.ion_text.specs.Spans.{Spans, turn_spans}
@@ -135,10 +136,10 @@ module _ (g : Catalog) (l : Limits) where
   settled_within s again f x i (late e n) c = worse_within e (on_scan g l again n x)
 
   octet_within : (s : Known) (r : Reading) (o : ℕ) (again : State → Effect) → Again again → TopOk g l r → WithinBehind (on_octet g l again (with_scan s r) (feed (place r) s o))
-  octet_within s r o again f ok = go (waits r (feed (place r) s o)) refl
+  octet_within s r o again f ok = go (unsettled s r (feed (place r) s o)) refl
     where
-      go : (w : Bool) → waits r (feed (place r) s o) ≡ w → WithinBehind (if w then on_scan g l again r (feed (place r) s o) else on_settled g l again s (feed (place r) s o) (settle g l r))
-      go true e = scan_within r again f ok (feed (place r) s o) (feed_idle (place r) s o) (λ t h k. waits_calm g l r.frames r.now t ok (subst (λ y. waits r y ≡ true) h e) k)
+      go : (w : Bool) → unsettled s r (feed (place r) s o) ≡ w → WithinBehind (if w then on_scan g l again r (feed (place r) s o) else on_settled g l again s (feed (place r) s o) (settle g l r))
+      go true e = scan_within r again f ok (feed (place r) s o) (feed_idle (place r) s o) (λ t h k. waits_calm g l r.frames r.now t ok (subst (λ y. waits r y ≡ true) h (unsettled_waits (place r) s r o (subst NotRefused (sym h) tt) e)) k)
       go false e = settled_within s again f (feed (place r) s o) (feed_idle (place r) s o) (settle g l r) (settle_settled g l r.start r.context r.frames r.notes r.now ok)
 
   takes_within : (n : ℕ) (m : State) (o : ℕ) → TopOk g l m.reading → WithinBehind (takes g l n m o)

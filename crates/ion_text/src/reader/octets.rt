@@ -1,10 +1,10 @@
 //! What each octet does: the scanner takes it up, and behind it the reader of tokens.
 ghost use Rattle.std.specs.Prelude.{◌≡◌, ◌≢◌, ◌+◌, ◌<◌, ◌≤◌, ◌^◌, length, get_or, Ok, Err, IfOk, IfErr, true, false};
 ghost use Rattle.ion_model.specs.declared.refusal.Reason.TheVariants.{Memory};
-ghost use Rattle.ion_tokens.specs.Views.{scanned, failure};
+ghost use Rattle.ion_tokens.specs.Views.{begun_in, scanned, failure};
 ghost use Rattle.ion_tokens.specs.Scanning.{run, feed};
 ghost use Rattle.ion_text.specs.Machine.{turn};
-ghost use Rattle.ion_text.specs.Run.{is_top, reaches, noticed, waits, lesser, behind_given, behind_left, on_scan, takes};
+ghost use Rattle.ion_text.specs.Run.{has_segment, is_top, reaches, noticed, unsettled, lesser, behind_given, behind_left, on_scan, takes};
 ghost use Rattle.ion_text.specs.Progress.{StaysSteady};
 ghost use Rattle.ion_text.specs.Views.{comes_again, count_of, worse, open_frames, reading_of, state_of, goes_on_symbol, goes_on_long, token_in, IsFine, MeetsWith, Notices, DidTake, DidMeet, SameSetting, SameReader};
 
@@ -105,14 +105,27 @@ impl TextReader<'_> {
         }
     }
 
-    /// Whether what waits may go on with the octet.
+    /// Whether a segment of a long string has begun.
+    fn in_segment(&self) -> bool
+        ensures { result ≡ has_segment (begun_in (scanned self.now.scanner)) }
+    {
+        match self.scanner.begun() {
+            None => false,
+            Some(begun) => matches!(begun.form, Form::Long),
+        }
+    }
+
+    /// Whether what waits may go on with the octet. A long string isn't whole where an octet is
+    /// refused in its next segment.
     #[tactic(auto, using(crate::proofs::Sights::symbol_sights, crate::proofs::Sights::long_sights))]
     fn goes_on(&self, place: Place, octet: u8) -> bool
-        ensures { result ≡ waits (reading_of self.now) (feed place (scanned self.now.scanner) octet) }
+        ensures { result ≡ unsettled (scanned self.now.scanner) (reading_of self.now) (feed place (scanned self.now.scanner) octet) }
     {
         match &self.stage {
             Now::Pending(_, _) => goes_on_symbol(self.scanner.foresee(place, octet)),
-            Now::Long(_, _) => goes_on_long(self.is_top(), self.scanner.foresee(place, octet)),
+            Now::Long(_, _) => {
+                goes_on_long(self.is_top(), self.scanner.foresee(place, octet)) || self.in_segment()
+            }
             Now::LongName(_) => goes_on_long(false, self.scanner.foresee(place, octet)),
             _ => false,
         }

@@ -1,4 +1,4 @@
-use Rattle.std.proofs.Common.{rules, ◌≡◌, ◌∙◌, sym, arith}
+use Rattle.std.proofs.Common.{◌∙◌, sym}
 use Rattle.ion_text.proofs.Versions.{all_digits}
 use Rattle.ion_text.proofs.words.some_digits.Goals as goal
 

@@ -1,11 +1,10 @@
-use Rattle.std.proofs.Common.{rules, ◌≡◌, ◌≢◌, ◌-◌, ◌+◌, ◌<◌, ℕ, Bool, true, false, Ok, Err, Some, None, Option, length, take, drop, get_or, [], arith, ap, sym, ◌∙◌, subst, refl}
+use Rattle.std.proofs.Common.{rules, ◌≡◌, ◌-◌, ◌+◌, ◌<◌, ℕ, true, Ok, Err, Some, None, Option, length, take, drop, get_or, [], arith, ap, sym, ◌∙◌, subst, refl}
 use Rattle.std.specs.Option.{is_some}
 use Rattle.ion_model.specs.declared.value.Value.{Value}
 use Rattle.ion_model.specs.declared.refusal.Refusal.{Refusal}
 use Rattle.ion_model.specs.declared.refusal.Reason.TheVariants as reasons
 use Rattle.ion_tokens.specs.Views.{scanned}
 use Rattle.ion_text.specs.declared.state.Taken.{Taken}
-use Rattle.ion_text.specs.Run.{run}
 use Rattle.ion_text.specs.Views.{state_of}
 use Rattle.ion_text.specs.Progress.{Took, Advances, Stops}
 use Rattle.ion_text.proofs.Leading.{leads_by, leads_to_given, leads_to_refused, leads_to_left, leads_to_end, leads_to_second, begins_some, onward_where}

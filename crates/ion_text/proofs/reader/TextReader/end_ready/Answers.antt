@@ -1,4 +1,4 @@
-use Rattle.std.proofs.Common.{◌≡◌, Ok, Err, Some, ap, ◌∙◌, subst}
+use Rattle.std.proofs.Common.{Ok, ap, ◌∙◌, subst}
 use Rattle.ion_tokens.specs.Steps.{Ends}
 use Rattle.ion_text.specs.Views.{reading_of}
 use Rattle.ion_text.proofs.Endings.{ready_refused, ready_token}

@@ -1,4 +1,4 @@
-use Rattle.std.proofs.Common.{◌≡◌, Ok, ap, subst}
+use Rattle.std.proofs.Common.{Ok, ap, subst}
 use Rattle.ion_text.specs.declared.state.Effect.{Effect}
 use Rattle.ion_text.specs.Machine.{turn}
 use Rattle.ion_text.specs.Views.{reading_of, token_in, Does}

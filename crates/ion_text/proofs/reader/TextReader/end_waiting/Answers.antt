@@ -1,4 +1,4 @@
-use Rattle.std.proofs.Common.{◌≡◌, ℕ, Ok, Err, Some, None, Option, Result, ap, sym, ◌∙◌, subst}
+use Rattle.std.proofs.Common.{Ok, Option, Result, sym, subst}
 use Rattle.ion_model.specs.declared.value.Value.{Value}
 use Rattle.ion_model.specs.declared.refusal.Reason.{Reason}
 use Rattle.ion_tokens.specs.declared.token.Token.{Token}

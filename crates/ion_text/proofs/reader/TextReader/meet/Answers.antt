@@ -1,8 +1,6 @@
-use Rattle.std.proofs.Common.{◌≡◌, ◌+◌, ℕ, None, Some, Ok, Err, Result, refl, sym, ap, ◌∙◌, subst, arith, true, false}
-use Rattle.ion_tokens.specs.declared.token.Scan.{Scan}
+use Rattle.std.proofs.Common.{◌≡◌, None, Some, refl, ap, true, false}
 use Rattle.ion_tokens.specs.Scanning.{run}
 use Rattle.ion_tokens.specs.Views.{scanned}
-use Rattle.ion_text.specs.declared.reader.TextReader.{TextReader}
 use Rattle.ion_text.specs.Views.{reading_of}
 use Rattle.ion_text.proofs.Meetings.{refused_meets, next_meets, next_refused, left_meets, left_refused, given_meets, given_refused}
 use Rattle.ion_text.proofs.reader.TextReader.meet.Goals as goal

@@ -1,6 +1,7 @@
 use Rattle.ion_text.specs.Views.{state_of}
 use Rattle.ion_text.proofs.Further.{step_answers, step_stands}
-use Rattle.ion_text.proofs.reader.TextReader.step.Goals as goal
+use Rattle.ion_text.proofs.Pendings.{step_progress, step_pending}
+use Rattle.ion_text.proofs.reader.items.TextReaderItems.step.Goals as goal
 
 pub returns-in-Err-clause-answers : goal.returns-in-Err-clause-answers
 returns-in-Err-clause-answers c =
@@ -14,3 +15,9 @@ pub returns-in_default-result-clause-stands : goal.returns-in_default-result-cla
 returns-in_default-result-clause-stands c =
     step_stands c.args.self.now c.advance-result.new.self c.args.piece.now c.advance-result.result c.requires.begins c.advance-result.ensures.does
     c.advance-result.ensures.used c.advance-result.ensures.fine c.advance-result.ensures.steady c.advance-result.ensures.setting
+
+pub returns-in_default-result-clause-progress : goal.returns-in_default-result-clause-progress
+returns-in_default-result-clause-progress c = step_progress c.args.self.now c.advance-result.new.self c.args.piece.now c.advance-result.result c.advance-result.ensures.does
+
+pub returns-in_default-result-clause-few_pending : goal.returns-in_default-result-clause-few_pending
+returns-in_default-result-clause-few_pending c = step_pending c.args.self.now c.advance-result.new.self c.args.piece.now c.advance-result.result c.requires.begins c.advance-result.ensures.does
