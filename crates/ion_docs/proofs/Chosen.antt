@@ -1,105 +1,125 @@
 -- A call handed on to the reader that was chosen.
-use Rattle.std.proofs.Common.{◌≡◌, ℕ, ◌+◌, ◌*◌, ◌<◌, zero, suc, true, List, [], ◌∷◌, ◌++◌, length, take, ap, ◌∙◌, sym, refl, subst, arith, eq-eqb, Result, Ok, Err, Option, Some, None, IfOk, IsSome, slice_get}
+use Rattle.std.proofs.Common.{◌≡◌, ℕ, ◌+◌, ◌*◌, ◌<◌, zero, suc, Bool, true, false, List, [], ◌∷◌, ◌++◌, length, take, ap, ◌∙◌, sym, refl, subst, arith, eq-eqb, ne_eqb, Result, Ok, Err, Option, Some, None, IfOk, IsSome, slice_get}
 use Rattle.ion_model.specs.declared.value.Value.{Value}
 use Rattle.ion_model.specs.declared.refusal.Refusal.{Refusal}
 use Rattle.ion_symtab.specs.Trace.{Trace, Answers, Finishes, UsesAll, given_at}
 use Rattle.ion_symtab.specs.declared.items.Step.{Step}
 use Rattle.ion_symtab.specs.declared.catalog.Catalog.{Catalog}
 use Rattle.ion_symtab.specs.declared.limits.Limits.{Limits}
-use Rattle.ion_binary.specs.declared.reader.BinaryReader.{BinaryReader}
-use Rattle.ion_binary.specs.Views.{Stands}
-use Rattle.ion_binary.specs.Run.{trace}
 use Rattle.ion_docs.specs.declared.doc_reader.Format.{Format}
-use Rattle.ion_docs.specs.declared.doc_reader.Format.TheVariants.{Unbegun, Binary}
+use Rattle.ion_docs.specs.declared.doc_reader.Format.TheVariants.{Unbegun, Refused, Binary, Text}
 use Rattle.ion_docs.specs.declared.doc_reader.DocReader.{DocReader}
-use Rattle.ion_docs.specs.Documents.{is_binary}
 use Rattle.ion_docs.specs.Chosen.{chosen}
-use Rattle.ion_docs.specs.DocStands.{FormatStands, DocStands}
-use Rattle.ion_docs.specs.DocLaws.{binary-append, chosen_binary}
+use Rattle.ion_docs.specs.DocStands.{Begins, Handed, FormatStands, DocStands}
+use Rattle.ion_docs.specs.DocReaders.{begins_on, trace_in, chosen_in, same_trace}
 
-inside : (d : DocReader) (f : Format) (u : List ℕ) (s : List (Value × ℕ)) → d.format ≡ f → DocStands d u s → FormatStands d f u s
+-- 1. What the reader that was chosen answers is what is chosen.
+module _ (b : Bool) (g : Catalog) (l : Limits) where
+  answers_in : (u : List ℕ) (s : List (Value × ℕ)) (piece : List ℕ) (result : Result Step Refusal) → Begins b (u ++ piece) →
+      Answers (trace_in b g l) u s piece result → Answers (chosen g l) u s piece result
+  answers_in u s piece (Ok step) begun h = gave step.used step.value h
+    where
+      gave : (used : ℕ) (value : Option Value) → Answers (trace_in b g l) u s piece (Ok (record { used = used; value = value })) → Answers (chosen g l) u s piece (Ok (record { used = used; value = value }))
+      gave used None h = rw (chosen_in b g l (u ++ piece) begun) h
+      gave used (Some v) h = rw (chosen_in b g l (u ++ piece) begun) h
+  answers_in u s piece (Err refusal) begun h = λ other. rw (chosen_in b g l (u ++ piece) begun) (h other)
+
+  finishes_in : (u : List ℕ) (result : Result (Option Value) Refusal) → Begins b u → Finishes (trace_in b g l) u result → Finishes (chosen g l) u result
+  finishes_in u (Ok value) begun h = ap (λ (t : Trace). t.ends) (chosen_in b g l u begun) ∙ h
+  finishes_in u (Err refusal) begun h = λ other. ap (λ (t : Trace). t.ends) (chosen_in b g l u begun) ∙ h other
+
+pub inside : (d : DocReader) (f : Format) (u : List ℕ) (s : List (Value × ℕ)) → d.format ≡ f → DocStands d u s → FormatStands d f u s
 inside d f u s is h = let P : Format → Type 0 = λ f. FormatStands d f u s in subst P is h
 
-pub forward_stands : (d : DocReader) (old new : BinaryReader) (piece : List ℕ) (result : Result Step Refusal) → d.format ≡ Binary old →
-    IfOk result (λ step. (u : List ℕ) (s : List (Value × ℕ)) → Stands old u s → Stands new (u ++ take step.used piece) (s ++ given_at step.value (length u + step.used))) →
-    new.limits ≡ old.limits → new.catalog.now ≡ old.catalog.now →
-    IfOk result (λ step. (u : List ℕ) (s : List (Value × ℕ)) → DocStands d u s → FormatStands d (Binary new) (u ++ take step.used piece) (s ++ given_at step.value (length u + step.used)))
-forward_stands d old new piece (Ok step) is onward limits catalog = λ u s stands.
-    let h = inside d (Binary old) u s is stands in
-    (onward u s h.0, binary-append u (take step.used piece) h.1, limits ∙ h.2, catalog ∙ h.3)
-forward_stands d old new piece (Err refusal) is onward limits catalog = tt
+-- 2. A reader chosen before, for which Old holds; behind the step New does.
+module _ (d : DocReader) (b : Bool) (limits : Limits) (catalog : Catalog) (Old : List ℕ → List (Value × ℕ) → Type 0) (stood : (u : List ℕ) (s : List (Value × ℕ)) → DocStands d u s → Handed d b limits catalog (Old u s) u) where
+  pub forward_stands : (more : Limits) (other : Catalog) (New : List ℕ → List (Value × ℕ) → Type 0) (piece : List ℕ) (result : Result Step Refusal) →
+      IfOk result (λ step. (u : List ℕ) (s : List (Value × ℕ)) → Old u s → New (u ++ take step.used piece) (s ++ given_at step.value (length u + step.used))) →
+      more ≡ limits → other ≡ catalog →
+      IfOk result (λ step. (u : List ℕ) (s : List (Value × ℕ)) → DocStands d u s → Handed d b more other (New (u ++ take step.used piece) (s ++ given_at step.value (length u + step.used))) (u ++ take step.used piece))
+  forward_stands more other New piece (Ok step) onward within under = λ u s stands.
+      let h = stood u s stands in
+      (onward u s h.0, begins_on b u (take step.used piece) h.1, within ∙ h.2, under ∙ h.3)
+  forward_stands more other New piece (Err refusal) onward within under = tt
 
-same_trace : (g h : Catalog) (l k : Limits) → g ≡ h → l ≡ k → trace g l ≡ trace h k
-same_trace g h l k e f = cc
+  pub forward_answers : (piece : List ℕ) (result : Result Step Refusal) →
+      ((u : List ℕ) (s : List (Value × ℕ)) → Old u s → Answers (trace_in b catalog limits) u s piece result) →
+      (u : List ℕ) (s : List (Value × ℕ)) → DocStands d u s → Answers (chosen d.catalog.now d.limits) u s piece result
+  forward_answers piece result answers u s stands =
+      let h = stood u s stands in
+      answers_in b d.catalog.now d.limits u s piece result (begins_on b u piece h.1)
+      (let P : (List ℕ → Trace) → Type 0 = λ t. Answers t u s piece result in subst P (same_trace b catalog d.catalog.now limits d.limits h.3 h.2) (answers u s h.0))
 
-answers_binary : (g : Catalog) (l : Limits) (u : List ℕ) (s : List (Value × ℕ)) (piece : List ℕ) (result : Result Step Refusal) → is_binary (u ++ piece) ≡ true →
-    Answers (trace g l) u s piece result → Answers (chosen g l) u s piece result
-answers_binary g l u s piece (Ok step) binary h = gave step.used step.value h
+  pub forward_ends : (result : Result (Option Value) Refusal) →
+      ((u : List ℕ) (s : List (Value × ℕ)) → Old u s → Finishes (trace_in b catalog limits) u result) →
+      (u : List ℕ) (s : List (Value × ℕ)) → DocStands d u s → Finishes (chosen d.catalog.now d.limits) u result
+  forward_ends result ends u s stands =
+      let h = stood u s stands in
+      finishes_in b d.catalog.now d.limits u result h.1
+      (let P : (List ℕ → Trace) → Type 0 = λ t. Finishes t u result in subst P (same_trace b catalog d.catalog.now limits d.limits h.3 h.2) (ends u s h.0))
+
+-- 3. The first step of all: nothing was read before it.
+begins_front : (b : Bool) (piece : List ℕ) (used : ℕ) → Begins b piece → 0 < used → Begins b (take used piece)
+begins_front b [] used h some = absurd h
+begins_front b (first ∷ rest) zero h some = absurd (omega arith)
+begins_front b (first ∷ rest) (suc used) h some = h
+
+module _ (d : DocReader) (b : Bool) (Old : List ℕ → List (Value × ℕ) → Type 0) (piece : List ℕ) (result : Result Step Refusal) (is : d.format ≡ Unbegun) (begins : Begins b piece) (stood : Old [] []) where
+  pub first_stands : (more : Limits) (other : Catalog) (New : List ℕ → List (Value × ℕ) → Type 0) →
+      IfOk result (λ step. 0 < step.used) →
+      IfOk result (λ step. (u : List ℕ) (s : List (Value × ℕ)) → Old u s → New (u ++ take step.used piece) (s ++ given_at step.value (length u + step.used))) →
+      more ≡ d.limits → other ≡ d.catalog.now →
+      IfOk result (λ step. (u : List ℕ) (s : List (Value × ℕ)) → DocStands d u s → Handed d b more other (New (u ++ take step.used piece) (s ++ given_at step.value (length u + step.used))) (u ++ take step.used piece))
+  first_stands more other New = go result
+    where
+      go : (result : Result Step Refusal) → IfOk result (λ step. 0 < step.used) →
+          IfOk result (λ step. (u : List ℕ) (s : List (Value × ℕ)) → Old u s → New (u ++ take step.used piece) (s ++ given_at step.value (length u + step.used))) →
+          more ≡ d.limits → other ≡ d.catalog.now →
+          IfOk result (λ step. (u : List ℕ) (s : List (Value × ℕ)) → DocStands d u s → Handed d b more other (New (u ++ take step.used piece) (s ++ given_at step.value (length u + step.used))) (u ++ take step.used piece))
+      go (Ok step) some onward within under = λ u s stands.
+          let h = inside d Unbegun u s is stands in
+          let P : List ℕ → Type 0 = λ u. Handed d b more other (New (u ++ take step.used piece) (s ++ given_at step.value (length u + step.used))) (u ++ take step.used piece) in
+          let Q : List (Value × ℕ) → Type 0 = λ s. Handed d b more other (New (take step.used piece) (s ++ given_at step.value (0 + step.used))) (take step.used piece) in
+          subst P (sym h.0) (subst Q (sym h.1) (onward [] [] stood, begins_front b piece step.used begins some, within, under))
+      go (Err refusal) some onward within under = tt
+
+  pub first_answers : (limits : Limits) (catalog : Catalog) → ((u : List ℕ) (s : List (Value × ℕ)) → Old u s → Answers (trace_in b catalog limits) u s piece result) → limits ≡ d.limits → catalog ≡ d.catalog.now →
+      (u : List ℕ) (s : List (Value × ℕ)) → DocStands d u s → Answers (chosen d.catalog.now d.limits) u s piece result
+  first_answers limits catalog answers within under u s stands =
+      let h = inside d Unbegun u s is stands in
+      let P : (List ℕ → Trace) → Type 0 = λ t. Answers t [] [] piece result in
+      let Q : List ℕ → Type 0 = λ u. Answers (chosen d.catalog.now d.limits) u s piece result in
+      let R : List (Value × ℕ) → Type 0 = λ s. Answers (chosen d.catalog.now d.limits) [] s piece result in
+      subst Q (sym h.0) (subst R (sym h.1) (answers_in b d.catalog.now d.limits [] [] piece result begins (subst P (same_trace b catalog d.catalog.now limits d.limits under within) (answers [] [] stood))))
+
+-- the reader that was chosen is kept
+pub first_kept : (d new : DocReader) (f : Format) (piece : List ℕ) (result : Result Step Refusal) → new ≡ record d { format = f } →
+    IfOk result (λ step. (u : List ℕ) (s : List (Value × ℕ)) → DocStands d u s → FormatStands d f (u ++ take step.used piece) (s ++ given_at step.value (length u + step.used))) →
+    IfOk result (λ step. (u : List ℕ) (s : List (Value × ℕ)) → DocStands d u s → DocStands new (u ++ take step.used piece) (s ++ given_at step.value (length u + step.used)))
+first_kept d new f piece (Ok step) is h =
+    λ u s stands. let P : DocReader → Type 0 = λ x. DocStands x (u ++ take step.used piece) (s ++ given_at step.value (length u + step.used)) in subst P (sym is) (same f (u ++ take step.used piece) (s ++ given_at step.value (length u + step.used)) (h u s stands))
   where
-    gave : (used : ℕ) (value : Option Value) → Answers (trace g l) u s piece (Ok (record { used = used; value = value })) → Answers (chosen g l) u s piece (Ok (record { used = used; value = value }))
-    gave used None h = rw (chosen_binary g l (u ++ piece) binary) h
-    gave used (Some v) h = rw (chosen_binary g l (u ++ piece) binary) h
-answers_binary g l u s piece (Err refusal) binary h = λ other. rw (chosen_binary g l (u ++ piece) binary) (h other)
+    same : (f : Format) (u : List ℕ) (s : List (Value × ℕ)) → FormatStands d f u s → FormatStands (record d { format = f }) f u s
+    same Unbegun u s h = h
+    same (Refused refusal) u s h = h
+    same (Binary r) u s h = h
+    same (Text r) u s h = h
+first_kept d new f piece (Err refusal) is h = tt
 
-pub forward_answers : (d : DocReader) (old : BinaryReader) (piece : List ℕ) (result : Result Step Refusal) → d.format ≡ Binary old →
-    ((u : List ℕ) (s : List (Value × ℕ)) → Stands old u s → Answers (trace old.catalog.now old.limits) u s piece result) →
-    (u : List ℕ) (s : List (Value × ℕ)) → DocStands d u s → Answers (chosen d.catalog.now d.limits) u s piece result
-forward_answers d old piece result is answers u s stands =
-    let h = inside d (Binary old) u s is stands in
-    answers_binary d.catalog.now d.limits u s piece result (binary-append u piece h.1)
-    (let P : (List ℕ → Trace) → Type 0 = λ t. Answers t u s piece result in subst P (same_trace _ _ _ _ h.3 h.2) (answers u s h.0))
-
-binary_front : (piece : List ℕ) (used : ℕ) → is_binary piece ≡ true → 0 < used → is_binary (take used piece) ≡ true
-binary_front [] used h some = absurd cc
-binary_front (first ∷ rest) zero h some = absurd (omega arith)
-binary_front (first ∷ rest) (suc used) h some = h
-
--- the first step of all: nothing was read before it
-pub first_stands : (d : DocReader) (old new : BinaryReader) (piece : List ℕ) (result : Result Step Refusal) → d.format ≡ Unbegun → is_binary piece ≡ true → Stands old [] [] →
-    IfOk result (λ step. 0 < step.used) →
-    IfOk result (λ step. (u : List ℕ) (s : List (Value × ℕ)) → Stands old u s → Stands new (u ++ take step.used piece) (s ++ given_at step.value (length u + step.used))) →
-    new.limits ≡ d.limits → new.catalog.now ≡ d.catalog.now →
-    IfOk result (λ step. (u : List ℕ) (s : List (Value × ℕ)) → DocStands d u s → FormatStands d (Binary new) (u ++ take step.used piece) (s ++ given_at step.value (length u + step.used)))
-first_stands d old new piece (Ok step) is binary begun some onward limits catalog = λ u s stands.
-    let h = inside d Unbegun u s is stands in
-    let P : List ℕ → Type 0 = λ u. FormatStands d (Binary new) (u ++ take step.used piece) (s ++ given_at step.value (length u + step.used)) in
-    let Q : List (Value × ℕ) → Type 0 = λ s. FormatStands d (Binary new) (take step.used piece) (s ++ given_at step.value (0 + step.used)) in
-    subst P (sym h.0) (subst Q (sym h.1) (onward [] [] begun, binary_front piece step.used binary some, limits, catalog))
-first_stands d old new piece (Err refusal) is binary begun some onward limits catalog = tt
-
-pub first_answers : (d : DocReader) (old : BinaryReader) (piece : List ℕ) (result : Result Step Refusal) → d.format ≡ Unbegun → is_binary piece ≡ true → Stands old [] [] →
-    ((u : List ℕ) (s : List (Value × ℕ)) → Stands old u s → Answers (trace old.catalog.now old.limits) u s piece result) →
-    old.limits ≡ d.limits → old.catalog.now ≡ d.catalog.now →
-    (u : List ℕ) (s : List (Value × ℕ)) → DocStands d u s → Answers (chosen d.catalog.now d.limits) u s piece result
-first_answers d old piece result is binary begun answers limits catalog u s stands =
-    let h = inside d Unbegun u s is stands in
-    let P : (List ℕ → Trace) → Type 0 = λ t. Answers t [] [] piece result in
-    let Q : List ℕ → Type 0 = λ u. Answers (chosen d.catalog.now d.limits) u s piece result in
-    let R : List (Value × ℕ) → Type 0 = λ s. Answers (chosen d.catalog.now d.limits) [] s piece result in
-    subst Q (sym h.0) (subst R (sym h.1) (answers_binary d.catalog.now d.limits [] [] piece result binary (subst P (same_trace _ _ _ _ catalog limits) (answers [] [] begun))))
-
-finishes_binary : (g : Catalog) (l : Limits) (u : List ℕ) (result : Result (Option Value) Refusal) → is_binary u ≡ true → Finishes (trace g l) u result → Finishes (chosen g l) u result
-finishes_binary g l u (Ok value) binary h = ap (λ (t : Trace). t.ends) (chosen_binary g l u binary) ∙ h
-finishes_binary g l u (Err refusal) binary h = λ other. ap (λ (t : Trace). t.ends) (chosen_binary g l u binary) ∙ h other
-
-pub forward_ends : (d : DocReader) (old : BinaryReader) (result : Result (Option Value) Refusal) → d.format ≡ Binary old →
-    ((u : List ℕ) (s : List (Value × ℕ)) → Stands old u s → Finishes (trace old.catalog.now old.limits) u result) →
-    (u : List ℕ) (s : List (Value × ℕ)) → DocStands d u s → Finishes (chosen d.catalog.now d.limits) u result
-forward_ends d old result is ends u s stands =
-    let h = inside d (Binary old) u s is stands in
-    finishes_binary d.catalog.now d.limits u result h.1
-    (let P : (List ℕ → Trace) → Type 0 = λ t. Finishes t u result in subst P (same_trace _ _ _ _ h.3 h.2) (ends u s h.0))
-
-pub binary_at_first : (piece : List ℕ) (octet : ℕ) → Some octet ≡ slice_get piece 0 → octet ≡ 224 → is_binary piece ≡ true
+pub binary_at_first : (piece : List ℕ) (octet : ℕ) → Some octet ≡ slice_get piece 0 → octet ≡ 224 → Begins true piece
 binary_at_first [] octet e is = absurd cc
 binary_at_first (first ∷ rest) octet e is = let same : octet ≡ first = cc in eq-eqb first 224 (sym same ∙ is)
 
-some_used : (piece : List ℕ) (used : ℕ) (value : Option Value) → is_binary piece ≡ true → (value ≡ None → used ≡ length piece) → (IsSome value → 0 < 0 + 2 * used) → 0 < used
-some_used [] used value binary all progress = absurd cc
-some_used (first ∷ rest) used None binary all progress = let e = all refl in omega (arith, e)
-some_used (first ∷ rest) used (Some v) binary all progress = let e = progress refl in omega (arith, e)
+pub other_at_first : (piece : List ℕ) (octet : ℕ) → Some octet ≡ slice_get piece 0 → (octet ≡ 224 → ⊥) → Begins false piece
+other_at_first [] octet e other = absurd cc
+other_at_first (first ∷ rest) octet e other = let same : octet ≡ first = cc in ne_eqb first 224 (λ is. other (same ∙ is))
 
-pub first_used : (piece : List ℕ) (result : Result Step Refusal) → is_binary piece ≡ true → IfOk result (UsesAll piece) → IfOk result (λ step. IsSome step.value → 0 < 0 + 2 * step.used) →
+some_used : (b : Bool) (piece : List ℕ) (used : ℕ) (value : Option Value) → Begins b piece → (value ≡ None → used ≡ length piece) → (IsSome value → 0 < 0 + 2 * used) → 0 < used
+some_used b [] used value begins all progress = absurd begins
+some_used b (first ∷ rest) used None begins all progress = let e = all refl in omega (arith, e)
+some_used b (first ∷ rest) used (Some v) begins all progress = let e = progress refl in omega (arith, e)
+
+pub first_used : (b : Bool) (piece : List ℕ) (result : Result Step Refusal) (pending : ℕ) → pending ≡ 0 → Begins b piece → IfOk result (UsesAll piece) → (new : ℕ) → IfOk result (λ step. IsSome step.value → new < pending + 2 * step.used) →
     IfOk result (λ step. 0 < step.used)
-first_used piece (Ok step) binary all progress = some_used piece step.used step.value binary all progress
-first_used piece (Err refusal) binary all progress = tt
+first_used b piece (Ok step) pending none begins all new progress = some_used b piece step.used step.value begins all (λ some. let h = progress some in omega (arith, h, none))
+first_used b piece (Err refusal) pending none begins all new progress = tt

@@ -1,5 +1,5 @@
 -- What a device took of a document, one value after another.
-use Rattle.std.proofs.Common.{◌≡◌, ℕ, List, [], ◌∷◌, ◌++◌, Bool, true, false, Option, Some, None, Result, Ok, Err, OnOk, OnErr, IfOk, IfErr, option_to_list, sym, subst, append-nil}
+use Rattle.std.proofs.Common.{ℕ, List, [], ◌++◌, Bool, false, sym, subst, append-nil}
 use Rattle.ion_model.specs.declared.value.Value.{Value}
 use Rattle.ion_symtab.specs.Took.{Took, TookFront}
 use Rattle.ion_symtab.specs.TookLaws.{Took-nil, Took-trans, Front-all, Front-more, Front-behind}

@@ -8,13 +8,14 @@ use Rattle.ion_symtab.specs.declared.limits.Limits.{Limits}
 use Rattle.ion_symtab.specs.declared.inlet.Inlet.{Ghosts as Inlet}
 use Rattle.ion_symtab.specs.declared.outlet.Outlet.{Ghosts as Outlet}
 use Rattle.ion_symtab.specs.Took.{Took}
+use Rattle.ion_docs.specs.Documents.{Denotes}
 use Rattle.ion_docs.specs.Encodings.{Encoding}
 use Rattle.ion_docs.specs.Formats.{Format, documents}
 use Rattle.ion_docs.specs.Outcomes.{ToldDocument, ToldRefused}
 
 -- The octets are a document that denotes s, under every catalog and all limits that admit the document of s in this encoding.
 abbrev pub DenotesAnywhere : Encoding → List ℕ → List Value → Type 0
-DenotesAnywhere E octets s = (g : Catalog) (l : Limits) → E.admits l s → E.denotes g l octets s
+DenotesAnywhere E octets s = (g : Catalog) (l : Limits) → E.admits l s → Denotes g l octets s
 
 module _ {S : Type 0} (R : Inlet S) (F : Format) where
   -- The octets that the device handed over denote s; or they are no document, and s are the values before the refusal.

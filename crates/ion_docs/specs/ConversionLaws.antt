@@ -14,20 +14,34 @@ use Rattle.ion_symtab.specs.declared.outlet.Outlet.{Ghosts as Outlet}
 use Rattle.ion_symtab.specs.Promises.{NoTables}
 use Rattle.ion_symtab.specs.ContextTexts.{AreTextTables}
 use Rattle.ion_binary.specs.Output.{bin_of}
-use Rattle.ion_binary.specs.Laws.{pieces_values, whole_values}
+use Rattle.ion_symtab.specs.Slots.{Slot}
+use Rattle.ion_binary.specs.Grammar as binary
+use Rattle.ion_binary.specs.Laws as binary_laws
 use Rattle.ion_binary.specs.RoundTrip.{round_trip as binary_round_trip}
-use Rattle.ion_binary.specs.DocumentKept.{document_kept}
+use Rattle.ion_binary.specs.DocumentKept as binary_kept
 use Rattle.ion_text.specs.Grammar.{Document}
 use Rattle.ion_text.specs.Output.{text_of}
 use Rattle.ion_text.specs.RoundTrip.{round_trip as text_round_trip}
 use Rattle.ion_text.specs.Stops.{begins_none}
+use Rattle.ion_text.specs.ValuesKept as text_kept
 use Rattle.ion_docs.specs.declared.conversion.Target.{Target}
 use Rattle.ion_docs.specs.declared.conversion.Target.TheVariants.{Binary, Text}
 use Rattle.ion_docs.specs.Encodings.{encoding_of}
-use Rattle.ion_docs.specs.Documents.{is_binary, Denotes, is_empty, in_binary, Pieces, binary_pieces}
+use Rattle.ion_docs.specs.Documents.{is_binary, Denotes, in_binary, in_text, Pieces, binary_pieces, text_pieces}
 use Rattle.ion_docs.specs.Formats.{documents}
 use Rattle.ion_docs.specs.Conversion.{WasRead, DenotesAnywhere, KeepsStream, WritesKept}
-use Rattle.ion_docs.specs.DocLaws.{pieces_binary}
+
+binary-append : (u w : List ℕ) → is_binary u ≡ true → is_binary (u ++ w) ≡ true
+binary-append [] w h = absurd cc
+binary-append (first ∷ u) w h = h
+
+-- each document in binary begins with E0
+pieces_begin : (g : Catalog) (l : Limits) (w : List ℕ) (s : List Value) (c : List Slot) → binary.Pieces g l w s c → is_binary w ≡ true
+pieces_begin g l _ _ _ binary.begins = refl
+pieces_begin g l _ _ _ (binary.marked u s c d) = binary-append u binary.the_marker (pieces_begin g l u s c d)
+pieces_begin g l _ _ _ (binary.skips u w s c d p) = binary-append u w (pieces_begin g l u s c d)
+pieces_begin g l _ _ _ (binary.turns u w s c e v d b t n p q) = binary-append u w (pieces_begin g l u s c d)
+pieces_begin g l _ _ _ (binary.holds u w s c v d b t p q) = binary-append u w (pieces_begin g l u s c d)
 
 -- no document in text begins with E0: a reader refuses that octet
 pub text_begins : (g : Catalog) (l : Limits) (u : List ℕ) (s : List Value) → Document g l u s → is_binary u ≡ false
@@ -42,25 +56,26 @@ text_begins g l (o ∷ u) s d = by (o == 0xE0) refl where
 
 -- what is written of values that the types keep, none of them a local symbol table, denotes them
 pub written_denotes : (target : Target) (s : List Value) → AreKept s → NoTables s → DenotesAnywhere (encoding_of target) ((encoding_of target).document s) s
-written_denotes Binary s kept none g l fits = let d = binary_round_trip g l s kept none fits in in_binary (bin_of s) s (pieces_binary g l (bin_of s) s d.0 d.1) d
-written_denotes Text s kept none g l fits = let d = text_round_trip g l s kept none fits in (text_begins g l (text_of s) s d, d)
+written_denotes Binary s kept none g l fits = let d = binary_round_trip g l s kept none fits in in_binary (pieces_begin g l (bin_of s) s d.0 d.1) d
+written_denotes Text s kept none g l fits = let d = text_round_trip g l s kept none fits in in_text (text_begins g l (text_of s) s d) d
 
 -- no value of a stream is a local symbol table
 stream_values : (g : Catalog) (l : Limits) (u : List ℕ) (s : List Value) → Denotes g l u s → NoTables s
-stream_values g l _ _ is_empty = tt
-stream_values g l _ _ (in_binary u s b d) = pieces_values g l u s d.0 d.1
+stream_values g l u s (in_binary h d) = binary_laws.pieces_values g l u s d.0 d.1
+stream_values g l u s (in_text h d) = text_kept.document_values g l u s d
 
 -- and the types keep them, where the texts of the catalog are UTF-8
 stream_kept : (g : Catalog) (l : Limits) (u : List ℕ) (s : List Value) → AreTextTables g → AreOctets u → Denotes g l u s → AreKept s
-stream_kept g l _ _ texts octets is_empty = tt
-stream_kept g l _ _ texts octets (in_binary u s b d) = document_kept g l texts u s octets d
+stream_kept g l u s texts octets (in_binary h d) = binary_kept.document_kept g l texts u s octets d
+stream_kept g l u s texts octets (in_text h d) = text_kept.document_kept g l texts u s d
 
 -- so what is written of the stream of a document of octets denotes it
 pub again_denotes : (target : Target) (g : Catalog) (l : Limits) (u : List ℕ) (s : List Value) → AreTextTables g → AreOctets u → Denotes g l u s → DenotesAnywhere (encoding_of target) ((encoding_of target).document s) s
 again_denotes target g l u s texts octets d = written_denotes target s (stream_kept g l u s texts octets d) (stream_values g l u s d)
 
 piece_values : (g : Catalog) (l : Limits) (u following : List ℕ) (s : List Value) → Pieces g l u following s → NoTables s
-piece_values g l _ _ _ (binary_pieces u following s w) = whole_values g l u s w
+piece_values g l u following s (binary_pieces h w) = binary_laws.whole_values g l u s w
+piece_values g l u following s (text_pieces h w) = text_kept.pieces_values g l w.tokens s w.context w.pieces
 
 module _ {S T : Type 0} (R : Inlet S) (W : Outlet T) (g : Catalog) (l : Limits) (first now : S) (old new : T) where
   -- no value that was read is a local symbol table

@@ -1,9 +1,8 @@
 -- The encodings that streams are written in, and how a document is written one value after another.
-use Rattle.std.specs.Prelude.{◌≡◌, ℕ, List, ◌++◌, Bool, true, false, ⊤}
+use Rattle.std.specs.Prelude.{◌≡◌, ℕ, List, ◌++◌, Bool, true, ⊤}
 use Rattle.ion_model.specs.declared.value.Value.{Value}
 use Rattle.ion_symtab.specs.declared.fault.Fault.{Fault}
 use Rattle.ion_symtab.specs.declared.fault.Fault.TheVariants.{Memory, Read, Write, TooManyReads, TooLarge, Open}
-use Rattle.ion_symtab.specs.declared.catalog.Catalog.{Catalog}
 use Rattle.ion_symtab.specs.declared.limits.Limits.{Limits}
 use Rattle.ion_symtab.specs.declared.outlet.Outlet.{Ghosts as Outlet}
 use Rattle.ion_symtab.specs.Took.{Took, TookFront}
@@ -11,10 +10,8 @@ use Rattle.ion_binary.specs.Output.{bin_of, nothing_yet}
 use Rattle.ion_binary.specs.Puts.{behind}
 use Rattle.ion_binary.specs.Writing.{NeedsLargeId}
 use Rattle.ion_binary.specs.RoundTrip.{FitsIn as FitsInBinary}
-use Rattle.ion_text.specs.Grammar.{Document}
 use Rattle.ion_text.specs.Output.{text_of}
 use Rattle.ion_text.specs.RoundTrip.{FitsIn as FitsInText}
-use Rattle.ion_docs.specs.Documents.{is_binary, Denotes}
 use Rattle.ion_docs.specs.declared.conversion.Target.{Target}
 use Rattle.ion_docs.specs.declared.conversion.Target.TheVariants.{Binary, Text}
 
@@ -24,8 +21,6 @@ pub record Encoding : Type 1 where
   pub document : List Value → List ℕ
   -- the limits admit that document
   pub admits : Limits → List Value → Type 0
-  -- under this catalog and within these limits the octets are a document in the encoding, and s is its stream
-  pub denotes : Catalog → Limits → List ℕ → List Value → Type 0
   -- that document can't be written: a symbol would need an id above 2^31-1
   pub needs_large_id : List Value → Type 0
 
@@ -33,17 +28,12 @@ abbrev pub binary_encoding : Encoding
 binary_encoding = record {
   document = bin_of;
   admits = FitsInBinary;
-  denotes = Denotes;
   needs_large_id = λ s. NeedsLargeId (behind nothing_yet s).names;
 }
 
--- the octets are a document in text, which begins with no E0
-abbrev pub IsTextOf : Catalog → Limits → List ℕ → List Value → Type 0
-IsTextOf g l octets s = (is_binary octets ≡ false) × Document g l octets s
-
 -- symbols are written by their texts, without ids
 abbrev pub text_encoding : Encoding
-text_encoding = record { document = text_of; admits = FitsInText; denotes = IsTextOf; needs_large_id = λ s. ⊥ }
+text_encoding = record { document = text_of; admits = FitsInText; needs_large_id = λ s. ⊥ }
 
 abbrev pub encoding_of : Target → Encoding
 encoding_of Binary = binary_encoding

@@ -10,8 +10,10 @@ pub mod Reading
 pub mod Place
 pub mod Courses
 pub mod Chosen
+pub mod Alike
 pub mod DocStands
 pub mod DocLaws
+pub mod DocReaders
 pub mod Encodings
 pub mod EncodingLaws
 pub mod Converted

@@ -5,6 +5,7 @@ ghost use Rattle.ion_model.specs.declared.refusal.Reason.TheVariants.{Memory};
 use ion_binary::BinaryReader;
 use ion_model::{Reason, Refusal, Value};
 use ion_symtab::{Catalog, Items, Limits, Step};
+use ion_text::TextReader;
 use std::alloc::Global;
 
 /// The first octet of a binary document, and of no text.
@@ -17,13 +18,11 @@ enum Format<'a> {
     Unbegun,
     Refused(Refusal),
     Binary(BinaryReader<'a>),
+    Text(TextReader<'a>),
 }
 
 /// A reader of a document of either encoding: binary if its first octet is E0 (Ion 1.0, "Ion Binary
 /// Encoding", the binary version marker), text otherwise.
-///
-/// Of text documents only the empty one is read yet; any other first octet is refused as
-/// `Unexpected` at offset 1.
 #[derive(Drop)]
 pub struct DocReader<'a> {
     alloc: Global,
@@ -52,24 +51,31 @@ impl<'a> DocReader<'a> {
         })
     }
 
-    /// Refuses from now on.
-    fn refuse(&mut self, offset: u64, reason: Reason) -> Refusal
-        ensures refusal { result ≡ record { offset = offset; reason = reason } }
+    /// Reads octets so from now on.
+    fn go_on(&mut self, format: Format<'a>)
+        ensures { self.new ≡ record self.old { format = format.entry } }
+    {
+        self.format = format;
+    }
+
+    /// Refuses from now on: there was no memory before any octet was used.
+    fn refuse(&mut self, reason: Reason) -> Refusal
+        ensures refusal { result ≡ record { offset = 0; reason = reason } }
         ensures kept { self.new ≡ record self.old { format = Format.Refused result } }
     {
-        let refusal = Refusal { offset, reason };
-        self.format = Format::Refused(refusal);
+        let refusal = Refusal { offset: 0, reason };
+        self.go_on(Format::Refused(refusal));
         refusal
     }
 }
 
 impl Items for DocReader<'_> {
     ghost use Rattle.std.specs.Prelude.{List, ℕ, None};
-    ghost use Rattle.ion_binary.specs.Grammar.{OpenRest};
-    ghost use Rattle.ion_docs.specs.Documents.{Denotes, Pieces};
+    ghost use Rattle.ion_docs.specs.Documents.{Denotes, Pieces, OpenAfter};
     ghost use Rattle.ion_docs.specs.Chosen.{chosen};
-    ghost use Rattle.ion_docs.specs.DocStands.{DocStands, taken_of, failed_of, kept_of};
-    ghost use Rattle.ion_docs.specs.DocLaws.{doc_counted, doc_not_failed, doc_not_refused, doc_given, doc_bounded, chosen_grows, chosen_exact, one_document, one_shown, chosen_refused, chosen_shown, chosen_unfinished, chosen_reasons, chosen_small, chosen_values};
+    ghost use Rattle.ion_docs.specs.DocStands.{DocStands, taken_of, failed_of, awaits_of, pending_of, kept_of};
+    ghost use Rattle.ion_docs.specs.DocLaws.{one_document, one_shown, promised};
+    ghost use Rattle.ion_docs.specs.DocReaders.{doc_counted, doc_not_failed, doc_not_refused, doc_given, doc_given_next, doc_bounded};
 
     ghost catalog = { λ r. r.catalog.now };
 
@@ -79,7 +85,7 @@ impl Items for DocReader<'_> {
 
     ghost pieces = { Pieces };
 
-    ghost open_after = { λ l front rest. OpenRest l rest };
+    ghost open_after = { OpenAfter };
 
     ghost trace = { chosen };
 
@@ -89,9 +95,9 @@ impl Items for DocReader<'_> {
 
     ghost failed = { λ r. failed_of r.format };
 
-    ghost awaits = { λ _. None };
+    ghost awaits = { λ r. awaits_of r.format };
 
-    ghost pending = { λ _. 0 };
+    ghost pending = { λ r. pending_of r.format };
 
     ghost kept = { λ r. kept_of r.format };
 
@@ -101,50 +107,58 @@ impl Items for DocReader<'_> {
 
     ghost not_refused = { doc_not_refused };
 
-    ghost given_so_far = { λ r u s h none. doc_given r u s h };
+    ghost given_so_far = { doc_given };
 
-    ghost given_with_next = { λ r u s h. tt };
+    ghost given_with_next = { doc_given_next };
 
     ghost bounded = { doc_bounded };
 
-    ghost settled = { chosen_grows };
+    ghost settled = { λ g l u. (promised g l u).settled };
 
-    ghost exact = { chosen_exact };
+    ghost exact = { λ g l u. (promised g l u).exact };
 
     ghost one_stream = { one_document };
 
-    ghost refused = { chosen_refused };
+    ghost refused = { λ g l u. (promised g l u).refused };
 
     ghost one_shown = { one_shown };
 
-    ghost shown = { chosen_shown };
+    ghost shown = { λ g l u. (promised g l u).shown };
 
-    ghost unfinished = { chosen_unfinished };
+    ghost unfinished = { λ g l u. (promised g l u).unfinished };
 
-    ghost reasons = { chosen_reasons };
+    ghost reasons = { λ g l u. (promised g l u).reasons };
 
-    ghost small = { chosen_small };
+    ghost small = { λ g l u. (promised g l u).small };
 
-    ghost no_tables = { chosen_values };
+    ghost no_tables = { λ g l u. (promised g l u).no_tables };
 
     fn step(&mut self, piece: &[u8]) -> Result<Step, Refusal> {
         match &mut self.format {
             Format::Refused(refusal) => Err(*refusal),
             Format::Binary(reader) => reader.step(piece),
+            Format::Text(reader) => reader.step(piece),
             Format::Unbegun => match piece.first() {
                 None => Ok(Step {
                     used: 0,
                     value: None,
                 }),
                 Some(&BINARY) => match BinaryReader::new(self.alloc, self.catalog, self.limits) {
-                    Err(reason) => Err(self.refuse(0, reason)),
+                    Err(reason) => Err(self.refuse(reason)),
                     Ok(mut reader) => {
                         let result = reader.step(piece);
-                        self.format = Format::Binary(reader);
+                        self.go_on(Format::Binary(reader));
                         result
                     }
                 },
-                Some(_) => Err(self.refuse(1, Reason::Unexpected)),
+                Some(_) => match TextReader::new(self.alloc, self.catalog, self.limits) {
+                    Err(reason) => Err(self.refuse(reason)),
+                    Ok(mut reader) => {
+                        let result = reader.step(piece);
+                        self.go_on(Format::Text(reader));
+                        result
+                    }
+                },
             },
         }
     }
@@ -154,6 +168,7 @@ impl Items for DocReader<'_> {
             Format::Unbegun => Ok(None),
             Format::Refused(refusal) => Err(refusal),
             Format::Binary(reader) => reader.finish(),
+            Format::Text(reader) => reader.finish(),
         }
     }
 
@@ -162,6 +177,7 @@ impl Items for DocReader<'_> {
             Format::Unbegun => 0,
             Format::Refused(_) => 0,
             Format::Binary(reader) => reader.held(),
+            Format::Text(reader) => reader.held(),
         }
     }
 }

@@ -6,19 +6,13 @@ mod catalogs;
 mod checking;
 mod comparison;
 mod conversion;
-#[cfg(test)]
-mod conversion_tests;
 mod doc_reader;
 mod documents;
 pub mod laws;
 mod listing;
 mod paths;
 mod source;
-#[cfg(test)]
-mod tests;
 mod whole;
-#[cfg(test)]
-mod whole_tests;
 mod writers;
 
 pub use catalogs::{load_catalog, load_items};
