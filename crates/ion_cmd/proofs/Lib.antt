@@ -1,2 +1,2 @@
 mod Writes
-mod Tellings
+mod Owing

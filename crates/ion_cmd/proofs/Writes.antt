@@ -26,3 +26,7 @@ module _ {T : Type 0} (W : Outlet T) where
 pub when_ok : {A E : Type 0} (result : Result A E) (P : Type 0) → is_ok result ≡ true → OnOk result P → P
 when_ok (Ok value) P is h = h
 when_ok (Err error) P is h = absurd cc
+
+pub on_err : {A E P : Type 0} (result : Result A E) → P → OnErr result P
+on_err (Ok value) h = tt
+on_err (Err error) h = h

@@ -1,3 +1,4 @@
 pub mod Lines
-pub mod Words
 pub mod Endings
+pub mod Names
+pub mod Owed

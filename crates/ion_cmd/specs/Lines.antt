@@ -1,5 +1,5 @@
 -- The lines that the program writes, each with its line feed.
-use Rattle.std.specs.Prelude.{◌≡◌, ℕ, List, [], ◌∷◌, ◌++◌, codes, decimal, Bool, true, false, ⊤}
+use Rattle.std.specs.Prelude.{◌≡◌, ℕ, List, [], ◌∷◌, ◌++◌, codes, decimal, false}
 use Rattle.ion_symtab.specs.Took.{Took, TookFront}
 use Rattle.ion_symtab.specs.declared.outlet.Outlet.{Ghosts as Outlet}
 use Rattle.ion_model.specs.declared.refusal.Refusal.{Refusal}
@@ -10,7 +10,11 @@ use Rattle.ion_model.specs.declared.path.Part.{Part}
 use Rattle.ion_docs.specs.Paths.{path_text}
 use Rattle.ion_docs.specs.declared.comparison.Side.TheVariants.{Left, Right}
 use Rattle.ion_cmd.specs.declared.lines.Whose.{Whose}
-use Rattle.ion_cmd.specs.declared.lines.Whose.TheVariants.{Only, One}
+use Rattle.ion_cmd.specs.declared.lines.Whose.TheVariants.{Only, Catalog, One}
+
+-- how the program is called
+abbrev pub usage_line : List ℕ
+usage_line = codes "usage: ion_cmd check|show|convert|compare FILE.. [--to text|binary] [--catalog FILE] [--depth N] [--item N]\n"
 
 -- of a fault
 abbrev pub fault_line : Fault → List ℕ
@@ -21,9 +25,10 @@ fault_line TooManyReads = codes "fault TooManyReads\n"
 fault_line TooLarge = codes "fault TooLarge\n"
 fault_line Open = codes "fault Open\n"
 
--- whose document, where there are two
+-- whose document, where there are more than one
 abbrev pub whose_word : Whose → List ℕ
 whose_word Only = codes ""
+whose_word Catalog = codes "catalog "
 whose_word (One Left) = codes "left "
 whose_word (One Right) = codes "right "
 
@@ -44,26 +49,9 @@ path_behind (part ∷ path) = codes " " ++ path_text (part ∷ path)
 abbrev pub different_line : ℕ → List Part → List ℕ
 different_line index path = codes "different " ++ (decimal index ++ (path_behind path ++ codes "\n"))
 
--- what a fault of a command says of the output: whether it has failed
-abbrev pub IsCause : Bool → Fault → Type 0
-IsCause failed Memory = ⊤
-IsCause failed Read = ⊤
-IsCause failed Write = failed ≡ true
-IsCause failed TooManyReads = ⊤
-IsCause failed TooLarge = ⊤
-IsCause failed Open = ⊤
-
 module _ {T : Type 0} (W : Outlet T) where
   -- between old and new a device took a front of this line, and unless it has failed it took the whole of it and passed it on
   pub record Reports (old new : T) (line : List ℕ) : Type 0 where
     pub front : TookFront W.took W.written old new line
     pub whole : W.has_failed new ≡ false → Took W.took W.written old new line
     pub passed_on : W.has_failed new ≡ false → W.passed new ≡ W.written new
-
-  -- the line of a refusal went to the errors
-  abbrev pub ReportsRefusal : T → T → Type 0
-  ReportsRefusal old new = (whose : Whose) × (refusal : Refusal) × Reports old new (refusal_line whose refusal)
-
-  -- the line of a fault of a command went to the errors
-  abbrev pub ReportsFault : T → T → Bool → Type 0
-  ReportsFault old new out_failed = (fault : Fault) × Reports old new (fault_line fault) × IsCause out_failed fault

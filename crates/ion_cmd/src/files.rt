@@ -1,8 +1,8 @@
 //! The file system, the standard input and the arguments of the process.
 
 use crate::sources::Sources;
-use crate::words::WordsError;
-use ion_symtab::{Fault, FromRead};
+use ion_symtab::{Fault, FromRead, Inlet};
+use ion_words::WordsError;
 use std::fs::File;
 use std::io::{ErrorKind, Read};
 use std::rt::Stdin;
@@ -38,7 +38,15 @@ impl<'r> FileSystem<'r> {
 }
 
 impl Sources for FileSystem<'_> {
+    ghost use Rattle.std.specs.Prelude.{⊤, ◌≡◌, []};
+
     type Input = FromRead<Source>;
+
+    /// What a file holds isn't known; its reader has handed nothing over yet.
+    ghost gives = { λ _ _ input.
+        (⟦<FromRead<Source> as Inlet>⟧.handed input ≡ []) × (⟦<FromRead<Source> as Inlet>⟧.ends input ≡ []) };
+
+    ghost refuses = { λ _ _. ⊤ };
 
     fn source(&mut self, name: &str) -> Result<FromRead<Source>, Fault> {
         if name == "-" {

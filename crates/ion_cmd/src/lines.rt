@@ -20,6 +20,8 @@ pub const USAGE: &str =
 pub enum Whose {
     /// The only one.
     Only,
+    /// That of the catalog.
+    Catalog,
     /// One of two that are compared.
     One(Side),
 }
@@ -32,6 +34,7 @@ impl Whose {
     {
         match self {
             Whose::Only => "",
+            Whose::Catalog => "catalog ",
             Whose::One(Side::Left) => "left ",
             Whose::One(Side::Right) => "right ",
         }

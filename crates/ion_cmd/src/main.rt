@@ -7,14 +7,13 @@ mod run;
 mod sources;
 #[cfg(test)]
 mod tests;
-mod words;
 
 use files::{FileSystem, arguments};
 use ion_symtab::{Outlet, ToWrite};
+use ion_words::WordsError;
 use run::{refuse_words, run};
 use std::io::BufWriter;
 use std::process::ExitCode;
-use words::WordsError;
 
 /// So many octets of the output are kept back before they go out together.
 const KEPT_BACK: usize = 65536;
@@ -23,7 +22,7 @@ fn main(rt: HostRuntime) -> ExitCode {
     let mut err = ToWrite::new(rt.stderr());
     let status = match BufWriter::with_capacity(rt.alloc(), KEPT_BACK, rt.stdout()) {
         Ok(buffered) => carry_out(&rt, &mut ToWrite::new(buffered), &mut err),
-        Err(_) => refuse_words(WordsError::Memory, &mut err) as u8,
+        Err(_) => refuse_words(WordsError::Memory, &mut err).code(),
     };
     ExitCode::from(status)
 }
@@ -33,6 +32,6 @@ fn carry_out<O: Outlet, E: Outlet>(rt: &HostRuntime, out: &mut O, err: &mut E) -
     let mut sources = FileSystem::new(rt);
     match arguments(rt) {
         Ok(words) => run(rt.alloc(), words.as_slice(), &mut sources, out, err),
-        Err(error) => refuse_words(error, err) as u8,
+        Err(error) => refuse_words(error, err).code(),
     }
 }

@@ -1,26 +1,30 @@
 //! What the program does.
-ghost use Rattle.std.specs.Prelude.{◌≡◌, ◌≢◌, ◌≤◌, ◌⊎◌, ℕ, true, [], IfOk, OnOk, IfErr, Result};
+ghost use Rattle.std.specs.Prelude.{◌≡◌, ◌^◌, ◌⊎◌, ℕ, true, false, [], map, IfOk, OnOk, IfErr, OnErr, Option, Result};
 ghost use Rattle.ion_model.specs.declared.refusal.Refusal.{Refusal};
 ghost use Rattle.ion_symtab.specs.Cause.{IsReadCause};
-ghost use Rattle.ion_symtab.specs.Took.{Took};
+ghost use Rattle.ion_symtab.specs.Took.{Took, TookFront};
 ghost use Rattle.ion_docs.specs.declared.comparison.Verdict.{Verdict};
 ghost use Rattle.ion_docs.specs.Encodings.{encoding_of};
 ghost use Rattle.ion_docs.specs.Formats.{documents};
 ghost use Rattle.ion_docs.specs.Checked.{IsChecked};
-ghost use Rattle.ion_docs.specs.Listing.{IsShown, IsWriteCause};
+ghost use Rattle.ion_docs.specs.Listing.{IsShown, ShowsSoFar, IsWriteCause};
 ghost use Rattle.ion_docs.specs.Compared.{IsCompared};
-ghost use Rattle.ion_docs.specs.Converted.{IsConverted};
-ghost use Rattle.ion_cmd.specs.Lines.{fault_line, refusal_line, IsCause, Reports, ReportsRefusal, ReportsFault};
-ghost use Rattle.ion_cmd.specs.Endings.{EndsChecked, EndsShown, EndsCompared, TellsAccepted, TellsDifferent, TellsEnding, PassesOn};
+ghost use Rattle.ion_docs.specs.Conversion.{KeepsStream};
+ghost use Rattle.ion_docs.specs.Converted.{IsConverted, IsConvertCause, ReadSoFar, ConvertsSoFar};
+ghost use Rattle.ion_words.specs.Asked.{asked, told, names_of, names_of_job, names_with, NamesInputOnce};
+ghost use Rattle.ion_cmd.specs.Lines.{fault_line, refusal_line, usage_line, Reports};
+ghost use Rattle.ion_cmd.specs.Endings.{answer_line, verdict_line, EndsChecked, EndsShown, EndsCompared, PassesOn};
+ghost use Rattle.ion_cmd.specs.Names.{Keeps};
+ghost use Rattle.ion_cmd.specs.Owed.{target_of, code_of, IsCatalog, IsStopped, NeedsLarge, IsDone, IsAnswered, IsStoppedAt, WroteFront, WroteSoFar, Owes};
 
 use crate::lines::{
     USAGE, Whose, accepted_line, different_line, equivalent_line, fault_line, refusal_line,
 };
 use crate::sources::Sources;
-use crate::words::{Request, Task, WordsError, parse};
-use ion_docs::{Target, Verdict, check, compare, convert, show};
+use ion_docs::{DocReader, Target, Verdict, check, compare, convert, load_catalog, show};
 use ion_model::Refusal;
-use ion_symtab::{Catalog, Fault, Inlet, Limits, Outlet, flushed, write_whole};
+use ion_symtab::{Catalog, Fault, Inlet, Items, Limits, Outlet, flushed, write_whole};
+use ion_words::{Encoding, Request, Task, WordsError, parse};
 use std::alloc::Global;
 use std::convert::AsStr;
 
@@ -28,15 +32,30 @@ use std::convert::AsStr;
 #[derive(Clone, Copy, Debug, PartialEq, Eq)]
 pub enum Status {
     /// The document was accepted, or the two are equivalent.
-    Accepted = 0,
+    Accepted,
     /// Both are documents, and they aren't equivalent.
-    Different = 1,
+    Different,
     /// A document was refused.
-    Refused = 2,
+    Refused,
     /// The words ask for nothing that the program does.
-    WrongWords = 3,
+    WrongWords,
     /// A fault came before there was an answer.
-    Fault = 4,
+    Fault,
+}
+
+impl Status {
+    /// Its number.
+    pub fn code(self) -> u8
+        ensures { result ≡ code_of self }
+    {
+        match self {
+            Status::Accepted => 0,
+            Status::Different => 1,
+            Status::Refused => 2,
+            Status::WrongWords => 3,
+            Status::Fault => 4,
+        }
+    }
 }
 
 /// How a command ended that no fault stopped.
@@ -63,26 +82,19 @@ pub fn run<S: AsStr, N: Sources, O: Outlet, E: Outlet>(
     out: &mut O,
     err: &mut E,
 ) -> u8
-    ensures status { result ≤ 4 }
-    ensures accepted { result ≡ 0 → TellsAccepted O.Outlet out.old out.new }
-    ensures different { result ≡ 1 → TellsDifferent O.Outlet out.old out.new }
-    ensures refused { result ≡ 2 → ReportsRefusal E.Outlet err.old err.new }
-    ensures wrong_words { result ≡ 3 → Took O.took O.written out.old out.new []
-        × Reports E.Outlet err.old err.new USAGE.now }
-    ensures fault { result ≡ 4 → ReportsFault E.Outlet err.old err.new (O.has_failed out.new) }
-    ensures quiet { result ≤ 1 → Took E.took E.written err.old err.new [] }
-    ensures passed_on { result ≤ 3 → PassesOn O.Outlet out.old out.new }
+    ensures owes { Owes N.Input.Inlet (N.gives sources.old) (N.refuses sources.old)
+        ⟦<DocReader<'static> as Items>⟧ O.Outlet E.Outlet (asked (map S.text words.now))
+        out.old out.new err.old err.new result }
 {
-    let status = match parse(alloc, words) {
-        Ok(request) => answer(alloc, &request, sources, out, err),
-        Err(error) => refuse_words(error, err),
-    };
-    status as u8
+    match parse(alloc, words) {
+        Ok(request) => answer(alloc, &request, sources, out, err).code(),
+        Err(error) => refuse_words(error, err).code(),
+    }
 }
 
 /// Tells on `err` why the words ask for nothing, and answers the status.
 pub fn refuse_words<E: Outlet>(error: WordsError, err: &mut E) -> Status
-    ensures usage { error ≡ WordsError.Usage → (result ≡ Status.WrongWords) × Reports E.Outlet err.old err.new USAGE.now }
+    ensures usage { error ≡ WordsError.Usage → (result ≡ Status.WrongWords) × Reports E.Outlet err.old err.new usage_line }
     ensures memory { error ≡ WordsError.Memory → (result ≡ Status.Fault) × Reports E.Outlet err.old err.new (fault_line Fault.Memory) }
 {
     match error {
@@ -133,14 +145,11 @@ fn answer<N: Sources, O: Outlet, E: Outlet>(
     out: &mut O,
     err: &mut E,
 ) -> Status
-    ensures words { result ≢ Status.WrongWords }
-    ensures accepted { result ≡ Status.Accepted → TellsAccepted O.Outlet out.old out.new }
-    ensures different { result ≡ Status.Different → TellsDifferent O.Outlet out.old out.new }
-    ensures refused { result ≡ Status.Refused → ReportsRefusal E.Outlet err.old err.new }
-    ensures fault { result ≡ Status.Fault → ReportsFault E.Outlet err.old err.new (O.has_failed out.new) }
-    ensures quiet { result ≡ Status.Accepted ⊎ result ≡ Status.Different →
-        Took E.took E.written err.old err.new [] }
-    ensures passed_on { result ≢ Status.Fault → PassesOn O.Outlet out.old out.new }
+    requires input_once { NamesInputOnce (names_of (told request.now)) }
+    requires reads { request.now.limits.reads ≡ 2 ^ 32 }
+    ensures { Owes N.Input.Inlet (N.gives sources.old) (N.refuses sources.old)
+        ⟦<DocReader<'static> as Items>⟧ O.Outlet E.Outlet (Option.Some (told request.now))
+        out.old out.new err.old err.new (code_of result) }
 {
     match carry_out(alloc, request, sources, out) {
         Ok(Ending::Accepted) => Status::Accepted,
@@ -150,19 +159,47 @@ fn answer<N: Sources, O: Outlet, E: Outlet>(
     }
 }
 
-/// Does what is asked for under the catalog.
+/// Does what is asked for under the catalog, which is opened and loaded first.
 fn carry_out<N: Sources, O: Outlet>(
     alloc: Global,
     request: &Request<'_>,
     sources: &mut N,
     out: &mut O,
 ) -> Result<Ending, Fault>
-    ensures ending { IfOk result (TellsEnding O.Outlet out.old out.new) }
+    requires input_once { NamesInputOnce (names_of (told request.now)) }
+    ensures answered { IfOk result (IsAnswered N.Input.Inlet (N.gives sources.old)
+        O.Outlet out.old out.new (told request.now) request.now.limits) }
     ensures passed_on { OnOk result (PassesOn O.Outlet out.old out.new) }
-    ensures cause { IfErr result (IsCause (O.has_failed out.new)) }
+    ensures so_far { OnErr result (WroteSoFar N.Input.Inlet (N.gives sources.old)
+        ⟦<DocReader<'static> as Items>⟧ O.Outlet out.old out.new
+        (told request.now) request.now.limits) }
+    ensures stopped { IfErr result (IsStoppedAt N.Input.Inlet (N.gives sources.old)
+        (N.refuses sources.old) ⟦<DocReader<'static> as Items>⟧
+        (told request.now) request.now.limits (O.has_failed out.new)) }
 {
-    let catalog = Catalog::new(alloc);
-    ending_of(alloc, request, sources, out, &catalog)
+    match catalog_of(alloc, request, sources)? {
+        Ok(catalog) => ending_of(alloc, request, sources, out, &catalog),
+        Err(refusal) => Ok(Ending::Refused(Whose::Catalog, refusal)),
+    }
+}
+
+/// The catalog that was asked for, or the refusal of its document; one of no tables where none was.
+fn catalog_of<N: Sources>(
+    alloc: Global,
+    request: &Request<'_>,
+    sources: &mut N,
+) -> Result<Result<Catalog, Refusal>, Fault>
+    ensures catalog { IfOk result (IsCatalog N.Input.Inlet (N.gives sources.old)
+        (told request.now).catalog request.now.limits) }
+    ensures kept { Keeps N.gives N.refuses sources.old sources.new (told request.now).catalog }
+    ensures stopped { IfErr result (IsStopped N.Input.Inlet (N.gives sources.old)
+        (N.refuses sources.old) request.now.limits (names_with (told request.now).catalog [])
+        ⊥ false) }
+{
+    match request.catalog {
+        None => Ok(Ok(Catalog::new(alloc))),
+        Some(name) => load_catalog(alloc, &mut sources.source(name)?, request.limits),
+    }
 }
 
 /// Opens each document, left to right, before one is read, and then does what is asked for.
@@ -173,16 +210,25 @@ fn ending_of<N: Sources, O: Outlet>(
     out: &mut O,
     catalog: &Catalog,
 ) -> Result<Ending, Fault>
-    ensures ending { IfOk result (TellsEnding O.Outlet out.old out.new) }
+    requires input_once { NamesInputOnce (names_of_job (told request.now).job) }
+    ensures done { IfOk result (IsDone N.Input.Inlet (N.gives sources.old) O.Outlet
+        out.old out.new (told request.now).job catalog.now request.now.limits) }
     ensures passed_on { OnOk result (PassesOn O.Outlet out.old out.new) }
-    ensures cause { IfErr result (IsCause (O.has_failed out.new)) }
+    ensures so_far { OnErr result (TookFront O.took O.written out.old out.new []
+        ⊎ WroteFront N.Input.Inlet (N.gives sources.old) ⟦<DocReader<'static> as Items>⟧
+        O.Outlet out.old out.new (told request.now).job catalog.now request.now.limits) }
+    ensures stopped { IfErr result (IsStopped N.Input.Inlet (N.gives sources.old)
+        (N.refuses sources.old) request.now.limits (names_of_job (told request.now).job)
+        (NeedsLarge N.Input.Inlet (N.gives sources.old) ⟦<DocReader<'static> as Items>⟧
+        (told request.now).job catalog.now request.now.limits) (O.has_failed out.new)) }
 {
     let limits = request.limits;
     match request.task {
         Task::Check(name) => checked(alloc, &mut sources.source(name)?, out, catalog, limits),
         Task::Show(name) => shown(alloc, &mut sources.source(name)?, out, catalog, limits),
-        Task::Convert(name, target) => {
+        Task::Convert(name, encoding) => {
             let mut source = sources.source(name)?;
+            let target = target_of(encoding);
             converted(alloc, &mut source, out, target, catalog, limits)
         }
         Task::Compare(left, right) => {
@@ -190,6 +236,15 @@ fn ending_of<N: Sources, O: Outlet>(
             let mut right = sources.source(right)?;
             compared(alloc, &mut left, &mut right, out, catalog, limits)
         }
+    }
+}
+
+fn target_of(encoding: Encoding) -> Target
+    ensures { result ≡ target_of encoding }
+{
+    match encoding {
+        Encoding::Binary => Target::Binary,
+        Encoding::Text => Target::Text,
     }
 }
 
@@ -204,6 +259,10 @@ fn checked<R: Inlet, O: Outlet>(
         × IsChecked R.Inlet (documents catalog.now limits) reader.old reader.new answer
         × EndsChecked O.Outlet out.old out.new answer ending) }
     ensures passed_on { OnOk result (PassesOn O.Outlet out.old out.new) }
+    ensures so_far { OnErr result (TookFront O.took O.written out.old out.new []
+        ⊎ (answer : Result ℕ Refusal)
+        × IsChecked R.Inlet (documents catalog.now limits) reader.old reader.new answer
+        × TookFront O.took O.written out.old out.new (answer_line answer)) }
     ensures cause { IfErr result (λ fault. IsReadCause R.Inlet limits.reads reader.old reader.new fault
         ⊎ IsWriteCause O.Outlet out.new fault) }
 {
@@ -228,6 +287,8 @@ fn shown<R: Inlet, O: Outlet>(
         reader.old reader.new out.old out.new answer
         × EndsShown answer ending) }
     ensures passed_on { OnOk result (PassesOn O.Outlet out.old out.new) }
+    ensures so_far { OnErr result (ShowsSoFar R.Inlet ⟦<DocReader<'static> as Items>⟧ O.Outlet
+        catalog.now limits reader.old reader.new out.old out.new) }
     ensures cause { IfErr result (λ fault. IsReadCause R.Inlet limits.reads reader.old reader.new fault
         ⊎ IsWriteCause O.Outlet out.new fault) }
 {
@@ -248,9 +309,17 @@ fn converted<R: Inlet, O: Outlet>(
     ensures ending { IfOk result (λ ending. (answer : Result ℕ Refusal)
         × IsConverted R.Inlet O.Outlet (encoding_of target) (documents catalog.now limits)
         reader.old reader.new out.old out.new answer
+        × KeepsStream R.Inlet O.Outlet (encoding_of target) catalog.now limits
+        reader.old reader.new out.old out.new answer
         × EndsShown answer ending) }
     ensures passed_on { OnOk result (PassesOn O.Outlet out.old out.new) }
-    ensures cause { IfErr result (IsCause (O.has_failed out.new)) }
+    ensures so_far { OnErr result (ConvertsSoFar (encoding_of target)
+        (ReadSoFar R.Inlet ⟦<DocReader<'static> as Items>⟧ catalog.now limits reader.old reader.new)
+        O.Outlet out.old out.new) }
+    ensures cause { IfErr result (λ fault. IsReadCause R.Inlet limits.reads reader.old reader.new fault
+        ⊎ IsConvertCause (encoding_of target)
+        (ReadSoFar R.Inlet ⟦<DocReader<'static> as Items>⟧ catalog.now limits reader.old reader.new)
+        (O.has_failed out.new) fault) }
 {
     match convert(alloc, reader, out, target, catalog, limits)? {
         Ok(_) => Ok(Ending::Accepted),
@@ -271,6 +340,11 @@ fn compared<L: Inlet, R: Inlet, O: Outlet>(
         left.old left.new right.old right.new verdict
         × EndsCompared O.Outlet out.old out.new verdict ending) }
     ensures passed_on { OnOk result (PassesOn O.Outlet out.old out.new) }
+    ensures so_far { OnErr result (TookFront O.took O.written out.old out.new []
+        ⊎ (verdict : Verdict)
+        × IsCompared L.Inlet R.Inlet (documents catalog.now limits) (documents catalog.now limits)
+        left.old left.new right.old right.new verdict
+        × TookFront O.took O.written out.old out.new (verdict_line verdict)) }
     ensures cause { IfErr result (λ fault. IsReadCause L.Inlet limits.reads left.old left.new fault
         ⊎ IsReadCause R.Inlet limits.reads right.old right.new fault
         ⊎ IsWriteCause O.Outlet out.new fault) }
@@ -292,6 +366,7 @@ fn compared<L: Inlet, R: Inlet, O: Outlet>(
 fn tell<O: Outlet>(out: &mut O, line: &str) -> Result<(), Fault>
     ensures told { OnOk result (Took O.took O.written out.old out.new line.now) }
     ensures passed_on { OnOk result (O.passed out.new ≡ O.written out.new) }
+    ensures so_far { OnErr result (TookFront O.took O.written out.old out.new line.now) }
     ensures cause { IfErr result (λ fault. (fault ≡ Fault.Write) × (O.has_failed out.new ≡ true)) }
 {
     write_whole(out, line.as_bytes())?;

@@ -1,6 +1,7 @@
 //! What the words mean, the lines and the statuses, over documents in memory.
 
 mod devices;
+mod words;
 
 use crate::run::run;
 use devices::{FrailShelf, Shelf, Slow};
@@ -18,7 +19,7 @@ struct Row {
     status: u8,
 }
 
-static FILES: [(&str, &[u8]); 9] = [
+static FILES: [(&str, &[u8]); 16] = [
     ("-", b""),
     ("marker", b"\xE0\x01\x00\xEA"),
     ("list", b"\xE0\x01\x00\xEA\xB3\x21\x05\x11"),
@@ -28,9 +29,39 @@ static FILES: [(&str, &[u8]); 9] = [
     ("null", b"\xE0\x01\x00\xEA\x21\x05\x4F"),
     ("bad", b"\xE0\x01\x00\xEA\x13"),
     ("nested", b"\xE0\x01\x00\xEA\xB3\xB2\xB1\x20"),
+    // imports t 1 of two symbols, and the first of them
+    (
+        "imports",
+        b"\xE0\x01\x00\xEA\xEE\x8F\x81\x83\xDC\x86\xBA\xD9\x84\x81\x74\x85\x21\x01\x88\x21\x02\x71\x0A",
+    ),
+    // imports t 2, and the second symbol
+    (
+        "another",
+        b"\xE0\x01\x00\xEA\xEE\x8F\x81\x83\xDC\x86\xBA\xD9\x84\x81\x74\x85\x21\x02\x88\x21\x02\x71\x0B",
+    ),
+    // the symbol y
+    (
+        "y",
+        b"\xE0\x01\x00\xEA\xE7\x81\x83\xD4\x87\xB2\x81\x79\x71\x0A",
+    ),
+    // the shared table t 1 of x
+    (
+        "table",
+        b"\xE0\x01\x00\xEA\xED\x81\x89\xDA\x84\x81\x74\x85\x21\x01\x87\xB2\x81\x78",
+    ),
+    // and t 3 of x, y and z
+    (
+        "tables",
+        b"\xE0\x01\x00\xEA\xED\x81\x89\xDA\x84\x81\x74\x85\x21\x01\x87\xB2\x81\x78\xEE\x92\x81\x89\xDE\x8E\x84\x81\x74\x85\x21\x03\x87\xB6\x81\x78\x81\x79\x81\x7A",
+    ),
+    (
+        "twice",
+        b"\xE0\x01\x00\xEA\xED\x81\x89\xDA\x84\x81\x74\x85\x21\x01\x87\xB2\x81\x78\xED\x81\x89\xDA\x84\x81\x74\x85\x21\x01\x87\xB2\x81\x78",
+    ),
+    ("number", b"\xE0\x01\x00\xEA\x21\x01"),
 ];
 
-static ROWS: [Row; 21] = [
+static ROWS: [Row; 34] = [
     Row {
         words: &[],
         out: "accepted 0\n",
@@ -154,6 +185,86 @@ static ROWS: [Row; 21] = [
     },
     Row {
         words: &["compare", "-", "-"],
+        out: "",
+        err: USAGE,
+        status: 3,
+    },
+    Row {
+        words: &["check", "imports"],
+        out: "",
+        err: "refused 21 MissingImport\n",
+        status: 2,
+    },
+    Row {
+        words: &["check", "imports", "--catalog", "table"],
+        out: "accepted 1\n",
+        err: "",
+        status: 0,
+    },
+    Row {
+        words: &["show", "imports", "--catalog=table"],
+        out: "1 symbol depth 0 nodes 1\naccepted 1\n",
+        err: "",
+        status: 0,
+    },
+    Row {
+        words: &["convert", "imports", "--to", "text", "--catalog", "table"],
+        out: "x\n",
+        err: "",
+        status: 0,
+    },
+    Row {
+        words: &["compare", "another", "y", "--catalog", "tables"],
+        out: "equivalent 1\n",
+        err: "",
+        status: 0,
+    },
+    Row {
+        words: &["compare", "y", "imports", "--catalog", "table"],
+        out: "different 1\n",
+        err: "",
+        status: 1,
+    },
+    Row {
+        words: &["check", "list", "--catalog", "-"],
+        out: "accepted 1\n",
+        err: "",
+        status: 0,
+    },
+    Row {
+        words: &["check", "imports", "--catalog", "number"],
+        out: "",
+        err: "refused catalog 6 BadTable\n",
+        status: 2,
+    },
+    Row {
+        words: &["check", "imports", "--catalog", "twice"],
+        out: "",
+        err: "refused catalog 32 DuplicateTable\n",
+        status: 2,
+    },
+    // the catalog is loaded before a document is opened
+    Row {
+        words: &["check", "absent", "--catalog", "bad"],
+        out: "",
+        err: "refused catalog 5 Malformed\n",
+        status: 2,
+    },
+    Row {
+        words: &["check", "imports", "--catalog", "absent"],
+        out: "",
+        err: "fault Open\n",
+        status: 4,
+    },
+    // within the limits of the documents
+    Row {
+        words: &["check", "list", "--catalog", "table", "--depth", "1"],
+        out: "",
+        err: "refused catalog 16 Depth\n",
+        status: 2,
+    },
+    Row {
+        words: &["check", "-", "--catalog", "-"],
         out: "",
         err: USAGE,
         status: 3,

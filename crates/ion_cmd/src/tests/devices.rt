@@ -12,7 +12,13 @@ pub struct Shelf<'a> {
 }
 
 impl<'a> Sources for Shelf<'a> {
+    ghost use Rattle.std.specs.Prelude.{⊤};
+
     type Input = FromRead<&'a [u8]>;
+
+    ghost gives = { λ _ _ _. ⊤ };
+
+    ghost refuses = { λ _ _. ⊤ };
 
     fn source(&mut self, name: &str) -> Result<FromRead<&'a [u8]>, Fault> {
         match self.files.iter().find(|file| file.0 == name) {
@@ -31,7 +37,13 @@ pub struct FrailShelf<'a> {
 }
 
 impl<'a> Sources for FrailShelf<'a> {
+    ghost use Rattle.std.specs.Prelude.{⊤};
+
     type Input = FromRead<Frail<'a>>;
+
+    ghost gives = { λ _ _ _. ⊤ };
+
+    ghost refuses = { λ _ _. ⊤ };
 
     fn source(&mut self, name: &str) -> Result<FromRead<Frail<'a>>, Fault> {
         let fails_at = if name == self.fails {
