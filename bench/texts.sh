@@ -1,18 +1,22 @@
 #!/bin/sh
-# Times the scanner of text on records, on the same records indented and on long texts,
-# with the peak of memory (the Python that starts it has some 14 MiB).
-# usage: bench/texts.sh PROGRAM [MEGABYTES], where PROGRAM is crates/scan_speed/out/scan_speed, which `rt run` builds there.
+# Times a program on text documents: records, the same records indented, and long texts, with the peak of memory
+# (the Python that starts it has some 14 MiB). The document is its standard input.
+# usage: bench/texts.sh PROGRAM [MEGABYTES [WORDS..]]: the scanner alone by crates/scan_speed/out/scan_speed, which
+# `rt run` builds there; the command by crates/ion_cmd/out/ion_cmd 100 check -
 set -eu
 program=$1
+megabytes=${2:-100}
+[ $# -lt 2 ] || shift
+shift
 folder=$(mktemp -d)
 trap 'rm -r "$folder"' EXIT
-python3 "$(dirname "$0")/texts.py" "$folder" "${2:-100}"
+python3 "$(dirname "$0")/texts.py" "$folder" "$megabytes"
 for name in records pretty texts; do
-    python3 - "$program" "$folder/$name.ion" <<'TIMES'
+    python3 - "$folder/$name.ion" "$program" "$@" <<'TIMES'
 import os, resource, subprocess, sys
-program, document = sys.argv[1:]
+document, *words = sys.argv[1:]
 with open(document, "rb") as text:
-    subprocess.run([program], stdin=text, stdout=subprocess.DEVNULL, check=True)
+    subprocess.run(words, stdin=text, stdout=subprocess.DEVNULL, check=True)
 used = resource.getrusage(resource.RUSAGE_CHILDREN)
 size = os.path.getsize(document) / 1e6
 seconds = used.ru_utime + used.ru_stime
