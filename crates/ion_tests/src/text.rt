@@ -133,21 +133,39 @@ pub(crate) fn read<I: Items + Drop>(
     Ok(answers)
 }
 
-/// The row's answers come whole, in single octets and at every cut, also where the encoding is chosen.
-fn holds<R: Abort + Drop>(rt: &R, alloc: Global, row: Row) -> Result<(), Fail> {
+/// Its own reader, and the one that chooses the encoding, give the row's answers in these pieces.
+fn meets<R: Abort + Drop>(
+    rt: &R,
+    alloc: Global,
+    row: Row,
+    document: &[u8],
+    cut: usize,
+    size: usize,
+) -> Result<(), Fail>
+    requires cut { cut ≤ length document.now }
+    requires size { 0 < size }
+    requires small { size < 2 ^ 32 }
+    requires room { length document.now < 2 ^ 63 }
+{
     let limits = Limits::new(row.depth, row.item, 9).unwrap_or(Limits::usual());
     let catalog = Catalog::new(alloc);
+    let reader = TextReader::new(alloc, &catalog, limits)?;
+    let answers = read(alloc, reader, document, cut, size)?;
+    assert_eq!(rt; answers.totals.as_slice(), row.totals);
+    assert_eq!(rt; answers.refusal, row.refusal);
+    let reader = DocReader::new(alloc, &catalog, limits)?;
+    let answers = read(alloc, reader, document, cut, size)?;
+    assert_eq!(rt; answers.totals.as_slice(), row.totals);
+    assert_eq!(rt; answers.refusal, row.refusal);
+    Ok(())
+}
+
+/// The row's answers come whole, in single octets and at every cut.
+fn holds<R: Abort + Drop>(rt: &R, alloc: Global, row: Row) -> Result<(), Fail> {
     let document = row.document.as_bytes();
     for cut in 0..=document.len() {
         for size in [1, 2, 1 << 20] {
-            let reader = TextReader::new(alloc, &catalog, limits)?;
-            let answers = read(alloc, reader, document, cut, size)?;
-            assert_eq!(rt; answers.totals.as_slice(), row.totals);
-            assert_eq!(rt; answers.refusal, row.refusal);
-            let reader = DocReader::new(alloc, &catalog, limits)?;
-            let answers = read(alloc, reader, document, cut, size)?;
-            assert_eq!(rt; answers.totals.as_slice(), row.totals);
-            assert_eq!(rt; answers.refusal, row.refusal);
+            meets(rt, alloc, row, document, cut, size)?;
         }
     }
     Ok(())

@@ -1,4 +1,4 @@
-use Rattle.std.proofs.Common.{◌≡◌, ◌+◌, ◌-◌, ◌≤◌, ◌<◌, None, length}
+use Rattle.std.proofs.Common.{◌≡◌, ◌+◌, ◌-◌, ◌≤◌, None, length}
 use Rattle.ion_tests.proofs.text.read.Given as goal
 
 abbrev pub invariant-loop-answers : goal.invariant-loop-answers
