@@ -9,12 +9,12 @@ use Rattle.ion_symtab.specs.Outcome.{Gives}
 use Rattle.ion_model.specs.declared.refusal.Reason.{Reason}
 use Rattle.ion_model.specs.declared.refusal.Reason.TheVariants as reasons
 
-slice_get-append_left : {X : Type 0} (xs ys : List X) (i : ℕ) → i < length xs → slice_get (xs ++ ys) i ≡ slice_get xs i
+pub slice_get-append_left : {X : Type 0} (xs ys : List X) (i : ℕ) → i < length xs → slice_get (xs ++ ys) i ≡ slice_get xs i
 slice_get-append_left [] ys i h = absurd (omega arith)
 slice_get-append_left (x ∷ xs) ys zero h = refl
 slice_get-append_left (x ∷ xs) ys (suc i) h = slice_get-append_left xs ys i (omega arith)
 
-slice_get-append_right : {X : Type 0} (xs ys : List X) (i j : ℕ) → i ≡ length xs + j → slice_get (xs ++ ys) i ≡ slice_get ys j
+pub slice_get-append_right : {X : Type 0} (xs ys : List X) (i j : ℕ) → i ≡ length xs + j → slice_get (xs ++ ys) i ≡ slice_get ys j
 slice_get-append_right [] ys i j h = let e : i ≡ j = omega arith in ap (slice_get ys) e
 slice_get-append_right (x ∷ xs) ys zero j h = absurd (omega arith)
 slice_get-append_right (x ∷ xs) ys (suc i) j h = slice_get-append_right xs ys i j (omega arith)
@@ -59,3 +59,12 @@ pub Gives-copy : (wanted : Result (Option (List ℕ)) Reason) (s : Option (List 
     MatchResult copy (λ x. x ≡ s) (λ r. r ≡ reasons.Memory) → Gives wanted copy
 Gives-copy wanted s (Ok x) e h = e ∙ ap Ok (sym h)
 Gives-copy wanted s (Err r) e h = inl h
+
+-- a place behind the earlier slots, among the symbols of local tables that stand there
+pub resolve_last : (first end place : ℕ) (slots : List Slot) (symbols : List (Option (List ℕ))) (s : Option (List ℕ)) → end ≡ first + length slots → end ≤ place →
+    place - end < length symbols → s ≡ get_or symbols (place - end) s → symbol_at (slice_get (slots ++ map local_slot symbols) (place - first)) ≡ Ok s
+resolve_last first end place slots symbols s e l h r =
+    ap symbol_at
+    (slice_get-append_right slots (map local_slot symbols) (place - first) (place - end) (omega arith) ∙ slice_get-map local_slot symbols (place - end)
+    ∙ ap (λ o. option_map local_slot o) (slice_get_read symbols (length symbols) (place - end) s refl h r))
+    ∙ slot_symbol-local s

@@ -9,6 +9,7 @@ pub mod Outcome
 pub mod Slots
 pub mod Fields
 pub mod Tables
+pub mod Places
 pub mod Next
 pub mod Shared
 pub mod Segments

@@ -12,7 +12,7 @@ use Rattle.ion_symtab.specs.declared.segments.Segment.{Segment}
 
 -- the slots of one table
 abbrev pub part_slots : Part → List Slot
-part_slots (Local symbols) = map local_slot symbols
+part_slots (Local symbols) = map local_slot symbols.items
 part_slots (Import symbols count) = cut_or_filled count (map shared_slot symbols)
 
 abbrev pub segment_slots : Segment → List Slot
@@ -51,3 +51,9 @@ abbrev pub Fills : (List Slot → Result (List Slot) Reason) → ℕ → Result 
 Fills f first result = (front : List Slot) → length front ≡ first → MatchResult result
     (λ row. (row.first ≡ first) × (f front ≡ Ok (front ++ row.slots)))
     (λ r. (r ≡ reasons.Memory) ⊎ (f front ≡ Err r))
+
+-- as `Adds`, of a row that is made of another
+abbrev pub Builds : (List Slot → Result (List Slot) Reason) → Row → Result Row Reason → Type 0
+Builds f old result = (front : List Slot) → length front ≡ old.first → MatchResult result
+    (λ row. (row.first ≡ old.first) × (f (front ++ old.slots) ≡ Ok (front ++ row.slots)))
+    (λ r. (r ≡ reasons.Memory) ⊎ (f (front ++ old.slots) ≡ Err r))

@@ -2,8 +2,10 @@
 ghost use Rattle.std.specs.Prelude.{◌≡◌, ◌⊎◌, [], ◌∷◌, ◌++◌, IfErr, OnOk, OnErr, IsSome, is_some, Option, option_copied};
 ghost use Rattle.ion_model.specs.declared.refusal.Reason.TheVariants as reasons;
 ghost use Rattle.ion_symtab.specs.ContextTexts.{AreTextTables};
-ghost use Rattle.ion_symtab.specs.Tables.{find, find_best, newest, newer};
+ghost use Rattle.ion_symtab.specs.Tables.{find, find_best, newest};
+ghost use Rattle.ion_symtab.specs.Places.{table_at, newest_place};
 
+use crate::places::Places;
 use crate::shared_table::SharedTable;
 use ion_model::Reason;
 use std::alloc::Global;
@@ -14,6 +16,7 @@ use std::marker::Model;
 #[derive(Drop, Debug)]
 pub struct Catalog {
     tables: Vec<SharedTable>,
+    places: Places,
 }
 
 impl Model for Catalog {
@@ -23,6 +26,10 @@ impl Model for Catalog {
     ghost Value = { List Table };
 
     ghost view = { λ c. c.tables.items };
+
+    ghost use Rattle.ion_symtab.specs.Places.{Indexes};
+
+    ghost invariant = { λ c. Indexes c.tables.items c.places };
 }
 
 impl Catalog {
@@ -32,6 +39,7 @@ impl Catalog {
     {
         Catalog {
             tables: Vec::new(alloc),
+            places: Places::new(alloc),
         }
     }
 
@@ -47,9 +55,20 @@ impl Catalog {
         if self.find(table.name(), table.version()).is_some() {
             return Err((table, Reason::DuplicateTable));
         }
-        match self.tables.push(table) {
-            Ok(()) => Ok(()),
-            Err(failed) => Err((failed.value, Reason::Memory)),
+        let alloc = *self.tables.allocator();
+        let place = self.tables.len();
+        let name = table.name();
+        let newest = newest_place(self.places.newest(name), self.newest(name), &table, place);
+        if self.tables.reserve(1).is_err() {
+            return Err((table, Reason::Memory));
+        }
+        let version = table.version() as u128;
+        match self.places.add(alloc, table.name(), version, place, newest) {
+            Err(reason) => Err((table, reason)),
+            Ok(()) => match self.tables.push(table) {
+                Ok(()) => Ok(()),
+                Err(failed) => Err((failed.value, Reason::Memory)),
+            },
         }
     }
 
@@ -84,34 +103,39 @@ impl Catalog {
     pub(crate) fn exact(&self, name: &str, version: u128) -> Option<&SharedTable>
         ensures { option_copied result ≡ find self.now name.now version }
     {
-        for table in &self.tables {
-            if table.name() == name && table.version() as u128 == version {
-                return Some(table);
-            }
-        }
-        None
+        self.at(self.places.place(name, version))
     }
 
     /// The table of this name with the greatest version.
     pub(crate) fn newest(&self, name: &str) -> Option<&SharedTable>
         ensures { option_copied result ≡ newest self.now name.now }
     {
-        let mut best: Option<&SharedTable> = None;
-        for table in &self.tables {
-            if table.name() == name {
-                best = newer(best, table);
-            }
+        self.at(self.places.newest(name))
+    }
+
+    // The table at a place.
+    fn at(&self, place: Option<usize>) -> Option<&SharedTable>
+        ensures { option_copied result ≡ table_at self.now place }
+    {
+        match place {
+            None => None,
+            Some(place) => self.tables.as_slice().get(place),
         }
-        best
     }
 }
 
-// The one of the greater version; the first where both have one version.
-fn newer<'t>(best: Option<&'t SharedTable>, table: &'t SharedTable) -> Option<&'t SharedTable>
-    ensures { option_copied result ≡ newer (option_copied best.entry) (Option.Some table.now) }
+// The place of the newest table of a name behind one more of that name, which stands at `place`; with
+// the newest so far and its place.
+fn newest_place(
+    so_far: Option<usize>,
+    best: Option<&SharedTable>,
+    table: &SharedTable,
+    place: usize,
+) -> usize
+    ensures { result ≡ newest_place so_far (option_copied best.entry) table.now place }
 {
-    match best {
-        Some(best) if table.version() <= best.version() => Some(best),
-        _ => Some(table),
+    match (so_far, best) {
+        (Some(so_far), Some(best)) if table.version() <= best.version() => so_far,
+        _ => place,
     }
 }

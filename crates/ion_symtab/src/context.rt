@@ -7,6 +7,7 @@ ghost use Rattle.ion_symtab.specs.Next.{next, extended, appends};
 ghost use Rattle.ion_symtab.specs.Outcome.{Gives};
 ghost use Rattle.ion_symtab.specs.Segments.{Fills};
 
+use crate::added::Added;
 use crate::catalog::Catalog;
 use crate::fields::{elements, is_text, only};
 use crate::segments::Segments;
@@ -19,7 +20,7 @@ use std::marker::Model;
 #[derive(Drop, Debug)]
 pub struct Context {
     system: Vec<Symbol>,
-    added: Segments,
+    added: Added,
 }
 
 impl Model for Context {
@@ -65,7 +66,7 @@ impl Context {
         }
         Ok(Context {
             system,
-            added: Segments::new(alloc, SYSTEM_SLOTS),
+            added: Added::new(alloc, SYSTEM_SLOTS),
         })
     }
 
@@ -150,14 +151,13 @@ fn added(
     imports: Option<&Value>,
     symbols: Option<&Value>,
     catalog: &Catalog,
-) -> Result<Segments, Reason>
+) -> Result<Added, Reason>
     requires { first ≤ greatest_id }
     ensures { Fills (λ slots. extended catalog.now slots (option_copied imports.entry) (option_copied symbols.entry)) first result }
 {
-    let mut added = Segments::new(alloc, first);
-    added.push_imports(elements(imports), catalog)?;
-    added.push_symbols(elements(symbols))?;
-    Ok(added)
+    let mut earlier = Segments::new(alloc, first);
+    earlier.push_imports(elements(imports), catalog)?;
+    Added::behind(earlier, elements(symbols))
 }
 
 // Whether `imports` is the symbol `$ion_symbol_table`.

@@ -2,6 +2,7 @@
 //! the devices that octets come from and go to.
 #![tactic(auto)]
 
+mod added;
 mod catalog;
 mod context;
 mod fault;
@@ -13,6 +14,7 @@ mod items;
 pub mod laws;
 mod limits;
 mod outlet;
+mod places;
 mod segments;
 mod shared_table;
 mod symbols;

@@ -1,5 +1,5 @@
 //! Slots of a context in segments, so that a gap of any length takes no memory.
-ghost use Rattle.std.specs.Prelude.{◌≡◌, ◌⊎◌, ◌≤◌, ◌<◌, ◌+◌, ◌-◌, ◌++◌, [], length, map, Ok, Err, MatchResult, OnOk, OnErr, IfOk, IfErr, slice_get};
+ghost use Rattle.std.specs.Prelude.{◌≡◌, ◌⊎◌, ◌≤◌, ◌<◌, ◌+◌, ◌-◌, ◌++◌, [], length, map, Ok, Err, MatchResult, OnOk, OnErr, IfOk, IfErr, IsTrue, slice_get};
 ghost use Rattle.ion_model.specs.declared.refusal.Reason.TheVariants as reasons;
 ghost use Rattle.ion_model.specs.declared.value.Payload.TheViews.{out-Payload};
 ghost use Rattle.ion_symtab.specs.Slots.{greatest_id, symbol_at, slot_symbol};
@@ -23,8 +23,8 @@ pub(crate) const GREATEST_ID: u32 = 0x7FFF_FFFF;
 /// Slots that one table gives.
 #[derive(Drop, Debug)]
 pub(crate) enum Part {
-    /// The symbols of a local table.
-    Local(Symbols),
+    /// The symbols of local tables.
+    Local(Vec<Symbol>),
     /// A shared table, cut or filled up to so many slots.
     Import(Symbols, u32),
 }
@@ -64,7 +64,7 @@ impl Part {
         ensures { Gives (symbol_at (slice_get (part_slots self.now) place)) result }
     {
         match self {
-            Part::Local(symbols) => symbols.as_slice()[place as usize].copy(),
+            Part::Local(symbols) => symbols[place as usize].copy(),
             Part::Import(symbols, _) => match symbols.as_slice().get(place as usize) {
                 None => Err(Reason::ImportGap),
                 Some(symbol) => imported(symbol),
@@ -126,6 +126,13 @@ impl Segments {
         self.end
     }
 
+    /// Whether there are none.
+    pub(crate) fn is_empty(&self) -> bool
+        ensures { IsTrue result → (self.now.slots ≡ []) }
+    {
+        self.segments.is_empty()
+    }
+
     /// The allocator.
     pub(crate) fn alloc(&self) -> Global {
         *self.segments.allocator()
@@ -142,7 +149,6 @@ impl Segments {
         segment.part.symbol_at(place - segment.before)
     }
 
-    // The index of the segment that a place falls into.
     /// Drops all slots. Takes no memory.
     pub(crate) fn clear(&mut self)
         ensures first { self.new.first ≡ self.old.first }
@@ -219,14 +225,42 @@ impl Segments {
         Ok(())
     }
 
-    /// Adds the slots of the elements of `symbols`, in order.
-    pub(crate) fn push_symbols(&mut self, elements: &[Value]) -> Result<(), Reason>
-        ensures { Adds (λ slots. joined slots (map local_slot (map symbol_of elements.now))) self.old self.new result }
+    /// The symbols of the elements of `symbols`, in order, if there are ids for them behind these slots.
+    pub(crate) fn symbols(&self, elements: &[Value]) -> Result<Vec<Symbol>, Reason>
+        ensures { MatchResult result
+            (λ s. (s.items ≡ map symbol_of elements.now) × (self.now.first + length self.now.slots + length s.items ≤ greatest_id))
+            (λ r. (r ≡ reasons.Memory) ⊎ (r ≡ reasons.TableTooLarge) × (greatest_id < self.now.first + length self.now.slots + length elements.now)) }
     {
-        let count = self.room_for(elements.len() as u128)?;
-        let symbols = symbols_of(self.alloc(), elements)?;
-        let symbols = Symbols::from_vec(self.alloc(), symbols)?;
-        self.push(Part::Local(symbols), count)
+        self.room_for(elements.len() as u128)?;
+        symbols_of(self.alloc(), elements)
+    }
+
+    /// Adds the symbols of local tables. A refusal hands them back and changes nothing.
+    pub(crate) fn push_symbols(&mut self, symbols: Vec<Symbol>) -> Result<(), Vec<Symbol>>
+        requires room { self.old.first + length self.old.slots + length symbols.items ≤ greatest_id }
+        ensures first { self.new.first ≡ self.old.first }
+        ensures ok { OnOk result (self.new.slots ≡ self.old.slots ++ map local_slot symbols.items) }
+        ensures err { OnErr result (self.new ≡ self.old) }
+        ensures handed_back { IfErr result (λ s. s.items ≡ symbols.items) }
+    {
+        let count = symbols.len() as u32;
+        if count == 0 {
+            return Ok(());
+        }
+        let segment = Segment {
+            before: self.end,
+            part: Part::Local(symbols),
+        };
+        match self.segments.push(segment) {
+            Ok(()) => {
+                self.end += count;
+                Ok(())
+            }
+            Err(failed) => match failed.value.part {
+                Part::Local(symbols) => Err(symbols),
+                Part::Import(_, _) => Err(Vec::new(self.alloc())),
+            },
+        }
     }
 
     /// Adds slots that were made to follow these.
