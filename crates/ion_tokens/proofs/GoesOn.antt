@@ -9,6 +9,7 @@ use Rattle.std.proofs.lemmas.Bool.Decides.{nat_tests}
 use Rattle.std.proofs.lemmas.List.Sums.{take_while-cons}
 use Rattle.ion_tokens.specs.Octets.{is_white, is_line_end, is_word_octet, is_stop, is_base64}
 use Rattle.ion_tokens.specs.declared.mode.Place.{Place}
+use Rattle.ion_tokens.specs.declared.mode.Place.TheVariants as places
 use Rattle.ion_tokens.specs.declared.mode.Mode.{Mode}
 use Rattle.ion_tokens.specs.declared.mode.Keep.{Keep}
 use Rattle.ion_tokens.specs.declared.mode.Action.{Action}
@@ -60,7 +61,7 @@ text_more a b c false x y z w v h f = cc
 base64_more : (o : ℕ) → is_base64 o ≡ true → in_lob lobs.Base64 o ≡ actions.Go (modes.Lob lobs.Base64) (keeps.One o)
 base64_more o h = grind (arith, nat_tests)
 
-stays : (p : Place) (colon : Bool) (m : Mode) (o : ℕ) → goes_on m o ≡ true → next p colon m o ≡ actions.Go m (keep_of m o)
+pub stays : (p : Place) (colon : Bool) (m : Mode) (o : ℕ) → goes_on m o ≡ true → next p colon m o ≡ actions.Go m (keep_of m o)
 stays p colon modes.Blank o h = white_more p colon o h
 stays p colon modes.LineComment o h = comment_more (is_line_end o) modes.Blank modes.LineComment h
 stays p colon modes.BlockComment o h = comment_more (o == 42) modes.BlockCommentStar modes.BlockComment h
@@ -75,7 +76,7 @@ kept_one true o k = refl
 kept_one false o k = refl
 
 -- what the scanner knows behind one octet with which its mode goes on
-one_on : (p : Place) (s : Known) (o : ℕ) → goes_on s.mode o ≡ true → feed p s o ≡ Next (gone_on s (o ∷ []))
+pub one_on : (p : Place) (s : Known) (o : ℕ) → goes_on s.mode o ≡ true → feed p s o ≡ Next (gone_on s (o ∷ []))
 one_on p s o h =
     let none : s.used ≡ s.used + (length (o ∷ []) - 1) = omega arith in
     ap (λ a. acts p s o a) (stays p s.colon s.mode o h)
@@ -101,7 +102,7 @@ more_on s o q os h =
     cc
 
 -- Octets with which the mode goes on are taken up at once.
-run_on : (p : Place) (s : Known) (w : List ℕ) → 0 < length w → Each (goes_on s.mode) w → run p w s ≡ Next (gone_on s w)
+pub run_on : (p : Place) (s : Known) (w : List ℕ) → 0 < length w → Each (goes_on s.mode) w → run p w s ≡ Next (gone_on s w)
 run_on p s [] some h = absurd (omega arith)
 run_on p s (o ∷ []) some h = ap (λ x. follow x (λ t. Next t)) (one_on p s o h.0)
 run_on p s (o ∷ q ∷ os) some h =
@@ -128,7 +129,7 @@ run_steady p (o ∷ os) s t n e h room =
     subst (λ k. IsSteady t k) far (run_steady p os s' t (n + 1) rest one (omega arith)))
 
 -- the octets at the front of a class are of the class
-each_front : (class : ℕ → Bool) (w : List ℕ) → Each class (take_while class w)
+pub each_front : (class : ℕ → Bool) (w : List ℕ) → Each class (take_while class w)
 each_front class [] = tt
 each_front class (o ∷ os) = subst (λ l. Each class l) (sym (take_while-cons class o os)) (one (class o) refl (each_front class os)) where
   one : (b : Bool) → class o ≡ b → Each class (take_while class os) → Each class (cond b (o ∷ take_while class os) [])
@@ -146,13 +147,13 @@ pub record TakesFront (piece : List ℕ) (at k : ℕ) (s t : Known) (n m : ℕ) 
   pub taken : t ≡ gone_on s (take k (take (length piece - at) (drop at piece)))
   pub looked : m ≡ min (n + length (take k (take (length piece - at) (drop at piece)))) (2 ^ 64 - 1)
 
-rest_is : (piece : List ℕ) (at : ℕ) → take (length piece - at) (drop at piece) ≡ drop at piece
+pub rest_is : (piece : List ℕ) (at : ℕ) → take (length piece - at) (drop at piece) ≡ drop at piece
 rest_is piece at = grind (arith, common_steps)
 
-front_all : (class : ℕ → Bool) (w : List ℕ) (k : ℕ) → k ≡ length (take_while class w) → take k w ≡ take_while class w
+pub front_all : (class : ℕ → Bool) (w : List ℕ) (k : ℕ) → k ≡ length (take_while class w) → take k w ≡ take_while class w
 front_all class w k e = ap (λ i. take i w) e ∙ fronts class w
 
-front_on : (p : Place) (w : List ℕ) (k : ℕ) (s : Known) → k ≡ length (take_while (goes_on s.mode) w) → 0 < k → run p (take k w) s ≡ Next (gone_on s (take k w))
+pub front_on : (p : Place) (w : List ℕ) (k : ℕ) (s : Known) → k ≡ length (take_while (goes_on s.mode) w) → 0 < k → run p (take k w) s ≡ Next (gone_on s (take k w))
 front_on p w k s e some =
     let is = front_all (goes_on s.mode) w k e in
     run_on p s (take k w) (let n = ap (λ (l : List ℕ). length l) is in omega arith) (subst (λ l. Each (goes_on s.mode) l) (sym is) (each_front (goes_on s.mode) w))
@@ -176,7 +177,7 @@ went p piece at k s t n m h =
 pub leads_on : (p : Place) (piece : List ℕ) (at k : ℕ) (s t : Known) (n m : ℕ) → TakesFront piece at k s t n m → run p (drop (at + k) piece) t ≡ run p (drop at piece) s
 leads_on p piece at k s t n m h = ap (λ w. run p w t) (sym (drop-drop k at piece)) ∙ run_past p (drop at piece) k s t (went p piece at k s t n m h)
 
-steady_from : (p : Place) (w : List ℕ) (s t : Known) (n m : ℕ) → run p w s ≡ Next t → IsSteady s n → s.used + length w < 2 ^ 63 → m ≡ min (n + length w) (2 ^ 64 - 1) → IsSteady t m
+pub steady_from : (p : Place) (w : List ℕ) (s t : Known) (n m : ℕ) → run p w s ≡ Next t → IsSteady s n → s.used + length w < 2 ^ 63 → m ≡ min (n + length w) (2 ^ 64 - 1) → IsSteady t m
 steady_from p w s t n m e h room looked =
     let now = run_steady p w s t n e h room in
     let used = next_used p w s t (sym e) in
@@ -193,7 +194,7 @@ stays_steady p piece at k s t n m h room steady =
     let fits : s.used + length (take k (drop at piece)) < 2 ^ 63 = let l = length-take k (drop at piece) in omega arith in
     steady_from p (take k (drop at piece)) s t n m (went p piece at k s t n m h) steady fits looked
 
-front_within : (class : ℕ → Bool) (w : List ℕ) → length (take_while class w) ≤ length w
+pub front_within : (class : ℕ → Bool) (w : List ℕ) → length (take_while class w) ≤ length w
 front_within class w = let l = length-take (prefix_len class w) w in omega arith
 
 -- They are part of the piece.
@@ -213,3 +214,11 @@ counts piece at k s t n m h =
     let e = h.counted in
     let f = front_within (goes_on s.mode) rest in
     omega arith
+
+-- Octets with which the mode goes on keep a scanner steady.
+pub going_steady : (w : List ℕ) (s t : Known) (n m : ℕ) → 0 < length w → Each (goes_on s.mode) w → t ≡ gone_on s w → s.used + length w < 2 ^ 63 → m ≡ min (n + length w) (2 ^ 64 - 1) → IsSteady s n → IsSteady t m
+going_steady w s t n m some each is room looked steady = steady_from places.Top w s t n m (run_on places.Top s w some each ∙ ap Next (sym is)) steady room looked
+
+-- They lead on.
+pub going_led : (w : List ℕ) (s t : Known) → 0 < length w → Each (goes_on s.mode) w → t ≡ gone_on s w → (p : Place) → run p w s ≡ Next t
+going_led w s t some each is p = run_on p s w some each ∙ ap Next (sym is)

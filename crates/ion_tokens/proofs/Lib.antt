@@ -2,12 +2,14 @@
 -- crate gives.
 pub mod Answered
 pub mod Begins
+pub mod Blocks
 pub mod Causes
 pub mod Cutting
 pub mod Digits
 pub mod Encodings
 pub mod EndCauses
 pub mod Ended
+pub mod EndsShown
 pub mod Escapes
 pub mod Fits
 pub mod Found
@@ -49,4 +51,5 @@ pub mod TurnsLobs
 pub mod TurnsOperators
 pub mod TurnsTexts
 pub mod TurnsWords
+pub mod WholeTokens
 pub mod Wholes

@@ -58,11 +58,11 @@ symbol_close (within.Hexadecimal _ _ _) h = absurd h
 symbol_close (within.HighSurrogate _) h = absurd h
 symbol_close (within.HighSurrogateEscape _) h = absurd h
 
-opens_quote : (p : Place) (colon : Bool) → Opens p colon (39 ∷ []) modes.Quote []
+pub opens_quote : (p : Place) (colon : Bool) → Opens p colon (39 ∷ []) modes.Quote []
 opens_quote p colon = opens_one p colon 39 modes.Quote keeps.Nothing refl
 
 -- the first octet between the quotes isn't a quote
-abbrev BeginsOther : List ℕ → Type 0
+abbrev pub BeginsOther : List ℕ → Type 0
 BeginsOther [] = Unit {0}
 BeginsOther (o ∷ os) = o ≢ 39
 
@@ -103,7 +103,7 @@ same_quote p colon start used o f (actions.Split n) = refl
 same_quote p colon start used o f actions.EndBlob = refl
 same_quote p colon start used o f (actions.Refuse e) = refl
 
-from_quote : (p : Place) (content octets : List ℕ) (v : Within) → content ≢ [] → BeginsOther content → Goes p styles.QuotedSymbol within.Plain [] content v octets → Moves p modes.Quote [] content (modes.Text styles.QuotedSymbol v) octets
+pub from_quote : (p : Place) (content octets : List ℕ) (v : Within) → content ≢ [] → BeginsOther content → Goes p styles.QuotedSymbol within.Plain [] content v octets → Moves p modes.Quote [] content (modes.Text styles.QuotedSymbol v) octets
 from_quote p [] octets v some other f = absurd (some refl)
 from_quote p (o ∷ os) octets v some other f = λ colon start used r.
     ap (λ b. follow (acts p (at modes.Quote [] colon start used) o (cond b (go modes.Quotes) (raw styles.QuotedSymbol o))) (λ t. run p (os ++ r) t)) (no_quote o other)

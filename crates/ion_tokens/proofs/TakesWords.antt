@@ -27,16 +27,16 @@ word_first p colon o h = grind (arith, nat_tests)
 word_more : (o : ℕ) → is_word_octet o ≡ true → in_word o ≡ actions.Go modes.Word (keeps.One o)
 word_more o h = ap (λ b. cond b (add modes.Word o) actions.EndWord) h
 
-word_ends : (o : ℕ) → is_word_octet o ≡ false → in_word o ≡ actions.EndWord
+pub word_ends : (o : ℕ) → is_word_octet o ≡ false → in_word o ≡ actions.EndWord
 word_ends o h = ap (λ b. cond b (add modes.Word o) actions.EndWord) h
 
-opens_word : (p : Place) (colon : Bool) (w : List ℕ) → IsWord w → Opens p colon w modes.Word w
+pub opens_word : (p : Place) (colon : Bool) (w : List ℕ) → IsWord w → Opens p colon w modes.Word w
 opens_word p colon [] h = absurd (false≢true h.0)
 opens_word p colon (o ∷ os) h = opens_then p colon (o ∷ []) os modes.Word modes.Word (o ∷ []) (o ∷ os) (opens_one p colon o modes.Word (keeps.One o) (word_first p colon o h.0))
     (moves_each p modes.Word is_word_octet os (o ∷ []) (λ s u. refl) (λ x g c. word_more x g) h.1.1)
 
 -- the octet behind isn't the dot of a typed null
-no_dot : (w : List ℕ) (x : ℕ) → (w ≡ codes "null" → (x == 46) ≡ false) → ((x == 46) && bytes_eq w (codes "null")) ≡ false
+pub no_dot : (w : List ℕ) (x : ℕ) → (w ≡ codes "null" → (x == 46) ≡ false) → ((x == 46) && bytes_eq w (codes "null")) ≡ false
 no_dot w x h = by (x == 46) (bytes_eq w (codes "null")) refl h where
   by : (b c : Bool) → bytes_eq w (codes "null") ≡ c → (w ≡ codes "null" → b ≡ false) → (b && c) ≡ false
   by false c e g = refl
@@ -83,10 +83,10 @@ number_more o h = by (is_stop o) (o == 47) h where
   by true c h = absurd (false≢true h)
   by false true h = absurd (false≢true h)
 
-number_stops : (o : ℕ) → is_stop o ≡ true → in_number o ≡ actions.Before kinds.Number keeps.Nothing modes.Blank
+pub number_stops : (o : ℕ) → is_stop o ≡ true → in_number o ≡ actions.Before kinds.Number keeps.Nothing modes.Blank
 number_stops o h = ap (λ b. cond b (before kinds.Number) (cond (o == 47) (go modes.NumberSlash) (add modes.Number o))) h
 
-digit_first : (p : Place) (colon : Bool) (o : ℕ) → is_name p ≡ false → is_digit o ≡ true → in_blank p colon o ≡ actions.Go modes.Number (keeps.One o)
+pub digit_first : (p : Place) (colon : Bool) (o : ℕ) → is_name p ≡ false → is_digit o ≡ true → in_blank p colon o ≡ actions.Go modes.Number (keeps.One o)
 digit_first p colon o n h = grind (arith, nat_tests)
 
 minus_first : (p : Place) (colon : Bool) → is_name p ≡ false → in_blank p colon 45 ≡ actions.Go (modes.Operator endings.LoneMinus) (keeps.One 45)
@@ -98,7 +98,7 @@ minus_digit p o h = rw h
 digits_move : (p : Place) (os kept : List ℕ) → Each (λ o. not (is_stop o || (o == 47))) os → Moves p modes.Number kept os modes.Number (kept ++ os)
 digits_move p os kept h = moves_each p modes.Number (λ o. not (is_stop o || (o == 47))) os kept (λ s u. refl) (λ x g c. number_more x g) h
 
-opens_number : (p : Place) (colon : Bool) (w : List ℕ) → is_name p ≡ false → begins_number w ≡ true → Each (λ o. not (is_stop o || (o == 47))) w → Opens p colon w modes.Number w
+pub opens_number : (p : Place) (colon : Bool) (w : List ℕ) → is_name p ≡ false → begins_number w ≡ true → Each (λ o. not (is_stop o || (o == 47))) w → Opens p colon w modes.Number w
 opens_number p colon [] n b h = absurd (false≢true b)
 opens_number p colon (o ∷ os) n b h = by (is_digit o) refl where
   signed : (x : ℕ) (rest : List ℕ) → x ≡ 45 → begins is_digit rest ≡ true → Each (λ o. not (is_stop o || (o == 47))) rest → Opens p colon (x ∷ rest) modes.Number (x ∷ rest)
@@ -188,13 +188,13 @@ opens_brace p colon n = opens_one p colon 123 modes.Brace keeps.Nothing (brace_f
 colon_first : (p : Place) (colon : Bool) → colon ≡ true → in_blank p colon 58 ≡ actions.Go modes.Colon keeps.Nothing
 colon_first p colon c = rw c
 
-opens_colon : (p : Place) (colon : Bool) → colon ≡ true → Opens p colon (58 ∷ []) modes.Colon []
+pub opens_colon : (p : Place) (colon : Bool) → colon ≡ true → Opens p colon (58 ∷ []) modes.Colon []
 opens_colon p colon c = opens_one p colon 58 modes.Colon keeps.Nothing (colon_first p colon c)
 
-brace_ends : (x : ℕ) → (x == 123) ≡ false → (c : Bool) (p : Place) → next p c modes.Brace x ≡ actions.Before (kinds.Mark marks.FieldsOpen) keeps.Nothing modes.Blank
+pub brace_ends : (x : ℕ) → (x == 123) ≡ false → (c : Bool) (p : Place) → next p c modes.Brace x ≡ actions.Before (kinds.Mark marks.FieldsOpen) keeps.Nothing modes.Blank
 brace_ends x h c p = rw h
 
-colon_ends : (x : ℕ) → (x == 58) ≡ false → (c : Bool) (p : Place) → next p c modes.Colon x ≡ actions.Before (kinds.Mark marks.Colon) keeps.Nothing modes.Blank
+pub colon_ends : (x : ℕ) → (x == 58) ≡ false → (c : Bool) (p : Place) → next p c modes.Colon x ≡ actions.Before (kinds.Mark marks.Colon) keeps.Nothing modes.Blank
 colon_ends x h c p = rw h
 
 pub takes_mark : (p : Place) (colon : Bool) (m : Mark) (r : List ℕ) → MarkStands p colon m → MarkEnds m r → Takes p colon (mark_spelling m) r (kinds.Mark m) []

@@ -10,9 +10,17 @@ use Rattle.ion_tokens.specs.Octets.{is_white, is_line_end, is_word_octet, is_sto
 use Rattle.ion_tokens.specs.Table.{is_long, quote_of, stands}
 use Rattle.ion_tokens.specs.Scanning.{Known, start_of}
 
--- an ASCII character that a quoted text keeps as it is, and no quote
+-- an ASCII character that a text in these quotes, long or not, keeps as it is, and no quote
+abbrev pub is_between : Bool → ℕ → ℕ → Bool
+is_between long quote o = (stands o || (long && (o == line_feed))) && not ((o == backslash) || (o == quote))
+
+-- the same of a style
 abbrev pub is_plain : Style → ℕ → Bool
-is_plain s o = (stands o || (is_long s && (o == line_feed))) && not ((o == backslash) || (o == quote_of s))
+is_plain s = is_between (is_long s) (quote_of s)
+
+-- a number goes on with it
+abbrev pub is_numeric : ℕ → Bool
+is_numeric o = not (is_stop o || (o == slash))
 
 -- the mode goes on as it is with this octet; of modes in which few such octets come in a row none is counted
 abbrev pub goes_on : Mode → ℕ → Bool
@@ -20,7 +28,7 @@ goes_on modes.Blank o = is_white o
 goes_on modes.LineComment o = not (is_line_end o)
 goes_on modes.BlockComment o = not (o == asterisk)
 goes_on modes.Word o = is_word_octet o
-goes_on modes.Number o = not (is_stop o || (o == slash))
+goes_on modes.Number o = is_numeric o
 goes_on (modes.Text s within.Plain) o = is_plain s o
 goes_on (modes.Lob lobs.Base64) o = is_base64 o
 goes_on _ o = false

@@ -16,6 +16,7 @@ pub mod Octets
 pub mod Passing
 pub mod Places
 pub mod Quoted
+pub mod Rests
 pub mod Said
 pub mod Scanned
 pub mod Scanning

@@ -1,5 +1,5 @@
 -- What a scanner in memory stands for.
-use Rattle.std.specs.Prelude.{ℕ, ◌-◌, length, Option, Some, None, if◌then◌else◌}
+use Rattle.std.specs.Prelude.{ℕ, ◌-◌, length, Option, Some, None, if◌then◌else◌, List}
 use Rattle.ion_tokens.specs.declared.machine.Machine.{Machine}
 use Rattle.ion_tokens.specs.declared.machine.Lexeme.{Lexeme as Found}
 use Rattle.ion_tokens.specs.declared.machine.Taken.{Taken}
@@ -17,6 +17,7 @@ use Rattle.ion_tokens.specs.declared.mode.Mark.TheVariants as marks
 use Rattle.ion_tokens.specs.declared.mode.TokenKind.{TokenKind}
 use Rattle.ion_tokens.specs.declared.mode.TokenKind.TheVariants as kinds
 use Rattle.ion_tokens.specs.declared.scanner.Scanner.{Scanner}
+use Rattle.ion_tokens.specs.declared.beside.TokenReader.{TokenReader}
 use Rattle.ion_tokens.specs.Bounds.{is_idle}
 use Rattle.ion_tokens.specs.Scanning.{Known, Lexeme, Outcome, Next, Given, Left, Refused}
 
@@ -37,6 +38,10 @@ outcome_in (taken.Refused r) m = Refused r.offset r.reason
 abbrev pub found_in : Option Found → Machine → Option Lexeme
 found_in None m = None
 found_in (Some l) m = Some (lexeme_in l m)
+
+-- what a reader beside a scanner keeps of the token that it found last
+abbrev pub octets_in : TokenReader → List ℕ
+octets_in t = t.machine.ended.items
 
 -- what a scanner knows between two octets
 abbrev pub scanned : Scanner → Known

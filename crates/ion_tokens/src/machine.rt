@@ -108,7 +108,7 @@ fn left_of(mode: Mode) -> u64
 }
 
 // Whether a colon may stand behind the token.
-fn takes_colon(place: Place, kind: TokenKind) -> bool
+pub(crate) fn takes_colon(place: Place, kind: TokenKind) -> bool
     ensures { result ≡ takes_colon place kind }
 {
     match kind {

@@ -1,12 +1,15 @@
 //! The scanner, to which the octets come in pieces.
-ghost use Rattle.std.specs.Prelude.{◌≡◌, ◌≢◌, ◌+◌, ◌-◌, ◌*◌, ◌≤◌, ◌<◌, ◌^◌, length, ◌++◌, [], IfOk, IfErr, IfSome, IfNone, IsNone, None, List, ℕ, true};
+ghost use Rattle.std.specs.Prelude.{◌≡◌, ◌≢◌, ◌+◌, ◌-◌, ◌*◌, ◌≤◌, ◌<◌, ◌^◌, length, ◌++◌, [], OnOk, IfOk, IfErr, IfSome, IfNone, IsNone, None, List, ℕ, true, take};
 ghost use Rattle.ion_model.specs.declared.refusal.Reason.TheVariants.{Memory};
 ghost use Rattle.ion_tokens.specs.declared.mode.Place.{Place};
-ghost use Rattle.ion_tokens.specs.Scanning.{Known, run, at_end, initial, cut, acts, feed, start_of};
+ghost use Rattle.ion_tokens.specs.Scanning.{Known, Next, run, at_end, initial, cut, acts, feed, start_of};
 ghost use Rattle.ion_tokens.specs.Bounds.{is_idle, IsSteady, StaysSteady};
 ghost use Rattle.ion_tokens.specs.Bodies.{content, IsBody};
 ghost use Rattle.ion_tokens.specs.Views.{known, lexeme_in, scanned, failure, looks, behind, form_of, begun_in, held_in, open_in, foresight};
+ghost use Rattle.ion_tokens.specs.Fronts.{goes_on};
+ghost use Rattle.ion_tokens.specs.Lexemes.{Each};
 ghost use Rattle.ion_tokens.specs.Lexed.{Placed};
+ghost use Rattle.ion_tokens.specs.Rests.{resting};
 ghost use Rattle.ion_tokens.specs.Scanned.{Scanned, Goes, RefusesAt, EndsWith, NeverEnds, EndsFor, AlwaysShows};
 ghost use Rattle.ion_tokens.specs.Traces.{Places, IsTraced, AnswersTrace, EndsTrace};
 ghost use Rattle.ion_tokens.specs.Steps.{Answers, Ends, IsToken, GivesToken, RefusesToken, IsWithin, deciding, is_step_reason};
@@ -16,6 +19,7 @@ use crate::machine::{Lexeme, Machine, Taken, start_of};
 use crate::mode::{Action, Mark, Mode, Place, Style, TokenKind};
 use crate::table::next;
 use crate::token::{Begun, Body, Foresight, Form, Scan, Token};
+use crate::whole::Rest;
 use ion_model::{Reason, Refusal};
 use std::alloc::Global;
 
@@ -268,6 +272,87 @@ impl Scanner {
         }
         let mut machine = self.machine;
         machine.finish(place)
+    }
+
+    /// Where it rests, unless a token is open or a step refused.
+    pub fn rest(&self) -> Option<Rest>
+        ensures rests { IfSome result (λ rest. scanned self.now ≡ resting rest) }
+        ensures goes_on { IfSome result (λ _. failure self.now ≡ None) }
+    {
+        let machine = &self.machine;
+        if self.failed.is_some()
+            || !matches!(machine.mode, Mode::Blank)
+            || !machine.kept.is_empty()
+        {
+            return None;
+        }
+        Some(Rest {
+            start: machine.start,
+            used: machine.used,
+            colon: machine.colon,
+        })
+    }
+
+    /// It rests there from now on, behind octets that it didn't take up itself.
+    pub fn move_to(&mut self, rest: Rest)
+        requires onward { (scanned self.old).used ≤ rest.used }
+        requires room { rest.used < 2 ^ 63 }
+        ensures rests { scanned self.new ≡ resting rest }
+        ensures failure { failure self.new ≡ failure self.old }
+        ensures steady { IsSteady (scanned self.old) (looks self.old) →
+            IsSteady (scanned self.new) (looks self.new) }
+    {
+        let machine = &mut self.machine;
+        machine.looked = machine.looked.saturating_add(rest.used - machine.used);
+        machine.kept.clear();
+        machine.mode = Mode::Blank;
+        machine.colon = rest.colon;
+        machine.start = rest.start;
+        machine.used = rest.used;
+    }
+
+    /// How many octets there are at the front of a piece with which what is open goes on as it is.
+    pub fn front(&self, piece: &[u8]) -> usize
+        ensures within { result ≤ length piece.now }
+        ensures each { Each (goes_on (scanned self.now).mode) (take result piece.now) }
+    {
+        self.machine.front(piece)
+    }
+
+    /// Takes up octets with which what is open goes on as it is, one at least. It leads where a step over them leads,
+    /// which gives no token there.
+    ///
+    /// `Memory` as in `step`.
+    #[tactic(auto, using(crate::proofs::GoesOn::going_led))]
+    pub fn go_on(&mut self, octets: &[u8]) -> Result<(), Refusal>
+        requires room { (scanned self.old).used + length octets.now < 2 ^ 63 }
+        requires some { 0 < length octets.now }
+        requires each { Each (goes_on (scanned self.old).mode) octets.now }
+        ensures ran { IsNone (failure self.old) → OnOk result ((place : Place) →
+            run place octets.now (scanned self.old) ≡ Next (scanned self.new)) }
+        ensures steady { OnOk result (IsSteady (scanned self.old) (looks self.old) →
+            IsSteady (scanned self.new) (looks self.new)) }
+        ensures memory { IsNone (failure self.old) → IfErr result (λ refusal.
+            (refusal.reason ≡ Memory) × (refusal.offset ≡ (scanned self.old).used)) }
+        ensures fails { IfErr result (λ refusal. failure self.new ≡ Some refusal) }
+        ensures goes_on { OnOk result (failure self.new ≡ None) }
+        ensures again { IfSome (failure self.old) (λ refusal. result ≡ Err refusal) }
+    {
+        if let Some(refusal) = self.failed {
+            return Err(refusal);
+        }
+        let offset = self.machine.used;
+        match self.machine.go_on(octets) {
+            Ok(()) => Ok(()),
+            Err(_) => {
+                let refusal = Refusal {
+                    offset,
+                    reason: Reason::Memory,
+                };
+                self.failed = Some(refusal);
+                Err(refusal)
+            }
+        }
     }
 
     /// How many octets were used, by all steps together.

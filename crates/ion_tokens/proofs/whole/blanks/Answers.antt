@@ -1,0 +1,5 @@
+use Rattle.ion_tokens.proofs.WholeTokens.{blank_passed}
+use Rattle.ion_tokens.proofs.whole.blanks.Goals as goal
+
+pub returns-clause-passed : goal.returns-clause-passed
+returns-clause-passed c = blank_passed c.args.octets.now c.white.result c.white.ensures

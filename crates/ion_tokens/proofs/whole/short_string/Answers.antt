@@ -1,0 +1,12 @@
+use Rattle.std.proofs.Common.{arith, ◌<◌, length}
+use Rattle.ion_tokens.specs.declared.mode.Style.TheVariants as styles
+use Rattle.ion_tokens.proofs.WholeTokens.{short_found, quoted_text}
+use Rattle.ion_tokens.proofs.whole.short_string.Goals as goal
+
+pub returns-clause-found : goal.returns-clause-found
+returns-clause-found c =
+    let some : 0 < length c.args.octets.now = grind (arith, c.is_empty.ensures, c.if-is_empty.false) in
+    short_found c.args.octets.now c.plain-count.result some c.if-octets-ne34.false c.plain-count.ensures c.if-count-content.false c.if-content-count-ne34.false
+
+pub returns-clause-text : goal.returns-clause-text
+returns-clause-text c = quoted_text styles.ShortString c.args.octets.now c.plain-count.result c.plain-count.ensures

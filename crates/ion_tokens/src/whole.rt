@@ -1,0 +1,132 @@
+//! Blanks and plain tokens that lie whole in memory, read where a scanner rests. What is cut, refused or unusual isn't told
+//! here: the scanner takes it up octet by octet.
+ghost use Rattle.std.specs.Prelude.{◌≡◌, ◌+◌, ◌-◌, ◌<◌, ◌≤◌, ◌^◌, false, true, length, take, drop, IfSome, IsUtf8};
+ghost use Rattle.ion_tokens.specs.Places.{is_name};
+ghost use Rattle.ion_tokens.specs.Rests.{past_blank, past_token, IsPassed, IsFound};
+ghost use Rattle.ion_tokens.specs.declared.mode.Place.{Place};
+
+use crate::front::{of_number, of_word, plain, white};
+use crate::machine::takes_colon;
+use crate::mode::{Place, Style, TokenKind};
+use crate::octets::{begins_word, is_digit};
+
+/// Where a scanner rests: no token is open.
+#[derive(Clone, Copy, Debug, PartialEq, Eq)]
+pub struct Rest {
+    /// Where the last token ended, or the last octet of a blank stands.
+    pub start: u64,
+    /// How many octets were used.
+    pub used: u64,
+    /// Whether a colon may stand behind the token before.
+    pub colon: bool,
+}
+
+impl Rest {
+    /// Behind so many octets of a blank.
+    pub fn past_blank(self, count: usize) -> Rest
+        requires { self.used + count < 2 ^ 63 }
+        ensures { result ≡ past_blank self count }
+    {
+        if count == 0 {
+            return self;
+        }
+        let used = self.used + count as u64;
+        Rest {
+            start: used - 1,
+            used,
+            colon: self.colon,
+        }
+    }
+
+    /// Behind a token of this kind with so many octets.
+    pub fn past_token(self, place: Place, kind: TokenKind, count: usize) -> Rest
+        requires { self.used + count < 2 ^ 63 }
+        ensures { result ≡ past_token place self kind count }
+    {
+        let used = self.used + count as u64;
+        Rest {
+            start: used,
+            used,
+            colon: takes_colon(place, kind),
+        }
+    }
+}
+
+/// How many octets of a blank without comments stand at the front.
+pub fn blanks(octets: &[u8]) -> usize
+    ensures within { result ≤ length octets.now }
+    ensures passed { IsPassed octets.now result }
+{
+    white(octets)
+}
+
+/// How many octets the word at the front has, if the octet behind it shows its end; `None` also before a dot.
+pub fn word(octets: &[u8]) -> Option<usize>
+    ensures found { IfSome result (λ count. (place : Place) (rest : Rest) →
+        IsFound place rest octets.now TokenKind.Word (take count octets.now) count true) }
+    ensures text { IfSome result (λ count. IsUtf8 (take count octets.now)) }
+{
+    if octets.is_empty() || !begins_word(octets[0]) {
+        return None;
+    }
+    let count = of_word(octets);
+    if count >= octets.len() || octets[count] == b'.' {
+        return None;
+    }
+    Some(count)
+}
+
+/// How many octets the numeric token at the front has, if the octet behind it shows its end; `None` also before a slash. No
+/// field's name stands there.
+pub fn number(octets: &[u8]) -> Option<usize>
+    ensures { IfSome result (λ count. (place : Place) (rest : Rest) → is_name place ≡ false →
+        IsFound place rest octets.now TokenKind.Number (take count octets.now) count true) }
+{
+    if octets.len() < 2 {
+        return None;
+    }
+    if !is_digit(octets[0]) && !(octets[0] == b'-' && is_digit(octets[1])) {
+        return None;
+    }
+    let count = of_number(octets);
+    if count >= octets.len() || octets[count] == b'/' {
+        return None;
+    }
+    Some(count)
+}
+
+/// How many octets the short string at the front has, quotes and all, if its characters are ASCII and stand as they are.
+pub fn short_string(octets: &[u8]) -> Option<usize>
+    ensures found { IfSome result (λ count. (place : Place) (rest : Rest) →
+        IsFound place rest octets.now TokenKind.ShortString
+        (take (count - 2) (drop 1 octets.now)) count false) }
+    ensures text { IfSome result (λ count. IsUtf8 (take (count - 2) (drop 1 octets.now))) }
+{
+    if octets.is_empty() || octets[0] != b'"' {
+        return None;
+    }
+    let content = &octets[1..];
+    let count = plain(Style::ShortString, content);
+    if count >= content.len() || content[count] != b'"' {
+        return None;
+    }
+    Some(count + 2)
+}
+
+/// The same of a quoted symbol, which isn't empty.
+pub fn quoted_symbol(octets: &[u8]) -> Option<usize>
+    ensures found { IfSome result (λ count. (place : Place) (rest : Rest) →
+        IsFound place rest octets.now TokenKind.QuotedSymbol
+        (take (count - 2) (drop 1 octets.now)) count false) }
+    ensures text { IfSome result (λ count. IsUtf8 (take (count - 2) (drop 1 octets.now))) }
+{
+    if octets.is_empty() || octets[0] != b'\'' {
+        return None;
+    }
+    let content = &octets[1..];
+    let count = plain(Style::QuotedSymbol, content);
+    if count == 0 || count >= content.len() || content[count] != b'\'' {
+        return None;
+    }
+    Some(count + 2)
+}
