@@ -1,6 +1,7 @@
 -- The octets of a value with and without annotations.
-use Rattle.std.proofs.Common.{◌≡◌, ℕ, ◌+◌, ◌<◌, ◌≤◌, List, [], ◌∷◌, ◌++◌, length, drop, get_or, refl, sym, ap, subst, ◌∙◌, arith, append_assoc, Result, Ok, Err, OnOk}
+use Rattle.std.proofs.Common.{◌≡◌, ℕ, ◌+◌, ◌<◌, ◌≤◌, List, [], ◌∷◌, ◌++◌, length, take, drop, get_or, refl, sym, ap, subst, ◌∙◌, arith, append_assoc, Result, Ok, Err, OnOk}
 use Rattle.std.proofs.Math.ListN.{drop_of_length-le}
+use Rattle.std.proofs.Math.Seq.{take-append_seam, drop-append-add}
 use Rattle.std.proofs.lemmas.List.{drop_more}
 use Rattle.std.specs.List.{flat_map}
 use Rattle.ion_model.specs.declared.value.Field.{Field}
@@ -25,8 +26,8 @@ pub octets_wrapped : (names : Names) (v : Value) → 0 < length v.annotations �
 octets_wrapped names v h = octets-out names v ∙ wrapped_some names v.annotations _ h
 
 -- the octets of what is left of a list behind one of its items
-pub octets_at : {X : Type 0} (f : X → List ℕ) (body new : List ℕ) (xs : List X) (i : ℕ) (x : X) → i < length xs → x ≡ get_or xs i x → new ≡ body ++ f x → body ++ flat_map f (drop i xs) ≡ flat_map f xs → new ++ flat_map f (drop (i + 1) xs) ≡ flat_map f xs
-octets_at f body new xs i x small is e so_far =
+pub octets_at : {X : Type 0} (f : X → List ℕ) (body new all : List ℕ) (xs : List X) (i : ℕ) (x : X) → i < length xs → x ≡ get_or xs i x → new ≡ body ++ f x → body ++ flat_map f (drop i xs) ≡ all → new ++ flat_map f (drop (i + 1) xs) ≡ all
+octets_at f body new all xs i x small is e so_far =
     ap (λ w. w ++ flat_map f (drop (i + 1) xs)) (e ∙ ap (λ y. body ++ f y) is) ∙ append_assoc body (f (get_or xs i x)) (flat_map f (drop (i + 1) xs))
     ∙ ap (λ ys. body ++ flat_map f ys) (sym (drop_more xs i x small)) ∙ so_far
 
@@ -41,3 +42,9 @@ all_items vs i past h = h (subst KeptItems (sym (drop_of_length-le vs past)) no_
 
 pub all_fields : (ms : List Field) (i : ℕ) → length ms ≤ i → (KeptFields (drop i ms) → KeptFields ms) → KeptFields ms
 all_fields ms i past h = h (subst KeptFields (sym (drop_of_length-le ms past)) no_fields)
+
+-- a body behind its place
+pub framed_at : (code place : ℕ) (old body mid new : List ℕ) → place ≡ length old → mid ≡ (old ++ 0 ∷ []) ++ body → new ≡ take place mid ++ framed code (drop (place + 1) mid) → new ≡ old ++ framed code body
+framed_at code place old body mid new at is e =
+    let whole : mid ≡ old ++ 0 ∷ body = is ∙ append_assoc old (0 ∷ []) body in
+    rw (e, whole, at, take-append_seam old (0 ∷ body), drop-append-add old (0 ∷ body) 1) refl

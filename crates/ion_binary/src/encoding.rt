@@ -10,19 +10,19 @@ ghost use Rattle.ion_binary.specs.Output.{value_octets, framed, counted, ids_oct
 ghost use Rattle.ion_binary.specs.OutputLaws.{layer_octets, field_octets};
 
 use crate::framing::{
-    put_counted, put_decimal_value, put_framed, put_id, put_null, put_symbol, put_timestamp_value,
-    put_truth, put_whole,
+    frame, insert_length, put_decimal_value, put_framed, put_id, put_null, put_symbol,
+    put_timestamp_value, put_truth, put_whole,
 };
+use crate::guesses::Guesses;
 use crate::names::Names;
 use ion_model::{Field, Payload, Symbol, Value};
 use ion_symtab::Fault;
-use std::alloc::Global;
 
 /// Appends a value whose symbols have ids.
 #[cycle(encoding)]
 pub(crate) fn put_value(
-    alloc: Global,
     names: &Names,
+    guesses: &mut Guesses,
     value: &Value,
     out: &mut Vec<u8>,
 ) -> Result<(), Fault>
@@ -32,17 +32,18 @@ pub(crate) fn put_value(
 {
     let annotations = value.annotations.as_slice();
     if annotations.is_empty() {
-        return put_payload(alloc, names, value, out);
+        return put_payload(names, guesses, value, out);
     }
-    let mut body = Vec::new(alloc);
-    put_annotations(alloc, names, annotations, &mut body)?;
-    put_payload(alloc, names, value, &mut body)?;
-    put_framed(14, &body, out)
+    let place = out.len();
+    out.push(0)?;
+    put_annotations(names, guesses, annotations, out)?;
+    put_payload(names, guesses, value, out)?;
+    frame(14, place, out)
 }
 
 fn put_annotations(
-    alloc: Global,
     names: &Names,
+    guesses: &mut Guesses,
     annotations: &[Symbol],
     out: &mut Vec<u8>,
 ) -> Result<(), Fault>
@@ -50,16 +51,21 @@ fn put_annotations(
     ensures kept { OnOk result (AreTexts annotations.now) }
     ensures memory { IsOkUnless result faults.Memory }
 {
-    let mut ids = Vec::new(alloc);
+    let place = out.len();
     for symbol in annotations {
         symbol.kept();
-        put_id(names, symbol, &mut ids)?;
+        put_id(names, guesses, symbol, out)?;
     }
-    put_counted(&ids, out)
+    insert_length(place, out.len() - place, out)
 }
 
 #[cycle(encoding)]
-fn put_payload(alloc: Global, names: &Names, value: &Value, out: &mut Vec<u8>) -> Result<(), Fault>
+fn put_payload(
+    names: &Names,
+    guesses: &mut Guesses,
+    value: &Value,
+    out: &mut Vec<u8>,
+) -> Result<(), Fault>
     ensures ok { OnOk result (out.new.items ≡ out.old.items ++ layer_octets names.now (out-Payload value.now.payload)) }
     ensures kept { OnOk result (KeptLayer (out-Payload value.now.payload)) }
     ensures memory { IsOkUnless result faults.Memory }
@@ -68,23 +74,23 @@ fn put_payload(alloc: Global, names: &Names, value: &Value, out: &mut Vec<u8>) -
     match &value.payload {
         Payload::Null(kind) => put_null(*kind, out),
         Payload::Truth(truth) => put_truth(*truth, out),
-        Payload::Int(whole) => put_whole(alloc, *whole, out),
-        Payload::Decimal(decimal) => put_decimal_value(alloc, *decimal, out),
-        Payload::Timestamp(timestamp) => put_timestamp_value(alloc, *timestamp, out),
-        Payload::Symbol(symbol) => put_symbol(alloc, names, symbol, out),
+        Payload::Int(whole) => put_whole(*whole, out),
+        Payload::Decimal(decimal) => put_decimal_value(*decimal, out),
+        Payload::Timestamp(timestamp) => put_timestamp_value(*timestamp, out),
+        Payload::Symbol(symbol) => put_symbol(names, guesses, symbol, out),
         Payload::Str(text) => put_framed(8, text.as_str().as_bytes(), out),
         Payload::Clob(octets) => put_framed(9, octets.as_slice(), out),
         Payload::Blob(octets) => put_framed(10, octets.as_slice(), out),
-        Payload::List(items) => put_items(alloc, names, 11, items.as_slice(), out),
-        Payload::Sexp(items) => put_items(alloc, names, 12, items.as_slice(), out),
-        Payload::Fields(fields) => put_fields(alloc, names, fields.as_slice(), out),
+        Payload::List(items) => put_items(names, guesses, 11, items.as_slice(), out),
+        Payload::Sexp(items) => put_items(names, guesses, 12, items.as_slice(), out),
+        Payload::Fields(fields) => put_fields(names, guesses, fields.as_slice(), out),
     }
 }
 
 #[cycle(encoding)]
 fn put_items(
-    alloc: Global,
     names: &Names,
+    guesses: &mut Guesses,
     code: u8,
     items: &[Value],
     out: &mut Vec<u8>,
@@ -94,17 +100,18 @@ fn put_items(
     ensures kept { OnOk result (KeptItems items.now) }
     ensures memory { IsOkUnless result faults.Memory }
 {
-    let mut body = Vec::new(alloc);
+    let place = out.len();
+    out.push(0)?;
     for item in items {
-        put_value(alloc, names, item, &mut body)?;
+        put_value(names, guesses, item, out)?;
     }
-    put_framed(code, &body, out)
+    frame(code, place, out)
 }
 
 #[cycle(encoding)]
 fn put_fields(
-    alloc: Global,
     names: &Names,
+    guesses: &mut Guesses,
     fields: &[Field],
     out: &mut Vec<u8>,
 ) -> Result<(), Fault>
@@ -112,11 +119,12 @@ fn put_fields(
     ensures kept { OnOk result (KeptFields fields.now) }
     ensures memory { IsOkUnless result faults.Memory }
 {
-    let mut body = Vec::new(alloc);
+    let place = out.len();
+    out.push(0)?;
     for field in fields {
         field.name.kept();
-        put_id(names, &field.name, &mut body)?;
-        put_value(alloc, names, &field.value, &mut body)?;
+        put_id(names, guesses, &field.name, out)?;
+        put_value(names, guesses, &field.value, out)?;
     }
-    put_framed(13, &body, out)
+    frame(13, place, out)
 }

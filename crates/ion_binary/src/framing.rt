@@ -1,19 +1,20 @@
 //! Octets with their descriptor and length in front, and the values that hold no others (Ion 1.0, "Ion
 //! Binary Encoding"). Each function appends to `out`, and its only fault is `Memory`, on which some of the
 //! octets may stand there.
-ghost use Rattle.std.specs.Prelude.{◌≡◌, ◌<◌, ◌≤◌, ◌*◌, ◌^◌, ◌++◌, ◌∷◌, [], OnOk, IsOkUnless};
+ghost use Rattle.std.specs.Prelude.{◌≡◌, ◌<◌, ◌≤◌, ◌*◌, ◌^◌, ◌+◌, ◌++◌, ◌∷◌, [], take, drop, vec_len, OnOk, IsOkUnless};
 ghost use Rattle.ion_symtab.specs.declared.fault.Fault.TheVariants as faults;
 ghost use Rattle.ion_scalar.specs.Spellings.{var_uint_octets, uint_octets, decimal_octets};
-ghost use Rattle.ion_binary.specs.Output.{id_of, framed, counted, null_octet, truth_octet, whole_octets};
+ghost use Rattle.ion_binary.specs.Output.{id_of, framed, null_octet, truth_octet, whole_octets};
 ghost use Rattle.ion_scalar.specs.TimestampSpellings.{timestamp_octets};
 
+use crate::guesses::Guesses;
 use crate::names::Names;
 use ion_model::{Decimal, Kind, Symbol, Timestamp, Whole};
 use ion_scalar::{put_decimal, put_timestamp, put_uint, put_var_uint};
 use ion_symtab::Fault;
-use std::alloc::Global;
 
 /// Appends a body behind the descriptor of its type code and length, which has the fewest octets.
+#[inline(never)]
 pub(crate) fn put_framed(code: u8, body: &[u8], out: &mut Vec<u8>) -> Result<(), Fault>
     requires { code < 16 }
     ensures ok { OnOk result (out.new.items ≡ out.old.items ++ framed code body.now) }
@@ -29,13 +30,37 @@ pub(crate) fn put_framed(code: u8, body: &[u8], out: &mut Vec<u8>) -> Result<(),
     Ok(())
 }
 
-/// Appends octets behind their number.
-pub(crate) fn put_counted(octets: &[u8], out: &mut Vec<u8>) -> Result<(), Fault>
-    ensures ok { OnOk result (out.new.items ≡ out.old.items ++ counted octets.now) }
+/// Makes a body of what stands behind a place: sets the descriptor of its type code and length there, and
+/// moves the body up by the octets of a longer length.
+pub(crate) fn frame(code: u8, place: usize, out: &mut Vec<u8>) -> Result<(), Fault>
+    requires code { code < 16 }
+    requires place { place < vec_len out.old }
+    ensures ok { let body = drop (place + 1) out.old.items in
+        OnOk result (out.new.items ≡ take place out.old.items ++ framed code body) }
     ensures memory { IsOkUnless result faults.Memory }
 {
-    put_length(octets.len(), out)?;
-    out.extend_from_slice(octets)?;
+    let length = out.len() - place - 1;
+    if length < 14 {
+        out[place] = code * 16 + length as u8;
+        return Ok(());
+    }
+    out[place] = code * 16 + 14;
+    insert_length(place + 1, length, out)
+}
+
+/// Puts a number before the octets from a place on.
+#[inline(never)]
+pub(crate) fn insert_length(place: usize, length: usize, out: &mut Vec<u8>) -> Result<(), Fault>
+    requires place { place ≤ vec_len out.old }
+    requires length { length < 2 ^ 63 }
+    ensures ok { let behind = drop place out.old.items in
+        OnOk result (out.new.items ≡ take place out.old.items ++ (var_uint_octets length ++ behind)) }
+    ensures memory { IsOkUnless result faults.Memory }
+{
+    let end = out.len();
+    put_length(length, out)?;
+    let count = out.len() - end;
+    out[place..].rotate_right(count);
     Ok(())
 }
 
@@ -48,11 +73,20 @@ fn put_length(length: usize, out: &mut Vec<u8>) -> Result<(), Fault>
 }
 
 /// Appends the id of a symbol as a VarUInt.
-pub(crate) fn put_id(names: &Names, symbol: &Symbol, out: &mut Vec<u8>) -> Result<(), Fault>
+pub(crate) fn put_id(
+    names: &Names,
+    guesses: &mut Guesses,
+    symbol: &Symbol,
+    out: &mut Vec<u8>,
+) -> Result<(), Fault>
     ensures ok { OnOk result (out.new.items ≡ out.old.items ++ var_uint_octets (id_of names.now symbol.now)) }
     ensures memory { IsOkUnless result faults.Memory }
 {
-    let id = names.id_of(symbol)?;
+    let id = names.id_of(guesses, symbol)?;
+    if id < 128 {
+        out.push(128 + id as u8)?;
+        return Ok(());
+    }
     put_var_uint(id, out).map_err(|_| Fault::Memory)
 }
 
@@ -95,56 +129,56 @@ pub(crate) fn put_truth(truth: bool, out: &mut Vec<u8>) -> Result<(), Fault>
 }
 
 /// Appends an int, of which the type code has the sign.
-pub(crate) fn put_whole(alloc: Global, whole: Whole, out: &mut Vec<u8>) -> Result<(), Fault>
+#[inline(never)]
+pub(crate) fn put_whole(whole: Whole, out: &mut Vec<u8>) -> Result<(), Fault>
     ensures ok { OnOk result (out.new.items ≡ out.old.items ++ whole_octets whole) }
     ensures memory { IsOkUnless result faults.Memory }
 {
     let value = whole.get();
-    let mut body = Vec::new(alloc);
-    put_uint(value.unsigned_abs(), &mut body).map_err(|_| Fault::Memory)?;
-    put_framed(if value < 0 { 3 } else { 2 }, &body, out)
+    let place = out.len();
+    out.push(0)?;
+    put_uint(value.unsigned_abs(), out).map_err(|_| Fault::Memory)?;
+    frame(if value < 0 { 3 } else { 2 }, place, out)
 }
 
 /// Appends a decimal.
-pub(crate) fn put_decimal_value(
-    alloc: Global,
-    decimal: Decimal,
-    out: &mut Vec<u8>,
-) -> Result<(), Fault>
+#[inline(never)]
+pub(crate) fn put_decimal_value(decimal: Decimal, out: &mut Vec<u8>) -> Result<(), Fault>
     ensures ok { OnOk result (out.new.items ≡ out.old.items ++ framed 5 (decimal_octets decimal)) }
     ensures memory { IsOkUnless result faults.Memory }
 {
-    let mut body = Vec::new(alloc);
-    put_decimal(decimal, &mut body).map_err(|_| Fault::Memory)?;
-    put_framed(5, &body, out)
+    let place = out.len();
+    out.push(0)?;
+    put_decimal(decimal, out).map_err(|_| Fault::Memory)?;
+    frame(5, place, out)
 }
 
 /// Appends a timestamp.
-pub(crate) fn put_timestamp_value(
-    alloc: Global,
-    timestamp: Timestamp,
-    out: &mut Vec<u8>,
-) -> Result<(), Fault>
+#[inline(never)]
+pub(crate) fn put_timestamp_value(timestamp: Timestamp, out: &mut Vec<u8>) -> Result<(), Fault>
     ensures ok { OnOk result (out.new.items ≡ out.old.items ++ framed 6 (timestamp_octets timestamp)) }
     ensures memory { IsOkUnless result faults.Memory }
 {
-    let mut body = Vec::new(alloc);
-    put_timestamp(timestamp, &mut body).map_err(|_| Fault::Memory)?;
-    put_framed(6, &body, out)
+    let place = out.len();
+    out.push(0)?;
+    put_timestamp(timestamp, out).map_err(|_| Fault::Memory)?;
+    frame(6, place, out)
 }
 
 /// Appends a symbol as a value.
+#[inline(never)]
 pub(crate) fn put_symbol(
-    alloc: Global,
     names: &Names,
+    guesses: &mut Guesses,
     symbol: &Symbol,
     out: &mut Vec<u8>,
 ) -> Result<(), Fault>
     ensures ok { OnOk result (out.new.items ≡ out.old.items ++ framed 7 (uint_octets (id_of names.now symbol.now))) }
     ensures memory { IsOkUnless result faults.Memory }
 {
-    let id = names.id_of(symbol)?;
-    let mut body = Vec::new(alloc);
-    put_uint(id as u128, &mut body).map_err(|_| Fault::Memory)?;
-    put_framed(7, &body, out)
+    let id = names.id_of(guesses, symbol)?;
+    let place = out.len();
+    out.push(0)?;
+    put_uint(id as u128, out).map_err(|_| Fault::Memory)?;
+    frame(7, place, out)
 }

@@ -4,6 +4,7 @@
 mod encoding;
 mod form;
 mod framing;
+mod guesses;
 pub mod laws;
 mod names;
 mod numbering;

@@ -1,5 +1,5 @@
 //! The ids that a writer has given to symbols (Ion 1.0, "Symbols", "Symbol IDs").
-ghost use Rattle.std.specs.Prelude.{◌≡◌, ◌<◌, ◌≤◌, ◌^◌, Some, length, map, drop, MatchResult, IfErr, IfOk, OnOk};
+ghost use Rattle.std.specs.Prelude.{◌≡◌, ◌<◌, ◌≤◌, ◌^◌, Some, true, length, map, drop, MatchResult, IfErr, IfOk, OnOk};
 ghost use Rattle.std.specs.Cmp;
 ghost use Rattle.std.specs.Cmp.Rules.{hashing};
 ghost use Rattle.std.proofs.Common.{rules};
@@ -10,6 +10,7 @@ ghost use Rattle.ion_binary.specs.Output.{system_names, id_of, with_name, with_n
 ghost use Rattle.ion_binary.specs.Writing.{IsNumberingFault};
 ghost use Rattle.ion_model.specs.EquivLaws.{symbol_same-equiv};
 
+use crate::guesses::Guesses;
 use indexmap::IndexSet;
 use ion_model::Symbol;
 use ion_symtab::Fault;
@@ -108,7 +109,7 @@ impl Names {
         let mut names = Names {
             keys: IndexSet::new(alloc),
         };
-        names.insert(key_of(&Symbol::unknown())?)?;
+        let _unknown = names.insert(key_of(&Symbol::unknown())?)?;
         names.insert_texts(alloc, &SYSTEM)?;
         Ok(names)
     }
@@ -119,7 +120,7 @@ impl Names {
     {
         for text in texts {
             let symbol = Symbol::known(alloc, text).map_err(|_| Fault::Memory)?;
-            self.insert(Key { symbol })?;
+            let _id = self.insert(Key { symbol })?;
         }
         Ok(())
     }
@@ -135,7 +136,35 @@ impl Names {
     /// Gives the symbol the next id, if it has none.
     ///
     /// `TooLarge` where that id would be above 2^31-1.
-    pub(crate) fn add(&mut self, symbol: &Symbol) -> Result<(), Fault>
+    pub(crate) fn add(&mut self, guesses: &mut Guesses, symbol: &Symbol) -> Result<(), Fault>
+        ensures ok { OnOk result (self.new ≡ with_name self.old symbol.now) }
+        ensures cause { IfErr result (IsNumberingFault (with_name self.old symbol.now)) }
+    {
+        let guess = guesses.guess();
+        if self.stands_at(guess, symbol) {
+            guesses.note(guess);
+            return Ok(());
+        }
+        let id = self.add_by_text(symbol)?;
+        guesses.note(id);
+        Ok(())
+    }
+
+    // Whether this is the symbol's id. Takes no look by its text.
+    fn stands_at(&self, id: usize, symbol: &Symbol) -> bool
+        ensures id { result ≡ true → id ≡ id_of self.now symbol.now }
+        ensures small { result ≡ true → id < 2 ^ 63 }
+        ensures named { result ≡ true → with_name self.now symbol.now ≡ self.now }
+    {
+        match self.keys.as_slice().get(id) {
+            None => false,
+            Some(key) => same(symbol, &key.symbol),
+        }
+    }
+
+    // As `add`, with a look by the text; answers the symbol's id.
+    #[inline(never)]
+    fn add_by_text(&mut self, symbol: &Symbol) -> Result<usize, Fault>
         ensures ok { OnOk result (self.new ≡ with_name self.old symbol.now) }
         ensures cause { IfErr result (IsNumberingFault (with_name self.old symbol.now)) }
     {
@@ -146,22 +175,38 @@ impl Names {
         self.insert(key)
     }
 
-    // Gives the symbol the next id, if it has none. The only fault is `Memory`.
-    fn insert(&mut self, key: Key) -> Result<(), Fault>
+    // Gives the symbol the next id, if it has none, and answers its id. The only fault is `Memory`.
+    fn insert(&mut self, key: Key) -> Result<usize, Fault>
         ensures { MatchResult result (λ _. self.new ≡ with_name self.old key) (λ f. f ≡ faults.Memory) }
     {
-        self.keys.insert(key)?;
-        Ok(())
+        let (id, _) = self.keys.insert_full(key)?;
+        Ok(id)
     }
 
     /// The id of a symbol. The only fault is `Memory`.
-    pub(crate) fn id_of(&self, symbol: &Symbol) -> Result<u64, Fault>
+    pub(crate) fn id_of(&self, guesses: &mut Guesses, symbol: &Symbol) -> Result<u64, Fault>
+        ensures id { MatchResult result (λ id. id ≡ id_of self.now symbol.now) (λ f. f ≡ faults.Memory) }
+        ensures small { IfOk result (λ id. id < 2 ^ 63) }
+    {
+        let guess = guesses.guess();
+        if self.stands_at(guess, symbol) {
+            guesses.note(guess);
+            return Ok(guess as u64);
+        }
+        let id = self.id_by_text(symbol)?;
+        guesses.note(id);
+        Ok(id as u64)
+    }
+
+    // As `id_of`, with a look by the text.
+    #[inline(never)]
+    fn id_by_text(&self, symbol: &Symbol) -> Result<usize, Fault>
         ensures id { MatchResult result (λ id. id ≡ id_of self.now symbol.now) (λ f. f ≡ faults.Memory) }
         ensures small { IfOk result (λ id. id < 2 ^ 63) }
     {
         let key = key_of(symbol)?;
         let count = self.keys.len();
-        Ok(self.keys.get_index_of(&key).unwrap_or(count) as u64)
+        Ok(self.keys.get_index_of(&key).unwrap_or(count))
     }
 
     /// The symbols from an id on, in the order of their ids.
@@ -179,5 +224,17 @@ fn key_of(symbol: &Symbol) -> Result<Key, Fault>
     match symbol.copy() {
         Err(_) => Err(Fault::Memory),
         Ok(symbol) => Ok(Key { symbol }),
+    }
+}
+
+// `Symbol::same`, without a call.
+#[inline(always)]
+fn same(symbol: &Symbol, other: &Symbol) -> bool
+    ensures { result ≡ symbol_same symbol.now other.now }
+{
+    match (symbol.text(), other.text()) {
+        (None, None) => true,
+        (Some(text), Some(other)) => text == other,
+        _ => false,
     }
 }

@@ -1,13 +1,14 @@
 //! The writer of binary documents.
-ghost use Rattle.std.specs.Prelude.{◌≡◌, ◌++◌, Some, None, Ok, Err, true, false, MatchResult, OnOk, OnErr, IfErr, IfOk};
+ghost use Rattle.std.specs.Prelude.{◌≡◌, ◌≤◌, ◌++◌, Some, None, Ok, Err, true, false, MatchResult, OnOk, OnErr, IfErr, IsOkUnless, length, drop};
 ghost use Rattle.ion_model.specs.Kept.{IsKept};
 ghost use Rattle.ion_symtab.specs.declared.fault.Fault.{Fault as AnyFault};
 ghost use Rattle.ion_symtab.specs.declared.fault.Fault.TheVariants as faults;
 ghost use Rattle.ion_symtab.specs.Took.{Took, TookFront};
-ghost use Rattle.ion_binary.specs.Output.{nothing_yet, adds, after, opening, names_after, system_names};
+ghost use Rattle.ion_binary.specs.Output.{nothing_yet, adds, after, opening, names_after, value_octets, table_value, Progress};
 ghost use Rattle.ion_binary.specs.Writing.{IsWritingFault, IsNumberingFault};
 
 use crate::encoding::put_value;
+use crate::guesses::Guesses;
 use crate::names::Names;
 use crate::numbering::number_value;
 use crate::table::table_of;
@@ -28,6 +29,9 @@ const MARKER: [u8; 4] = [0xE0, 0x01, 0x00, 0xEA];
 pub struct BinaryWriter {
     alloc: Global,
     names: Names,
+    guesses: Guesses,
+    /// The octets that were written last; those of the next value take their memory.
+    octets: Vec<u8>,
     /// Whether the marker is out.
     begun: bool,
     /// The fault that each call answers from now on.
@@ -50,6 +54,8 @@ impl BinaryWriter {
         Ok(BinaryWriter {
             alloc,
             names: Names::system(alloc)?,
+            guesses: Guesses::new(alloc),
+            octets: Vec::new(alloc),
             begun: false,
             failed: None,
         })
@@ -117,29 +123,58 @@ impl BinaryWriter {
         ensures front { OnErr result (TookFront W.took W.written out.old out.new (adds self.old.progress value.now)) }
         ensures cause { IfErr result (IsWritingFault (names_after self.old.progress.names value.now) (W.has_failed out.new)) }
     {
-        let octets = self.octets_of(value)?;
+        self.octets.clear();
+        let (names, guesses) = (&mut self.names, &mut self.guesses);
+        put_addition(
+            self.alloc,
+            names,
+            guesses,
+            self.begun,
+            value,
+            &mut self.octets,
+        )?;
         self.begun = true;
-        write_whole(out, &octets)
+        write_whole(out, &self.octets)
     }
+}
 
-    // What the value adds to the document.
-    fn octets_of(&mut self, value: &Value) -> Result<Vec<u8>, Fault>
-        ensures ok { IfOk result (λ octets. octets.items ≡ adds self.old.progress value.now) }
-        ensures after { OnOk result (self.new ≡ record { progress = record { names = names_after self.old.progress.names value.now; begun = self.old.progress.begun }; failed = self.old.failed }) }
-        ensures kept { OnOk result (IsKept value.now) }
-        ensures cause { IfErr result (IsNumberingFault (names_after self.old.progress.names value.now)) }
-    {
-        let mut octets = Vec::new(self.alloc);
-        if !self.begun {
-            octets.extend_from_slice(&MARKER)?;
-        }
-        let known = self.names.len();
-        number_value(&mut self.names, value)?;
-        if self.names.len() > known {
-            let table = table_of(self.alloc, &self.names, known)?;
-            put_value(self.alloc, &self.names, &table, &mut octets)?;
-        }
-        put_value(self.alloc, &self.names, value, &mut octets)?;
-        Ok(octets)
+// Appends what the value adds to the document.
+fn put_addition(
+    alloc: Global,
+    names: &mut Names,
+    guesses: &mut Guesses,
+    begun: bool,
+    value: &Value,
+    octets: &mut Vec<u8>,
+) -> Result<(), Fault>
+    ensures ok { let before : Progress = record { names = names.old; begun = begun } in
+        OnOk result (octets.new.items ≡ octets.old.items ++ adds before value.now) }
+    ensures after { OnOk result (names.new ≡ names_after names.old value.now) }
+    ensures kept { OnOk result (IsKept value.now) }
+    ensures cause { IfErr result (IsNumberingFault (names_after names.old value.now)) }
+{
+    if !begun {
+        octets.extend_from_slice(&MARKER)?;
     }
+    let known = names.len();
+    guesses.restart();
+    number_value(names, guesses, value)?;
+    if names.len() > known {
+        put_table(alloc, names, known, octets)?;
+    }
+    guesses.restart();
+    put_value(names, guesses, value, octets)?;
+    Ok(())
+}
+
+// Appends the table that gives the names from an id on. The only fault is `Memory`.
+#[inline(never)]
+fn put_table(alloc: Global, names: &Names, first: usize, octets: &mut Vec<u8>) -> Result<(), Fault>
+    requires { first ≤ length names.now }
+    ensures ok { let table = table_value (drop first names.now) in
+        OnOk result (octets.new.items ≡ octets.old.items ++ value_octets names.now table) }
+    ensures memory { IsOkUnless result faults.Memory }
+{
+    let table = table_of(alloc, names, first)?;
+    put_value(names, &mut Guesses::new(alloc), &table, octets)
 }

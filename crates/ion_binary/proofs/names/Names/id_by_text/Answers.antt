@@ -4,7 +4,7 @@ use Rattle.std.specs.Option.{unwrap_or}
 use Rattle.ion_model.specs.Symbols.{symbol_same}
 use Rattle.ion_binary.specs.Output.{id_of}
 use Rattle.ion_binary.proofs.Places.{place_or}
-use Rattle.ion_binary.proofs.names.Names.id_of.Goals as goal
+use Rattle.ion_binary.proofs.names.Names.id_by_text.Goals as goal
 
 pub returns-clause-id : goal.returns-clause-id
 returns-clause-id c =
