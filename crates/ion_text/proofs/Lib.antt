@@ -10,3 +10,7 @@ pub mod Endings
 pub mod Further
 pub mod Stretches
 pub mod Prefixes
+pub mod Lulls
+pub mod Passing
+pub mod Striding
+pub mod Arms

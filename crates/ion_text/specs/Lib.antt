@@ -42,6 +42,7 @@ pub mod Sizes
 pub mod Stands
 pub mod MarkerWords
 pub mod Progress
+pub mod Passing
 pub mod Lengths
 pub mod Small
 pub mod Bounded

@@ -1,5 +1,5 @@
 -- What a reader in memory stands for.
-use Rattle.std.specs.Prelude.{◌≡◌, ◌≢◌, ◌+◌, ℕ, List, [], reverse, Option, Some, None, Result, Ok, Err, IsNone, Bool, true, false}
+use Rattle.std.specs.Prelude.{◌≡◌, ◌≢◌, ◌+◌, ◌≤◌, ◌||◌, ℕ, List, [], reverse, Option, Some, None, Result, Ok, Err, IsNone, Bool, true, false}
 use Rattle.ion_model.specs.declared.value.Value.{Value}
 use Rattle.ion_model.specs.declared.refusal.Reason.{Reason}
 use Rattle.ion_model.specs.declared.refusal.Refusal.{Refusal}
@@ -15,6 +15,9 @@ use Rattle.ion_text.specs.declared.state.Met.{Met}
 use Rattle.ion_text.specs.declared.state.Met.TheVariants as met
 use Rattle.ion_tokens.specs.declared.token.Foresight.{Foresight}
 use Rattle.ion_tokens.specs.declared.token.Foresight.TheVariants as foresights
+use Rattle.ion_tokens.specs.declared.mode.Mode.{Mode}
+use Rattle.ion_tokens.specs.Ahead.{is_quoting}
+use Rattle.ion_tokens.specs.Bounds.{is_idle}
 use Rattle.ion_tokens.specs.Views.{scanned, failure}
 use Rattle.ion_tokens.specs.Scanning.{Known, Outcome, Next, Given, Left, Refused, start_of}
 use Rattle.ion_symtab.specs.declared.limits.Limits.{Limits}
@@ -168,3 +171,25 @@ IsCalm _ = ⊥
 abbrev pub base : List Frame → Symbols → ℕ → ℕ → ℕ
 base [] [] start floor = floor
 base _ _ start floor = start
+
+-- while octets come with which a mode goes on as it is, this goes on to wait, or for a mark: those of a blank or a comment, and of a
+-- further segment of a long string
+abbrev pub lulls : Now → Mode → Bool
+lulls nows.After m = is_idle m
+lulls (nows.Keyed name) m = is_idle m
+lulls (nows.Pending held end) m = is_idle m
+lulls (nows.Long text end) m = is_idle m || is_quoting m
+lulls (nows.LongName text) m = is_idle m || is_quoting m
+lulls _ m = false
+
+-- where what waits ended so far
+abbrev pub ended_so_far : Now → ℕ
+ended_so_far (nows.Pending held end) = end
+ended_so_far (nows.Long text end) = end
+ended_so_far _ = 0
+
+-- it waits over so many such octets, and the item stays within the limit
+pub record IsLull (l : Limits) (r : Reading) (s : Known) (count : ℕ) : Type 0 where
+  pub waits : lulls r.now s.mode ≡ true
+  pub ended : ended_so_far r.now ≤ r.start + l.item
+  pub room : s.used + count ≤ r.start + l.item

@@ -14,11 +14,13 @@ use std::mem;
 mod closes;
 mod ends;
 mod items;
+mod lulls;
 mod octets;
 mod steps;
 mod stretches;
 mod turns;
 mod waiting;
+mod whole;
 
 /// A reader of a text document that comes in pieces (Ion 1.0, "Ion Text Encoding").
 ///

@@ -37,9 +37,22 @@ impl TextReader<'_> {
         ensures steady { IfOk result (λ _. StaysSteady self.old self.new) }
         ensures same { SameReader self.old self.new }
     {
+        let span = self.span(piece.len());
+        if span > 1 && self.is_resting() {
+            let offset = self.scanner.used();
+            match self.take_tokens(&piece[..span]) {
+                Err(reason) => return Err(Refusal { offset, reason }),
+                Ok(count) => return self.take_behind(piece, count),
+            }
+        }
         let stride = self.stride(piece.len());
         if stride > 1 {
             return self.take_stretch(&piece[..stride]);
+        }
+        let lull = self.lull(piece);
+        if lull > 0 {
+            self.take_lull(&piece[..lull])?;
+            return Ok((lull, Taken::Uses));
         }
         let offset = self.scanner.used() + 1;
         match self.take_octet(3, piece[0]) {

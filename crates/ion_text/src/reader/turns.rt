@@ -14,7 +14,7 @@ use ion_scalar::Number;
 use ion_tokens::{Body, Mark, Token};
 use std::mem;
 
-fn number_payload(number: Number) -> Payload
+pub(super) fn number_payload(number: Number) -> Payload
     ensures { result ≡ number_payload number }
 {
     match number {

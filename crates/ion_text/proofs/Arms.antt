@@ -1,0 +1,444 @@
+-- What a token does that is taken up where the scanner rests and a container is open.
+use Rattle.std.proofs.Common.{◌≡◌, ◌≢◌, ℕ, zero, suc, ◌+◌, ◌-◌, ◌<◌, ◌≤◌, Bool, true, false, List, [], ◌∷◌, length, take, drop, get_or, Option, Some, None, Ok, Err, refl, ap, sym, ◌∙◌, subst, arith, length-drop, ◌⊎◌, inl, inr}
+use Rattle.std.specs.Prelude.{IsNone}
+use Rattle.ion_model.specs.declared.value.Value.{Value}
+use Rattle.ion_model.specs.declared.refusal.Reason.TheVariants as reasons
+use Rattle.ion_model.specs.Measures.{annotated}
+use Rattle.ion_symtab.specs.declared.limits.Limits.{Limits}
+use Rattle.ion_symtab.specs.declared.catalog.Catalog.{Catalog}
+use Rattle.ion_symtab.specs.Slots.{Slot}
+use Rattle.ion_tokens.specs.declared.mode.Place.{Place}
+use Rattle.ion_tokens.specs.declared.mode.TokenKind.{TokenKind}
+use Rattle.ion_tokens.specs.declared.scanner.Scanner.{Scanner}
+use Rattle.ion_tokens.specs.declared.whole.Rest.{Rest}
+use Rattle.ion_tokens.specs.Bounds.{IsSteady, is_idle}
+use Rattle.std.specs.Prelude.{if◌then◌else◌, ◌==◌, ◌&&◌, ◌||◌, ◌^◌, nat_lt, min, IsUtf8}
+use Rattle.std.specs.List.{list_all}
+use Rattle.std.proofs.lemmas.Bool.Decides.{nat_tests}
+use Rattle.std.proofs.lemmas.Str.{is_utf8-from_IsUtf8}
+use Rattle.ion_scalar.specs.declared.number.Number.{Number}
+use Rattle.ion_scalar.specs.Reading.{number_read}
+use Rattle.ion_tokens.specs.declared.mode.Mark.{Mark}
+use Rattle.ion_tokens.specs.declared.mode.Mark.TheVariants as marks
+use Rattle.ion_tokens.specs.declared.mode.TokenKind.TheVariants as kinds
+use Rattle.ion_tokens.specs.Octets.{is_digit}
+use Rattle.ion_tokens.specs.Bodies.{Content, Word, Short, Number', Mark', id_of, number_in}
+use Rattle.ion_tokens.specs.Said.{said, spelled, word_said, number_said}
+use Rattle.ion_tokens.proofs.WholeTokens.{comma_found, colon_found}
+use Rattle.ion_tokens.specs.Views.{scanned, looks, failure}
+use Rattle.ion_tokens.specs.Rests.{resting, past_blank, past_token, lexeme_at, before_end, IsPassed, IsFound}
+use Rattle.ion_tokens.specs.declared.mode.Place.TheVariants as places
+use Rattle.ion_tokens.specs.Ahead.{symbol_waits}
+use Rattle.ion_tokens.specs.Table.{in_blank}
+use Rattle.ion_tokens.specs.Scanning as scanning
+use Rattle.ion_tokens.specs.Scanning.{Known, Lexeme, Outcome, Next, feed, follow, acts}
+use Rattle.std.proofs.lemmas.Grind.{common_steps}
+use Rattle.std.proofs.lemmas.List.{length-take-le}
+use Rattle.ion_model.specs.declared.value.Payload.{Payload}
+use Rattle.ion_text.specs.Grammar.{is_keyword}
+use Rattle.ion_text.specs.declared.state.Held.{Held}
+use Rattle.ion_text.specs.declared.state.Frame.{Frame}
+use Rattle.ion_text.specs.declared.state.Frame.TheVariants as frames
+use Rattle.ion_text.specs.declared.state.Now.{Now}
+use Rattle.ion_text.specs.declared.state.Now.TheVariants as nows
+use Rattle.ion_text.specs.declared.reader.TextReader.{TextReader}
+use Rattle.ion_text.specs.Machine.{Reading, Turn, Symbols, goes, late, at, place, place_in, settle, turn, turn_now, begun_at, on_ready, on_after, on_comma, ended, released, paid, held_word, held_payload, keyed, named}
+use Rattle.ion_text.specs.Run.{is_top, with_scan, token_of}
+use Rattle.ion_text.specs.Runs.{Quiet}
+use Rattle.ion_text.specs.Views.{state_of, reading_of, open_frames, IsCalm, SameSetting}
+use Rattle.ion_text.specs.Passing.{ends_element, Passes, IsStill, Inside, Strides}
+use Rattle.ion_text.proofs.Passing.{passes_on, passes_blank, passes_waiting, passes_settled, passes_left, passes_given, calm_quiet, blank_quiet}
+use Rattle.ion_text.proofs.Striding.{still_settles}
+
+begun_inner : (start begin : ℕ) (fs : List Frame) (ss : Symbols) → is_top fs ≡ false → begun_at start begin fs ss ≡ start
+begun_inner start begin [] ss h = absurd cc
+begun_inner start begin (f ∷ fs) ss h = refl
+
+module _ (g : Catalog) (l : Limits) where
+  pub ready_turns : (r : Reading) (x : Lexeme) (c : Content) → r.now ≡ nows.Ready → is_top r.frames ≡ false → turn g l r (token_of x c) ≡ on_ready g l.depth l.item x.end r.start r.context r.frames r.notes c
+  ready_turns r x c now inner =
+      ap (turn_now g l x.start x.end r.start r.context r.frames r.notes c) now
+      ∙ ap (λ s. on_ready g l.depth l.item x.end s r.context r.frames r.notes c) (begun_inner r.start x.start r.frames r.notes inner)
+
+  pub after_turns : (r : Reading) (x : Lexeme) (c : Content) → r.now ≡ nows.After → turn g l r (token_of x c) ≡ on_after g l.item x.end r.start r.context r.frames c
+  after_turns r x c now = ap (turn_now g l x.start x.end r.start r.context r.frames r.notes c) now
+
+-- behind a token a container is still open, in the same item, and nothing waits
+abbrev pub StaysIn : ℕ → Reading → Type 0
+StaysIn start q = (is_top q.frames ≡ false) × (q.start ≡ start) × IsStill q.now
+
+reading_in : Turn → Reading → Reading
+reading_in (goes q) d = q
+reading_in _ d = d
+
+went : (P : Reading → Type 0) (a b : Reading) → goes a ≡ goes b → P a → P b
+unfolding reading_in
+went P a b e h = subst P (ap (λ t. reading_in t a) e) h
+
+module _ (g : Catalog) (item end start : ℕ) (c : List Slot) (q : Reading) where
+  pub ended_stays : (fs : List Frame) (v : Value) → is_top fs ≡ false → ended g item end start c fs v ≡ goes q → StaysIn start q
+  ended_stays [] v h e = absurd cc
+  ended_stays (frames.List ss vs ∷ fs) v h e = went (StaysIn start) _ q e (refl, refl, tt)
+  ended_stays (frames.Sexp ss vs ∷ fs) v h e = went (StaysIn start) _ q e (refl, refl, tt)
+  ended_stays (frames.Named ss ms name ∷ fs) v h e = went (StaysIn start) _ q e (refl, refl, tt)
+  ended_stays (frames.Fields ss ms ∷ fs) v h e = absurd cc
+
+  pub comma_stays : (fs : List Frame) → on_comma start c fs ≡ goes q → StaysIn start q
+  comma_stays [] e = absurd cc
+  comma_stays (frames.List ss vs ∷ fs) e = went (StaysIn start) _ q e (refl, refl, tt)
+  comma_stays (frames.Sexp ss vs ∷ fs) e = absurd cc
+  comma_stays (frames.Named ss ms name ∷ fs) e = absurd cc
+  comma_stays (frames.Fields ss ms ∷ fs) e = went (StaysIn start) _ q e (refl, refl, tt)
+
+-- a token of the machine, where it is found
+module _ (g : Catalog) (l : Limits) (r : Reading) (inner : is_top r.frames ≡ false) (still : settle g l r ≡ goes r) (rest : Rest) (octets : List ℕ) (kind : TokenKind) (kept : List ℕ) (n : ℕ) (c : Content) (q : Reading)
+    (says : said kind kept ≡ Ok c) (turns : turn g l r (token_of (lexeme_at rest kind kept n) c) ≡ goes q) (room : rest.used + length octets ≤ l.item + r.start) where
+  pub left_passes : IsFound (place r) rest octets kind kept n true → Quiet g l r (place r) (resting rest) (take n octets) → Passes g l (with_scan (resting rest) r) octets n (with_scan (resting (past_token (place r) rest kind n)) q)
+  left_passes f quiet =
+      let shown = f.shown in
+      passes_left g l r inner still (resting rest) f.known (resting (past_token (place r) rest kind n)) octets n (lexeme_at rest kind kept n) c q shown quiet f.ran (omega arith) says turns refl refl f.ends
+
+  pub given_passes : IsFound (place r) rest octets kind kept n false → Quiet g l r (place r) (resting rest) (take (n - 1) octets) → StaysIn r.start q → Passes g l (with_scan (resting rest) r) octets n (with_scan (resting (past_token (place r) rest kind n)) q)
+  given_passes f quiet stays =
+      let some = f.some in
+      let shown = f.shown in
+      let last : n - 1 + 1 ≡ n = omega arith in
+      let used : rest.used + n ≡ rest.used + (n - 1) + 1 = omega arith in
+      subst (λ k. Passes g l (with_scan (resting rest) r) octets k (with_scan (resting (past_token (place r) rest kind n)) q)) last
+      (passes_given g l r inner still (resting rest) f.known (resting (past_token (place r) rest kind n)) octets (n - 1) (lexeme_at rest kind kept n) c q shown quiet f.ran (omega arith) says turns refl used stays.0 stays.1 f.ends)
+
+abbrev pub with_scanner : TextReader → Scanner → TextReader
+with_scanner r s = record { alloc = r.alloc; catalog = r.catalog; limits = r.limits; scanner = s; start = r.start; context = r.context; frames = r.frames; notes = r.notes; stage = r.stage; given = r.given; awaited = r.awaited; failed = r.failed }
+
+-- a scanner that was moved there
+pub record Moved (s moved : Scanner) (rest : Rest) : Type 0 where
+  pub rests : scanned moved ≡ resting rest
+  pub failure : failure moved ≡ failure s
+  pub steady : IsSteady (scanned s) (looks s) → IsSteady (scanned moved) (looks moved)
+
+module _ (old new : TextReader) (moved : Scanner) (rest behind : Rest) (octets : List ℕ) (inside : Inside old octets) (rests : scanned old.scanner ≡ resting rest) (move : Moved old.scanner moved behind) (setting : SameSetting (with_scanner old moved) new) where
+  here : scanned new.scanner ≡ resting behind
+  here = ap scanned setting.scanner ∙ move.rests
+
+  -- what was taken up so goes there
+  pub moved_strides : (n : ℕ) → n < length octets → behind.used ≡ rest.used + n → StaysIn old.start (reading_of new) → Passes old.catalog.now old.limits (with_scan (resting rest) (reading_of old)) octets n (with_scan (resting behind) (reading_of new)) → Strides old new octets n
+  moved_strides n within counted stays passes = record {
+    within = within;
+    passes =
+        subst (λ s. Passes old.catalog.now old.limits (with_scan s (reading_of old)) octets n (state_of new)) (sym rests)
+        (subst (λ s. Passes old.catalog.now old.limits (with_scan (resting rest) (reading_of old)) octets n (with_scan s (reading_of new))) (sym here) passes);
+    used = ap (λ (s : Known). s.used) here ∙ (counted ∙ ap (λ (s : Known). s.used + n) (sym rests));
+    inner = stays.0;
+    start = stays.1;
+    rests = λ _. (stays.2, ap (λ (s : Known). s.mode) here);
+    fine = subst (λ s. IsNone s) (sym (ap failure setting.scanner ∙ move.failure)) inside.fine;
+    steady = λ h. subst (λ s. IsSteady (scanned s) (looks s)) (sym setting.scanner) (move.steady h);
+    same = record { catalog = setting.catalog; limits = setting.limits; awaited = setting.awaited; failed = setting.failed };
+  }
+
+  room : rest.used + length octets ≤ old.limits.item + old.start
+  room = subst (λ (s : Known). s.used + length octets ≤ old.limits.item + old.start) rests inside.fits
+
+  -- a token
+  module _ (kind : TokenKind) (kept : List ℕ) (n : ℕ) (left : Bool) (c : Content) (within : n < length octets) (there : behind ≡ past_token (place (reading_of old)) rest kind n) (still : IsStill old.stage) (may : IsCalm old.stage ⊎ (before_end left n ≡ 0))
+      (found : IsFound (place (reading_of old)) rest octets kind kept n left) (says : said kind kept ≡ Ok c) (turns : turn old.catalog.now old.limits (reading_of old) (token_of (lexeme_at rest kind kept n) c) ≡ goes (reading_of new)) (stays : StaysIn old.start (reading_of new)) where
+    quiet : (k : ℕ) → k ≤ n → IsCalm old.stage ⊎ (k ≡ 0) → Quiet old.catalog.now old.limits (reading_of old) (place (reading_of old)) (resting rest) (take k octets)
+    quiet k few (inl calm) = let r = room in calm_quiet old.catalog.now old.limits (reading_of old) inside.inner calm (resting rest) refl octets k (omega arith) (omega arith)
+    quiet k few (inr none) = subst (λ j. Quiet old.catalog.now old.limits (reading_of old) (place (reading_of old)) (resting rest) (take j octets)) (sym none) tt
+
+    by : (b : Bool) → IsFound (place (reading_of old)) rest octets kind kept n b → IsCalm old.stage ⊎ (before_end b n ≡ 0) → Passes old.catalog.now old.limits (with_scan (resting rest) (reading_of old)) octets n (with_scan (resting (past_token (place (reading_of old)) rest kind n)) (reading_of new))
+    by true f m = left_passes old.catalog.now old.limits (reading_of old) inside.inner (still_settles old.catalog.now old.limits (reading_of old) still) rest octets kind kept n c (reading_of new) says turns room f (quiet n (omega arith) m)
+    by false f m = given_passes old.catalog.now old.limits (reading_of old) inside.inner (still_settles old.catalog.now old.limits (reading_of old) still) rest octets kind kept n c (reading_of new) says turns room f (quiet (n - 1) (omega arith) m) stays
+
+    pub token_strides : Strides old new octets n
+    token_strides =
+        moved_strides n within (ap (λ (k : Rest). k.used) there) stays
+        (subst (λ (k : Rest). Passes old.catalog.now old.limits (with_scan (resting rest) (reading_of old)) octets n (with_scan (resting k) (reading_of new))) (sym there) (by left found may))
+
+pub mark_says : (m : Mark) → said (kinds.Mark m) [] ≡ Ok (Mark' m)
+unfolding said
+mark_says m = refl
+
+pub number_says : (octets : List ℕ) (n : Number) → Ok n ≡ number_read octets → said kinds.Number octets ≡ Ok (Number' n)
+unfolding said
+number_says octets n e = ap number_said (sym e)
+
+spelled_utf8 : (c : Content) (octets : List ℕ) → IsUtf8 octets → spelled c octets ≡ Ok c
+spelled_utf8 c octets h = ap (λ b. if b then Ok c else Err reasons.BadUtf8) (is_utf8-from_IsUtf8 octets h)
+
+pub short_says : (octets : List ℕ) → IsUtf8 octets → said kinds.ShortString octets ≡ Ok (Short octets)
+unfolding said
+short_says octets h = spelled_utf8 (Short octets) octets h
+
+no_id : (octets : List ℕ) → get_or octets 0 0 ≢ 36 → id_of octets ≡ None
+no_id [] h = refl
+no_id (o ∷ os) h = ap (λ b. if b && nat_lt 0 (length os) && list_all is_digit os then Some (min (number_in 0 os) (2 ^ 64 - 1)) else None) (differs o h)
+  where
+    differs : (o : ℕ) → o ≢ 36 → (o == 36) ≡ false
+    differs o h = grind (arith, nat_tests)
+
+pub word_says : (octets : List ℕ) → IsUtf8 octets → get_or octets 0 0 ≢ 36 → said kinds.Word octets ≡ Ok (Word octets)
+unfolding said
+word_says octets h first = ap (word_said octets) (no_id octets first) ∙ spelled_utf8 (Word octets) octets h
+
+first_of : (n : ℕ) (w : List ℕ) → 0 < n → get_or (take n w) 0 0 ≡ get_or w 0 0
+first_of n w h = grind (arith, common_steps)
+
+pub blank_used : (r : Rest) (n : ℕ) → (past_blank r n).used ≡ r.used + n
+blank_used r n = by (n == 0) refl
+  where
+    by : (b : Bool) → (n == 0) ≡ b → (if b then r else record { start = r.used + (n - 1); used = r.used + n; colon = r.colon }).used ≡ r.used + n
+    by true e = let z : n ≡ 0 = is_zero n e in omega arith
+      where
+        is_zero : (n : ℕ) → (n == 0) ≡ true → n ≡ 0
+        is_zero n e = grind (arith, nat_tests)
+    by false e = refl
+
+blank_colon : (r : Rest) (n : ℕ) → (past_blank r n).colon ≡ r.colon
+blank_colon r n = by (n == 0)
+  where
+    by : (b : Bool) → (if b then r else record { start = r.used + (n - 1); used = r.used + n; colon = r.colon }).colon ≡ r.colon
+    by true = refl
+    by false = refl
+
+-- a blank
+pub blank_strides : (old : TextReader) (moved : Scanner) (rest behind : Rest) (octets : List ℕ) (n : ℕ) → Inside old octets → scanned old.scanner ≡ resting rest → behind ≡ past_blank rest n → Moved old.scanner moved behind → IsStill old.stage → n < length octets → IsPassed octets n
+    → Strides old (with_scanner old moved) octets n
+blank_strides old moved rest behind octets n inside rests there move still within passed =
+    let fits = room old (with_scanner old moved) moved rest behind octets inside rests move same in
+    moved_strides old (with_scanner old moved) moved rest behind octets inside rests move same n within (ap (λ (k : Rest). k.used) there ∙ blank_used rest n) (inside.inner, refl, still)
+    (subst (λ (k : Rest). Passes old.catalog.now old.limits (with_scan (resting rest) (reading_of old)) octets n (with_scan (resting k) (reading_of old))) (sym there)
+    (passes_blank old.catalog.now old.limits (reading_of old) inside.inner (resting rest) (resting (past_blank rest n)) octets n (omega arith) refl refl (passed (place (reading_of old)) rest) (omega arith) (still_settles old.catalog.now old.limits (reading_of old) still)))
+  where
+    same : SameSetting (with_scanner old moved) (with_scanner old moved)
+    same = record { catalog = refl; limits = refl; scanner = refl; awaited = refl; failed = refl }
+
+-- a value that is a token
+pub value_strides : (old new : TextReader) (moved : Scanner) (rest behind : Rest) (octets : List ℕ) (kind : TokenKind) (kept : List ℕ) (n : ℕ) (left : Bool) (c : Content) (v : Value) → Inside old octets → scanned old.scanner ≡ resting rest → Moved old.scanner moved behind → SameSetting (with_scanner old moved) new
+    → n < length octets → behind ≡ past_token (place (reading_of old)) rest kind n → old.stage ≡ nows.Ready → IsFound (place (reading_of old)) rest octets kind kept n left → said kind kept ≡ Ok c
+    → on_ready old.catalog.now old.limits.depth old.limits.item (rest.used + n) old.start old.context (open_frames old) old.notes c ≡ ended old.catalog.now old.limits.item (rest.used + n) old.start old.context (open_frames old) v
+    → ended old.catalog.now old.limits.item (rest.used + n) old.start old.context (open_frames old) v ≡ goes (reading_of new) → Strides old new octets n
+value_strides old new moved rest behind octets kind kept n left c v inside rests move setting within there now found says same does =
+    token_strides old new moved rest behind octets inside rests move setting kind kept n left c within there (subst IsStill (sym now) tt) (inl (subst IsCalm (sym now) tt)) found says
+    (ready_turns old.catalog.now old.limits (reading_of old) (lexeme_at rest kind kept n) c now inside.inner ∙ (same ∙ does))
+    (ended_stays old.catalog.now old.limits.item (rest.used + n) old.start old.context (reading_of new) (open_frames old) v inside.inner does)
+
+pub comma_strides : (old new : TextReader) (moved : Scanner) (rest behind : Rest) (octets : List ℕ) → Inside old octets → scanned old.scanner ≡ resting rest → Moved old.scanner moved behind → SameSetting (with_scanner old moved) new
+    → 1 < length octets → get_or octets 0 0 ≡ 44 → behind ≡ past_token (place (reading_of old)) rest (kinds.Mark marks.Comma) 1 → old.stage ≡ nows.After → on_comma old.start old.context (open_frames old) ≡ goes (reading_of new) → Strides old new octets 1
+comma_strides old new moved rest behind octets inside rests move setting within first there now does =
+    token_strides old new moved rest behind octets inside rests move setting (kinds.Mark marks.Comma) [] 1 false (Mark' marks.Comma) within there (subst IsStill (sym now) tt) (inr refl)
+    (comma_found (place (reading_of old)) rest octets (omega arith) first) (mark_says marks.Comma)
+    (after_turns old.catalog.now old.limits (reading_of old) (lexeme_at rest (kinds.Mark marks.Comma) [] 1) (Mark' marks.Comma) now ∙ does)
+    (comma_stays old.catalog.now old.limits.item 0 old.start old.context (reading_of new) (open_frames old) does)
+
+-- a word as a value, and the octet that shows that it is none before `::`
+
+is_it : (o k : ℕ) → (o == k) ≡ true → o ≡ k
+is_it o k h = grind (arith, nat_tests)
+
+ends_waits : (p : Place) (r : Rest) (o : ℕ) → ends_element o ≡ true → symbol_waits (feed p (resting r) o) ≡ false
+ends_waits p r o h = first (o == 44) refl (o == 93) refl (o == 125) refl (o == 41) refl h
+  where
+    close : (q : Place) → symbol_waits (feed q (resting r) 93) ≡ false
+    close places.Top = refl
+    close places.List = refl
+    close places.Sexp = refl
+    close places.FieldValue = refl
+    close places.Name = refl
+
+    round : (q : Place) → symbol_waits (feed q (resting r) 41) ≡ false
+    round places.Top = refl
+    round places.List = refl
+    round places.Sexp = refl
+    round places.FieldValue = refl
+    round places.Name = refl
+
+    first : (a : Bool) → (o == 44) ≡ a → (b : Bool) → (o == 93) ≡ b → (c : Bool) → (o == 125) ≡ c → (d : Bool) → (o == 41) ≡ d → ((a || b) || (c || d)) ≡ true → symbol_waits (feed p (resting r) o) ≡ false
+    first true e b f c i d j h = subst (λ k. symbol_waits (feed p (resting r) k) ≡ false) (sym (is_it o 44 e)) refl
+    first false e true f c i d j h = subst (λ k. symbol_waits (feed p (resting r) k) ≡ false) (sym (is_it o 93 f)) (close p)
+    first false e false f true i d j h = subst (λ k. symbol_waits (feed p (resting r) k) ≡ false) (sym (is_it o 125 i)) refl
+    first false e false f false i true j h = subst (λ k. symbol_waits (feed p (resting r) k) ≡ false) (sym (is_it o 41 j)) (round p)
+    first false e false f false i false j h = absurd cc
+
+module _ (g : Catalog) (item end start : ℕ) (c : List Slot) (q : Reading) where
+  ended_place : (fs : List Frame) (v : Value) → is_top fs ≡ false → ended g item end start c fs v ≡ goes q → place q ≡ place_in fs nows.Ready
+  ended_place [] v h e = absurd cc
+  ended_place (frames.List ss vs ∷ fs) v h e = went (λ x. place x ≡ places.List) _ q e refl
+  ended_place (frames.Sexp ss vs ∷ fs) v h e = went (λ x. place x ≡ places.Sexp) _ q e refl
+  ended_place (frames.Named ss ms name ∷ fs) v h e = went (λ x. place x ≡ places.FieldValue) _ q e refl
+  ended_place (frames.Fields ss ms ∷ fs) v h e = absurd cc
+
+  pub named_stays : (fs : List Frame) (s : Option (List ℕ)) → named start c fs s ≡ goes q → StaysIn start q
+  named_stays [] s e = absurd cc
+  named_stays (frames.List ss vs ∷ fs) s e = absurd cc
+  named_stays (frames.Sexp ss vs ∷ fs) s e = absurd cc
+  named_stays (frames.Named ss ms name ∷ fs) s e = absurd cc
+  named_stays (frames.Fields ss ms ∷ fs) s e = went (StaysIn start) _ q e (refl, refl, tt)
+
+released_inner : (g : Catalog) (item end start : ℕ) (c : List Slot) (fs : List Frame) (ss : Symbols) (h : Held) → is_top fs ≡ false → released g item end start c fs ss h ≡ paid g item end start c fs ss (held_payload h)
+released_inner g item end start c [] ss h e = absurd cc
+released_inner g item end start c (f ∷ fs) ss h e = refl
+
+same_place : (fs : List Frame) (n m : Now) → (n ≡ nows.Ready) → (h : Held) (e : ℕ) → m ≡ nows.Pending h e → place_in fs m ≡ place_in fs nows.Ready
+same_place fs n m a h e i = ap (place_in fs) i ∙ by fs
+  where
+    by : (fs : List Frame) → place_in fs (nows.Pending h e) ≡ place_in fs nows.Ready
+    by [] = refl
+    by (frames.List ss vs ∷ fs) = refl
+    by (frames.Sexp ss vs ∷ fs) = refl
+    by (frames.Named ss ms name ∷ fs) = refl
+    by (frames.Fields ss ms ∷ fs) = refl
+
+name_place : (fs : List Frame) (s : Option (List ℕ)) → place_in fs (nows.Keyed s) ≡ place_in fs nows.Name
+name_place [] s = refl
+name_place (frames.List ss vs ∷ fs) s = refl
+name_place (frames.Sexp ss vs ∷ fs) s = refl
+name_place (frames.Named ss ms name ∷ fs) s = refl
+name_place (frames.Fields ss ms ∷ fs) s = refl
+
+drop_more : (a b : ℕ) (w : List ℕ) → drop b (drop a w) ≡ drop (a + b) w
+drop_more a b w = grind (arith, common_steps)
+
+at_drop : (k : ℕ) (w : List ℕ) → get_or (drop k w) 0 0 ≡ get_or w k 0
+at_drop zero w = refl
+at_drop (suc k) [] = refl
+at_drop (suc k) (x ∷ w) = at_drop k w
+
+module _ (g : Catalog) (l : Limits) (r : Reading) (inner : is_top r.frames ≡ false) (rest : Rest) (octets : List ℕ) (n m : ℕ) (room : rest.used + length octets ≤ l.item + r.start) (within : n + m < length octets)
+    (found : IsFound (place r) rest octets kinds.Word (take n octets) n true) (says : said kinds.Word (take n octets) ≡ Ok (Word (take n octets))) (passed : IsPassed (drop n octets) m) where
+  abbrev behind_word : Rest
+  behind_word = past_token (place r) rest kinds.Word n
+
+  abbrev behind_blank : Rest
+  behind_blank = past_blank behind_word m
+
+  size : length (drop n octets) ≡ length octets - n
+  size = length-drop n octets
+
+  -- where a value may come
+  module _ (now : r.now ≡ nows.Ready) (q : Reading) (payload : Payload) (pays : held_payload (held_word (take n octets)) ≡ Ok payload) (does : ended g l.item (rest.used + n) r.start r.context r.frames (annotated r.notes payload) ≡ goes q) (ends : ends_element (get_or octets (n + m) 0) ≡ true) where
+    abbrev held : Held
+    held = held_word (take n octets)
+
+    abbrev waiting : Reading
+    waiting = at r.start r.context r.frames r.notes (nows.Pending held (rest.used + n))
+
+    stays : StaysIn r.start q
+    stays = ended_stays g l.item (rest.used + n) r.start r.context q r.frames (annotated r.notes payload) inner does
+
+    waits_there : place waiting ≡ place r
+    waits_there = same_place r.frames nows.Ready waiting.now refl held (rest.used + n) refl ∙ ap (place_in r.frames) (sym now)
+
+    is_word : Passes g l (with_scan (resting rest) r) octets n (with_scan (resting behind_word) waiting)
+    is_word =
+        left_passes g l r inner (still_settles g l r (subst IsStill (sym now) tt)) rest octets kinds.Word (take n octets) n (Word (take n octets)) waiting says
+        (ready_turns g l r (lexeme_at rest kinds.Word (take n octets) n) (Word (take n octets)) now inner) room found
+        (calm_quiet g l r inner (subst IsCalm (sym now) tt) (resting rest) refl octets n (omega arith) (omega arith))
+
+    is_blank : Passes g l (with_scan (resting behind_word) waiting) (drop n octets) m (with_scan (resting behind_blank) waiting)
+    is_blank =
+        let some = size in
+        passes_waiting g l waiting inner (resting behind_word) (resting behind_blank) (drop n octets) m (omega arith) refl refl (passed (place waiting) behind_word) (omega arith) held (rest.used + n) refl
+
+    settles : settle g l waiting ≡ goes q
+    settles = released_inner g l.item (rest.used + n) r.start r.context r.frames r.notes held inner ∙ (ap (paid g l.item (rest.used + n) r.start r.context r.frames r.notes) pays ∙ does)
+
+    is_settled : Passes g l (with_scan (resting behind_blank) waiting) (drop (n + m) octets) 0 (with_scan (resting behind_blank) q)
+    is_settled =
+        let some : length (drop (n + m) octets) ≡ length octets - (n + m) = length-drop (n + m) octets in
+        passes_settled g l waiting inner (resting behind_blank) held (rest.used + n) (drop (n + m) octets) q (omega arith) refl
+        (ends_waits (place waiting) behind_blank (get_or (drop (n + m) octets) 0 0) (ap ends_element (at_drop (n + m) octets) ∙ ends)) settles (still_settles g l q stays.2)
+        (ended_place g l.item (rest.used + n) r.start r.context q r.frames (annotated r.notes payload) inner does ∙ (ap (place_in r.frames) (sym now) ∙ sym waits_there))
+
+    pub word_passes : Passes g l (with_scan (resting rest) r) octets (n + m) (with_scan (resting behind_blank) q)
+    word_passes =
+        let none : n + m + 0 ≡ n + m = omega arith in
+        subst (λ k. Passes g l (with_scan (resting rest) r) octets k (with_scan (resting behind_blank) q)) none
+        (passes_on g l (with_scan (resting rest) r) (with_scan (resting behind_blank) waiting) (with_scan (resting behind_blank) q) octets (n + m) 0
+        (passes_on g l (with_scan (resting rest) r) (with_scan (resting behind_word) waiting) (with_scan (resting behind_blank) waiting) octets n m is_word is_blank) is_settled)
+
+  -- where a field's name may come, and its colon
+  module _ (now : r.now ≡ nows.Name) (q : Reading) (more : n + m + 1 < length octets) (free : is_keyword (take n octets) ≡ false) (colon : get_or octets (n + m) 0 ≡ 58) (one : get_or octets (n + m + 1) 0 ≢ 58) (does : named r.start r.context r.frames (Some (take n octets)) ≡ goes q) where
+    abbrev with_name : Reading
+    with_name = keyed r.start r.context r.frames (Some (take n octets))
+
+    abbrev behind_colon : Rest
+    behind_colon = past_token (place r) behind_blank (kinds.Mark marks.Colon) 1
+
+    name_there : place with_name ≡ place r
+    name_there = name_place r.frames (Some (take n octets)) ∙ ap (place_in r.frames) (sym now)
+
+    is_name_word : Passes g l (with_scan (resting rest) r) octets n (with_scan (resting behind_word) with_name)
+    is_name_word =
+        left_passes g l r inner (still_settles g l r (subst IsStill (sym now) tt)) rest octets kinds.Word (take n octets) n (Word (take n octets)) with_name says
+        (ap (turn_now g l rest.used (rest.used + n) r.start r.context r.frames r.notes (Word (take n octets))) now ∙ ap (λ b. if b then late reasons.KeywordAsName with_name else goes with_name) free) room found
+        (calm_quiet g l r inner (subst IsCalm (sym now) tt) (resting rest) refl octets n (omega arith) (omega arith))
+
+    is_name_blank : Passes g l (with_scan (resting behind_word) with_name) (drop n octets) m (with_scan (resting behind_blank) with_name)
+    is_name_blank =
+        let some = size in
+        passes_blank g l with_name inner (resting behind_word) (resting behind_blank) (drop n octets) m (omega arith) refl refl (passed (place with_name) behind_word) (omega arith) refl
+
+    may_colon : behind_blank.colon ≡ true
+    may_colon = blank_colon behind_word m
+
+    colon_idle : (k : Known) → scanning.run (place with_name) (take 1 (drop (n + m) octets)) (resting behind_blank) ≡ Next k → is_idle k.mode ≡ true
+    colon_idle k e = ap idle_in (sym e) ∙ by (drop (n + m) octets) (at_drop (n + m) octets ∙ colon)
+      where
+        idle_in : Outcome → Bool
+        idle_in (Next k) = is_idle k.mode
+        idle_in _ = true
+
+        by : (os : List ℕ) → get_or os 0 0 ≡ 58 → idle_in (scanning.run (place with_name) (take 1 os) (resting behind_blank)) ≡ true
+        by [] h = refl
+        by (o ∷ os) h =
+            ap (λ x. idle_in (follow (acts (place with_name) (resting behind_blank) x (in_blank (place with_name) behind_blank.colon x)) (λ s. Next s))) h
+            ∙ ap (λ b. idle_in (follow (acts (place with_name) (resting behind_blank) 58 (in_blank (place with_name) b 58)) (λ s. Next s))) may_colon
+
+    is_colon : Passes g l (with_scan (resting behind_blank) with_name) (drop (n + m) octets) 1 (with_scan (resting behind_colon) q)
+    is_colon =
+        let some : length (drop (n + m) octets) ≡ length octets - (n + m) = length-drop (n + m) octets in
+        let used = blank_used behind_word m in
+        let f = colon_found (place with_name) behind_blank (drop (n + m) octets) may_colon (omega arith) (at_drop (n + m) octets ∙ colon) (λ e. one (sym (next_at (n + m) octets) ∙ e)) in
+        subst (λ p. Passes g l (with_scan (resting behind_blank) with_name) (drop (n + m) octets) 1 (with_scan (resting (past_token p behind_blank (kinds.Mark marks.Colon) 1)) q)) name_there
+        (left_passes g l with_name inner refl behind_blank (drop (n + m) octets) (kinds.Mark marks.Colon) [] 1 (Mark' marks.Colon) q (mark_says marks.Colon) does (omega arith) f
+        (blank_quiet g l with_name inner (place with_name) (take 1 (drop (n + m) octets)) (resting behind_blank) f.known refl (colon_idle f.known f.ran) f.ran (let few = length-take-le 1 (drop (n + m) octets) (omega arith) in omega arith)))
+      where
+        next_at : (k : ℕ) (w : List ℕ) → get_or (drop k w) 1 0 ≡ get_or w (k + 1) 0
+        next_at k w = grind (arith, common_steps)
+
+    pub name_passes : Passes g l (with_scan (resting rest) r) octets (n + m + 1) (with_scan (resting behind_colon) q)
+    name_passes =
+        passes_on g l (with_scan (resting rest) r) (with_scan (resting behind_blank) with_name) (with_scan (resting behind_colon) q) octets (n + m) 1
+        (passes_on g l (with_scan (resting rest) r) (with_scan (resting behind_word) with_name) (with_scan (resting behind_blank) with_name) octets n m is_name_word is_name_blank) is_colon
+
+pub word_strides : (old new : TextReader) (moved : Scanner) (rest behind : Rest) (octets : List ℕ) (n m : ℕ) (payload : Payload) (inside : Inside old octets) → scanned old.scanner ≡ resting rest → Moved old.scanner moved behind → SameSetting (with_scanner old moved) new
+    → n + m < length octets → behind ≡ past_blank (past_token (place (reading_of old)) rest kinds.Word n) m → old.stage ≡ nows.Ready → IsFound (place (reading_of old)) rest octets kinds.Word (take n octets) n true → IsUtf8 (take n octets) → get_or octets 0 0 ≢ 36 → IsPassed (drop n octets) m
+    → held_payload (held_word (take n octets)) ≡ Ok payload → ends_element (get_or octets (n + m) 0) ≡ true → ended old.catalog.now old.limits.item (rest.used + n) old.start old.context (open_frames old) (annotated old.notes payload) ≡ goes (reading_of new) → Strides old new octets (n + m)
+word_strides old new moved rest behind octets n m payload inside rests move setting within there now found text first passed pays ends does =
+    let some = found.some in
+    let says = word_says (take n octets) text (λ e. first (sym (first_of n octets some) ∙ e)) in
+    let fits = room old new moved rest behind octets inside rests move setting in
+    moved_strides old new moved rest behind octets inside rests move setting (n + m) within (ap (λ (k : Rest). k.used) there ∙ (blank_used (past_token (place (reading_of old)) rest kinds.Word n) m ∙ total rest.used n m))
+    (ended_stays old.catalog.now old.limits.item (rest.used + n) old.start old.context (reading_of new) (open_frames old) (annotated old.notes payload) inside.inner does)
+    (subst (λ (k : Rest). Passes old.catalog.now old.limits (with_scan (resting rest) (reading_of old)) octets (n + m) (with_scan (resting k) (reading_of new))) (sym there)
+    (word_passes old.catalog.now old.limits (reading_of old) inside.inner rest octets n m fits within found says passed now (reading_of new) payload pays does ends))
+  where
+    total : (a b c : ℕ) → a + b + c ≡ a + (b + c)
+    total a b c = omega arith
+
+pub name_strides : (old new : TextReader) (moved : Scanner) (rest behind : Rest) (octets : List ℕ) (n m : ℕ) (inside : Inside old octets) → scanned old.scanner ≡ resting rest → Moved old.scanner moved behind → SameSetting (with_scanner old moved) new
+    → n + m + 1 < length octets → behind ≡ past_token (place (reading_of old)) (past_blank (past_token (place (reading_of old)) rest kinds.Word n) m) (kinds.Mark marks.Colon) 1 → old.stage ≡ nows.Name → IsFound (place (reading_of old)) rest octets kinds.Word (take n octets) n true
+    → IsUtf8 (take n octets) → get_or octets 0 0 ≢ 36 → IsPassed (drop n octets) m → is_keyword (take n octets) ≡ false → get_or octets (n + m) 0 ≡ 58 → get_or octets (n + m + 1) 0 ≢ 58 → named old.start old.context (open_frames old) (Some (take n octets)) ≡ goes (reading_of new)
+    → Strides old new octets (n + m + 1)
+name_strides old new moved rest behind octets n m inside rests move setting within there now found text first passed free colon one does =
+    let some = found.some in
+    let says = word_says (take n octets) text (λ e. first (sym (first_of n octets some) ∙ e)) in
+    let fits = room old new moved rest behind octets inside rests move setting in
+    moved_strides old new moved rest behind octets inside rests move setting (n + m + 1) within (ap (λ (k : Rest). k.used) there ∙ (ap (λ k. k + 1) (blank_used (past_token (place (reading_of old)) rest kinds.Word n) m) ∙ total rest.used n m))
+    (named_stays old.catalog.now old.limits.item 0 old.start old.context (reading_of new) (open_frames old) (Some (take n octets)) does)
+    (subst (λ (k : Rest). Passes old.catalog.now old.limits (with_scan (resting rest) (reading_of old)) octets (n + m + 1) (with_scan (resting k) (reading_of new))) (sym there)
+    (name_passes old.catalog.now old.limits (reading_of old) inside.inner rest octets n m fits (omega arith) found says passed now (reading_of new) within free colon one does))
+  where
+    total : (a b c : ℕ) → a + b + c + 1 ≡ a + (b + c + 1)
+    total a b c = omega arith

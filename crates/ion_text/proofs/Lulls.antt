@@ -1,0 +1,119 @@
+-- Octets over which what waits goes on to wait.
+use Rattle.std.proofs.Common.{◌≡◌, ℕ, ◌+◌, ◌-◌, ◌≤◌, Bool, true, false, List, [], ◌∷◌, length, Option, Some, None, refl, ap, sym, ◌∙◌, subst, arith, ◌⊎◌, inl, inr}
+use Rattle.std.specs.Prelude.{◌==◌, ◌&&◌, not, nat_le, if◌then◌else◌}
+use Rattle.std.proofs.lemmas.Bool.Decides.{nat_tests}
+use Rattle.ion_model.specs.declared.refusal.Reason.TheVariants as reasons
+use Rattle.ion_symtab.specs.declared.limits.Limits.{Limits}
+use Rattle.ion_symtab.specs.declared.catalog.Catalog.{Catalog}
+use Rattle.ion_tokens.specs.declared.mode.Place.{Place}
+use Rattle.ion_tokens.specs.declared.mode.Mode.{Mode}
+use Rattle.ion_tokens.specs.declared.token.Begun.{Begun}
+use Rattle.ion_tokens.specs.Ahead.{is_long_form, AtEach, OnNext}
+use Rattle.ion_tokens.specs.Bounds.{is_idle}
+use Rattle.ion_tokens.specs.Fronts.{goes_on, gone_on}
+use Rattle.ion_tokens.specs.Lexemes.{Each}
+use Rattle.ion_tokens.specs.Scanning as scanning
+use Rattle.ion_tokens.specs.Scanning.{Known, Outcome, Next, feed}
+use Rattle.ion_tokens.specs.Views.{begun_in, behind, form_of}
+use Rattle.ion_tokens.proofs.Runs.{next_used}
+use Rattle.ion_tokens.proofs.GoesOn.{one_on}
+use Rattle.ion_text.specs.declared.state.Frame.{Frame}
+use Rattle.ion_text.specs.declared.state.Now.{Now}
+use Rattle.ion_text.specs.declared.state.Now.TheVariants as nows
+use Rattle.ion_symtab.specs.Slots.{Slot}
+use Rattle.ion_text.specs.Machine.{Reading, Symbols, goes, at, place, settle, settled}
+use Rattle.ion_text.specs.Run.{uses, fails, noticed, shut, reaches, longest_top, is_long_begun, with_scan, waits, waits_now, is_top, run}
+use Rattle.ion_text.specs.Runs.{led, Quiet, Stays, Waiting, drive}
+use Rattle.ion_text.specs.Views.{lulls, ended_so_far, IsLull}
+
+-- no token has begun that may not
+open_mode : (n : Now) (m : Mode) → lulls n m ≡ true → (shut n && not (is_idle m)) ≡ false
+open_mode nows.Ready m h = absurd cc
+open_mode nows.Name m h = absurd cc
+open_mode (nows.Pending k end) m h = refl
+open_mode (nows.Long w end) m h = refl
+open_mode nows.After m h = ap not h
+open_mode (nows.LongName w) m h = refl
+open_mode (nows.Keyed s) m h = ap not h
+
+end_if : ℕ → Option Begun → ℕ
+end_if d None = d
+end_if d (Some b) = b.end
+
+long_within : (start used bound : ℕ) (end : ℕ) (w : List ℕ) (ss : Symbols) (b : Option Begun) (n : ℕ) → end ≤ start + bound → end_if 0 b ≤ used → used ≤ start + bound → longest_top start used (nows.Long w end) ss b n ≤ bound
+unfolding end_if
+long_within start used bound end w ss None n h e u = omega arith
+long_within start used bound end w ss (Some b) n h e u = let inside : b.end ≤ used = e in by inside (is_long_form b.form && not (n == 0)) where
+  by : b.end ≤ used → (c : Bool) → (if c then b.end - start else end - start) ≤ bound
+  by inside true = omega arith
+  by inside false = omega arith
+
+begun_end : (s : Known) (idle : Bool) → end_if 0 (if idle then None else Some (record { start = s.start; end = s.used - behind s.mode; form = form_of s.mode })) ≤ s.used
+unfolding end_if
+begun_end s true = omega arith
+begun_end s false = let inside : s.used - behind s.mode ≤ s.used = omega arith in inside
+
+-- the open item has at most as many octets as the limit
+top_within : (start bound : ℕ) (n : Now) (s : Known) (ss : Symbols) (k : ℕ) → lulls n s.mode ≡ true → ended_so_far n ≤ start + bound → s.used ≤ start + bound → longest_top start s.used n ss (begun_in s) k ≤ bound
+top_within start bound nows.Ready s ss k l e u = absurd cc
+top_within start bound nows.Name s ss k l e u = absurd cc
+top_within start bound (nows.Pending h end) s ss k l e u = omega arith
+top_within start bound (nows.Long w end) s ss k l e u = long_within start s.used bound end w ss (begun_in s) k e (begun_end s (is_idle s.mode)) u
+top_within start bound nows.After s ss k l e u = omega arith
+top_within start bound (nows.LongName w) s ss k l e u = omega arith
+top_within start bound (nows.Keyed x) s ss k l e u = omega arith
+
+reach_within : (l : Limits) (r : Reading) (s : Known) (fs : List Frame) → lulls r.now s.mode ≡ true → ended_so_far r.now ≤ r.start + l.item → s.used ≤ r.start + l.item → reaches fs r s ≤ l.item
+reach_within l r s [] w e u = top_within r.start l.item r.now s r.notes (is_long_begun (begun_in s)) w e u
+reach_within l r s (f ∷ fs) w e u = omega arith
+
+lull_noticed : (l : Limits) (r : Reading) (s : Known) → lulls r.now s.mode ≡ true → ended_so_far r.now ≤ r.start + l.item → s.used ≤ r.start + l.item → noticed l r s ≡ uses (with_scan s r)
+lull_noticed l r s w e u =
+    ap (λ b. if b then fails reasons.Unexpected else (if nat_le (reaches r.frames r s) l.item then uses (with_scan s r) else fails reasons.ItemTooLong)) (open_mode r.now s.mode w)
+    ∙ ap (λ b. if b then uses (with_scan s r) else fails reasons.ItemTooLong) (le_true (reaches r.frames r s) l.item (reach_within l r s r.frames w e u))
+  where
+    le_true : (x y : ℕ) → x ≤ y → nat_le x y ≡ true
+    le_true x y h = grind (arith, nat_tests)
+
+module _ (g : Catalog) (l : Limits) (r : Reading) where
+  quiet_lull : (p : Place) (os : List ℕ) (s : Known) → Each (goes_on s.mode) os → IsLull l r s (length os) → Quiet g l r p s os
+  quiet_lull p [] s each lull = tt
+  quiet_lull p (o ∷ os) s each lull =
+      let one = one_on p s o each.0 in
+      let t = gone_on s (o ∷ []) in
+      let w = lull.waits in
+      let e = lull.ended in
+      let room = lull.room in
+      subst (λ x. OnNext x (λ t. (noticed l r t ≡ uses (with_scan t r)) × Quiet g l r p t os)) (sym one)
+      (lull_noticed l r t w e (omega arith), quiet_lull p os t each.1 (record { waits = w; ended = e; room = omega arith }))
+
+  waiting_lull : (p : Place) (os : List ℕ) (s : Known) → Each (goes_on s.mode) os → lulls r.now s.mode ≡ true → ((t : Known) → lulls r.now t.mode ≡ true → waits r (Next t) ≡ true) → Waiting g l r p s os
+  waiting_lull p [] s each lull more = tt
+  waiting_lull p (o ∷ os) s each lull more =
+      let t = gone_on s (o ∷ []) in
+      subst (λ x. (waits r x ≡ true) × OnNext x (λ k. AtEach (λ x. waits r x) p os k)) (sym (one_on p s o each.0)) (more t lull, waiting_lull p os t each.1 lull more)
+
+  -- a mark is awaited, or more of what waits
+  waits_or_not : (start : ℕ) (c : List Slot) (fs : List Frame) (ss : Symbols) (top : Bool) (n : Now) (m : Mode) → lulls n m ≡ true
+      → (settled g l.item start c fs ss n ≡ goes (at start c fs ss n)) ⊎ ((t : Known) → lulls n t.mode ≡ true → waits_now top n (Next t) ≡ true)
+  waits_or_not start c fs ss top nows.Ready m h = absurd cc
+  waits_or_not start c fs ss top nows.Name m h = absurd cc
+  waits_or_not start c fs ss top (nows.Pending k end) m h = inr (λ t h. h)
+  waits_or_not start c fs ss top (nows.Long w end) m h = inr (λ t h. h)
+  waits_or_not start c fs ss top nows.After m h = inl refl
+  waits_or_not start c fs ss top (nows.LongName w) m h = inr (λ t h. h)
+  waits_or_not start c fs ss top (nows.Keyed s) m h = inl refl
+
+  stays_lull : (os : List ℕ) (s : Known) → Each (goes_on s.mode) os → lulls r.now s.mode ≡ true → Stays g l r (place r) s os
+  stays_lull os s each lull = by (waits_or_not r.start r.context r.frames r.notes (is_top r.frames) r.now s.mode lull) where
+    by : (settle g l r ≡ goes r) ⊎ ((t : Known) → lulls r.now t.mode ≡ true → waits r (Next t) ≡ true) → Stays g l r (place r) s os
+    by (inl e) = inl e
+    by (inr more) = inr (waiting_lull (place r) os s each lull more)
+
+  -- the run over them leads where the scanner is led
+  pub led_by_lull : (os : List ℕ) (s t : Known) → IsLull l r s (length os) → Each (goes_on s.mode) os → ((p : Place) → scanning.run p os s ≡ Next t) → run g l s.used (with_scan s r) os ≡ led (with_scan t r)
+  led_by_lull os s t lull each ran = drive g l os s.used r s t (ran (place r)) (quiet_lull (place r) os s each lull) (stays_lull os s each lull.waits)
+
+-- which uses them all
+pub used_by_lull : (os : List ℕ) (s t : Known) (p : Place) → scanning.run p os s ≡ Next t → t.used ≡ s.used + length os
+used_by_lull os s t p ran = next_used p os s t (sym ran)

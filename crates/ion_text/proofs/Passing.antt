@@ -1,0 +1,276 @@
+-- Octets that are taken up at once where a container is open.
+use Rattle.std.proofs.Common.{◌≡◌, ℕ, zero, suc, ◌+◌, ◌-◌, ◌<◌, ◌≤◌, Bool, true, false, List, [], ◌∷◌, ◌++◌, length, take, drop, get_or, Ok, refl, ap, sym, ◌∙◌, subst, arith, length-drop, inl, inr}
+use Rattle.std.specs.Prelude.{◌&&◌, ◌||◌, not, nat_le, if◌then◌else◌}
+use Rattle.std.proofs.lemmas.Bool.Decides.{nat_tests}
+use Rattle.std.proofs.lemmas.Grind.{common_steps}
+use Rattle.std.proofs.lemmas.List.{length-take-le, take-append-drop, drop-take}
+use Rattle.ion_symtab.specs.declared.limits.Limits.{Limits}
+use Rattle.ion_symtab.specs.declared.catalog.Catalog.{Catalog}
+use Rattle.ion_tokens.specs.declared.mode.Place.{Place}
+use Rattle.ion_tokens.specs.declared.mode.Mode.TheVariants as modes
+use Rattle.ion_tokens.specs.Scanning as scanning
+use Rattle.ion_tokens.specs.Scanning.{Known, Lexeme, Outcome, Next, Given, Left, Refused, feed, follow}
+use Rattle.ion_tokens.specs.Again.{blank_uses}
+use Rattle.ion_tokens.proofs.Runs.{feed_used, next_used}
+use Rattle.ion_tokens.specs.Bounds.{is_idle}
+use Rattle.ion_tokens.specs.Bodies.{Content}
+use Rattle.ion_tokens.specs.Said.{said}
+use Rattle.ion_tokens.specs.Ahead.{OnNext, IsUsed, is_sane, symbol_waits}
+use Rattle.ion_model.specs.declared.refusal.Reason.TheVariants as reasons
+use Rattle.ion_text.specs.declared.state.Frame.{Frame}
+use Rattle.ion_text.specs.declared.state.Held.{Held}
+use Rattle.ion_text.specs.declared.state.Now.{Now}
+use Rattle.ion_text.specs.declared.state.Now.TheVariants as nows
+use Rattle.ion_text.specs.Machine.{Reading, Symbols, goes, place, settle, turn}
+use Rattle.ion_text.specs.Run.{State, Effect, uses, fails, is_top, shut, reaches, noticed, waits, waits_now, in_segment, unsettled, with_scan, eats, takes, on_scan, on_said, on_settled, behind_left, behind_given, token_of, run, run_on}
+use Rattle.ion_text.specs.Runs.{led, then_run, run-append, followed, Quiet, Waiting, Stays, drive, go_on}
+use Rattle.ion_text.specs.Fuel.{UsedThen, Twice, twice_fuel}
+use Rattle.ion_text.specs.Meets.{follows_as}
+use Rattle.ion_text.specs.Views.{floor, base, IsCalm}
+use Rattle.ion_text.specs.Passing.{Passes}
+use Rattle.ion_text.proofs.Stretches.{quiet_within}
+
+agree_less : (j k : ℕ) (w os : List ℕ) → j ≤ k → take k w ≡ take k os → take j w ≡ take j os
+agree_less j k w os h e = sym (front w) ∙ (ap (take j) e ∙ front os)
+  where
+    front : (v : List ℕ) → take j (take k v) ≡ take j v
+    front v = grind (arith, common_steps)
+
+agree_behind : (a j : ℕ) (w os : List ℕ) → take (a + j) w ≡ take (a + j) os → take j (drop a w) ≡ take j (drop a os)
+agree_behind a j w os e = sym (drop-take a j w) ∙ (ap (drop a) e ∙ drop-take a j os)
+
+agree_length : (k : ℕ) (w os : List ℕ) → k ≤ length os → take k w ≡ take k os → k ≤ length w
+agree_length k w os h e =
+    let a = length-take-le k os h in
+    let b : length (take k w) ≡ length (take k os) = ap (λ (v : List ℕ). length v) e in
+    let c : length (take k w) ≤ length w = shorter k w in
+    omega arith
+  where
+    shorter : (k : ℕ) (v : List ℕ) → length (take k v) ≤ length v
+    shorter zero v = omega arith
+    shorter (suc k) [] = omega arith
+    shorter (suc k) (x ∷ v) = let i = shorter k v in omega arith
+
+-- the octet behind so many
+pub next_octet : (k : ℕ) (w os : List ℕ) → k < length os → take (k + 1) w ≡ take (k + 1) os → drop k w ≡ get_or os k 0 ∷ drop (k + 1) w
+next_octet k w os h e =
+    let long = agree_length (k + 1) w os (omega arith) e in
+    let same : get_or w k 0 ≡ get_or os k 0 = sym (kept w) ∙ (ap (λ v. get_or v k 0) e ∙ kept os) in
+    let one : suc k ≡ k + 1 = omega arith in
+    cut w k (omega arith) ∙ (ap (λ o. o ∷ drop (suc k) w) same ∙ ap (λ j. get_or os k 0 ∷ drop j w) one)
+  where
+    kept : (v : List ℕ) → get_or (take (k + 1) v) k 0 ≡ get_or v k 0
+    kept v = grind (arith, common_steps)
+
+    cut : (v : List ℕ) (k : ℕ) → k < length v → drop k v ≡ get_or v k 0 ∷ drop (suc k) v
+    cut [] k i = absurd (omega arith)
+    cut (x ∷ v) zero i = refl
+    cut (x ∷ v) (suc k) i = cut v k (omega arith)
+
+module _ (g : Catalog) (l : Limits) where
+  pub passes_none : (m : State) (octets : List ℕ) → Passes g l m octets 0 m
+  passes_none m octets w e = refl
+
+  -- one behind the other
+  pub passes_on : (m n p : State) (octets : List ℕ) (a b : ℕ) → Passes g l m octets a n → Passes g l n (drop a octets) b p → Passes g l m octets (a + b) p
+  passes_on m n p octets a b h k = λ w e.
+      h w (agree_less (a + 1) (a + b + 1) w octets (omega arith) e)
+      ∙ (k (drop a w) (agree_behind a (b + 1) w octets (let i : a + b + 1 ≡ a + (b + 1) = omega arith in subst (λ (j : ℕ). take j w ≡ take j octets) i e))
+      ∙ ap (run g l p.scan.used p) (behind w))
+    where
+      behind : (w : List ℕ) → drop b (drop a w) ≡ drop (a + b) w
+      behind w = grind (arith, common_steps)
+
+  -- octets that are used and give nothing
+  pub passes_led : (m n : State) (octets : List ℕ) (count : ℕ) → count ≤ length octets → n.scan.used ≡ m.scan.used + count → run g l m.scan.used m (take count octets) ≡ led n → Passes g l m octets count n
+  passes_led m n octets count within counted e = λ w same.
+      let front = agree_less count (count + 1) w octets (omega arith) same in
+      let size = length-take-le count octets within in
+      ap (run g l m.scan.used m) (sym (take-append-drop count w) ∙ ap (λ v. v ++ drop count w) front)
+      ∙ (run-append g l m.scan.used n.scan.used (take count octets) (drop count w) (omega arith) m
+      ∙ ap (λ r. then_run r (λ k. run g l n.scan.used k (drop count w))) e)
+
+  -- the octet there does the same from another state
+  pub passes_same : (m n p : State) (octets : List ℕ) (k : ℕ) → k < length octets → n.scan.used ≡ p.scan.used → eats g l n (get_or octets k 0) ≡ eats g l p (get_or octets k 0) → Passes g l m octets k n → Passes g l m octets k p
+  passes_same m n p octets k within counted same h = λ w e.
+      let o = get_or octets k 0 in
+      let next = next_octet k w octets within e in
+      h w e
+      ∙ (ap (run g l n.scan.used n) next
+      ∙ (ap (run_on n.scan.used (λ j. eats g l j o) (λ j. run g l (n.scan.used + 1) j (drop (k + 1) w))) same
+      ∙ (ap (λ j. run g l j p (o ∷ drop (k + 1) w)) counted
+      ∙ ap (run g l p.scan.used p) (sym next))))
+
+-- an octet behind a token is used where the scanner rests
+used_then : (o : ℕ) (x : Outcome) → IsUsed x → UsedThen o x
+used_then o (Left x t) u = absurd u
+used_then o (Next t) u = tt
+used_then o (Given x t) u = tt
+used_then o (Refused n e) u = tt
+
+blank_twice : (s : Known) (o : ℕ) → s.mode ≡ modes.Blank → Twice s o
+blank_twice s o e p = used_then o (feed p s o) (blank_uses p s o e)
+
+base_open : (fs : List Frame) (ss : Symbols) (start lo : ℕ) → is_top fs ≡ false → base fs ss start lo ≡ start
+base_open [] ss start lo h = absurd cc
+base_open (f ∷ fs) ss start lo h = refl
+
+reaches_open : (fs : List Frame) (r : Reading) (s : Known) → is_top fs ≡ false → reaches fs r s ≡ s.used - r.start
+reaches_open [] r s h = absurd cc
+reaches_open (f ∷ fs) r s h = refl
+
+module _ (l : Limits) where
+  -- where no token has begun that surely is one
+  pub idle_noticed : (r : Reading) (s : Known) → is_idle s.mode ≡ true → is_top r.frames ≡ false → s.used ≤ l.item + r.start → noticed l r s ≡ uses (with_scan s r)
+  idle_noticed r s idle inner room =
+      ap (λ b. if shut r.now && not b then fails reasons.Unexpected else (if nat_le (reaches r.frames r s) l.item then uses (with_scan s r) else fails reasons.ItemTooLong)) idle
+      ∙ (ap (λ b. if b then fails reasons.Unexpected else (if nat_le (reaches r.frames r s) l.item then uses (with_scan s r) else fails reasons.ItemTooLong)) (never (shut r.now))
+      ∙ ap (λ b. if b then uses (with_scan s r) else fails reasons.ItemTooLong) (fits (reaches r.frames r s) l.item (let e = reaches_open r.frames r s inner in omega arith)))
+    where
+      never : (b : Bool) → (b && not true) ≡ false
+      never true = refl
+      never false = refl
+
+      fits : (x y : ℕ) → x ≤ y → nat_le x y ≡ true
+      fits x y h = grind (arith, nat_tests)
+
+-- a token that has begun isn't forgotten
+stays_begun : (p : Place) (os : List ℕ) (s t : Known) → is_sane s.mode ≡ true → is_idle s.mode ≡ false → scanning.run p os s ≡ Next t → is_idle t.mode ≡ false
+stays_begun p [] s t sane h e = subst (λ (k : Known). is_idle k.mode ≡ false) (next_same s t e) h
+  where
+    known_in : Outcome → Known → Known
+    known_in (Next y) d = y
+    known_in _ d = d
+
+    next_same : (a b : Known) → Next a ≡ Next b → a ≡ b
+    next_same a b e = ap (λ x. known_in x a) e
+stays_begun p (o ∷ os) s t sane h e =
+    let f = followed (feed p s o) (λ k. scanning.run p os k) t e in
+    let x = follows_as p s o (Next f.0) sane f.1 in
+    stays_begun p os f.0 t x.0 (x.1 h) f.2
+
+-- so none has behind any of the octets of a blank
+idle_first : (p : Place) (os : List ℕ) (s t : Known) → is_sane s.mode ≡ true → is_idle t.mode ≡ true → scanning.run p os s ≡ Next t → is_idle s.mode ≡ true
+idle_first p os s t sane idle e = by (is_idle s.mode) refl
+  where
+    by : (b : Bool) → is_idle s.mode ≡ b → is_idle s.mode ≡ true
+    by true h = h
+    by false h = absurd (let n : true ≡ false = sym idle ∙ stays_begun p os s t sane h e in cc)
+
+module _ (g : Catalog) (l : Limits) (r : Reading) (inner : is_top r.frames ≡ false) where
+  pub blank_quiet : (p : Place) (os : List ℕ) (s t : Known) → is_sane s.mode ≡ true → is_idle t.mode ≡ true → scanning.run p os s ≡ Next t → s.used + length os ≤ l.item + r.start → Quiet g l r p s os
+  blank_quiet p [] s t sane idle e room = tt
+  blank_quiet p (o ∷ os) s t sane idle e room =
+      let f = followed (feed p s o) (λ k. scanning.run p os k) t e in
+      let x = follows_as p s o (Next f.0) sane f.1 in
+      let used = feed_used p s f.0 o f.1 in
+      subst (λ x. OnNext x (λ t. (noticed l r t ≡ uses (with_scan t r)) × Quiet g l r p t os)) (sym f.1)
+      (idle_noticed l r f.0 (idle_first p os f.0 t x.0 idle f.2) inner (omega (arith, used)), blank_quiet p os f.0 t x.0 idle f.2 (omega (arith, used)))
+
+  blank_waits : (h : Held) (end : ℕ) → r.now ≡ nows.Pending h end → (p : Place) (os : List ℕ) (s t : Known) → is_sane s.mode ≡ true → is_idle t.mode ≡ true → scanning.run p os s ≡ Next t → Waiting g l r p s os
+  blank_waits h end now p [] s t sane idle e = tt
+  blank_waits h end now p (o ∷ os) s t sane idle e =
+      let f = followed (feed p s o) (λ k. scanning.run p os k) t e in
+      let x = follows_as p s o (Next f.0) sane f.1 in (
+        ap (λ y. waits r y) f.1 ∙ (ap (λ n. waits_now (is_top r.frames) n (Next f.0)) now ∙ idle_first p os f.0 t x.0 idle f.2),
+        subst (λ x. OnNext x (λ t. Waiting g l r p t os)) (sym f.1) (blank_waits h end now p os f.0 t x.0 idle f.2),
+      )
+
+  module _ (s t : Known) (octets : List ℕ) (n : ℕ) (within : n ≤ length octets) (sane : is_sane s.mode ≡ true) (idle : is_idle t.mode ≡ true) (e : scanning.run (place r) (take n octets) s ≡ Next t) (room : s.used + n ≤ l.item + r.start) where
+    blank_led : Stays g l r (place r) s (take n octets) → Passes g l (with_scan s r) octets n (with_scan t r)
+    blank_led stays =
+        let size = length-take-le n octets within in
+        let used = next_used (place r) (take n octets) s t (sym e) in
+        passes_led g l (with_scan s r) (with_scan t r) octets n within (omega arith)
+        (drive g l (take n octets) s.used r s t e (blank_quiet (place r) (take n octets) s t sane idle e (omega arith)) stays)
+
+    -- a blank where nothing waits
+    pub passes_blank : settle g l r ≡ goes r → Passes g l (with_scan s r) octets n (with_scan t r)
+    passes_blank still = blank_led (inl still)
+
+    -- a blank behind what may be a symbol
+    pub passes_waiting : (h : Held) (end : ℕ) → r.now ≡ nows.Pending h end → Passes g l (with_scan s r) octets n (with_scan t r)
+    passes_waiting h end now = blank_led (inr (blank_waits h end now (place r) (take n octets) s t sane idle e))
+
+  -- where values or names may come
+  pub calm_quiet : IsCalm r.now → (s : Known) → s.mode ≡ modes.Blank → (octets : List ℕ) (n : ℕ) → n ≤ length octets → s.used + n ≤ l.item + r.start → Quiet g l r (place r) s (take n octets)
+  calm_quiet calm s rests octets n within room =
+      let size = length-take-le n octets within in
+      let floor_is : floor s ≡ s.used = ap (λ m. scanning.start_of m s.start s.used) rests in
+      let counts = base_open r.frames r.notes r.start (floor s) inner in
+      quiet_within g l r (floor s) calm (place r) (take n octets) s (omega arith) (omega arith) (omega arith)
+
+  -- a token whose end the octet behind it shows, or its last
+  module _ (still : settle g l r ≡ goes r) (s k b : Known) (octets : List ℕ) (n : ℕ) (x : Lexeme) (c : Content) (q : Reading)
+      (shown : n < length octets) (quiet : Quiet g l r (place r) s (take n octets)) (e : scanning.run (place r) (take n octets) s ≡ Next k) (room : s.used + n < l.item + r.start)
+      (says : said x.kind x.octets ≡ Ok c) (turns : turn g l r (token_of x c) ≡ goes q) where
+    abbrev pub octet : ℕ
+    octet = get_or octets n 0
+
+    counted : k.used ≡ s.used + n
+    counted =
+        let size = length-take-le n octets (omega arith) in
+        let used = next_used (place r) (take n octets) s k (sym e) in
+        omega arith
+
+    before : Passes g l (with_scan s r) octets n (with_scan k r)
+    before =
+        let size = length-take-le n octets (omega arith) in
+        passes_led g l (with_scan s r) (with_scan k r) octets n (omega arith) counted
+        (drive g l (take n octets) s.used r s k e quiet (inl still))
+
+    abbrev again : State → Effect
+    again = λ m. takes g l 2 m octet
+
+    scans : (y : Outcome) → feed (place r) k octet ≡ y → eats g l (with_scan k r) octet ≡ on_scan g l again r y
+    scans y f = go_on g l again r k (feed (place r) k octet) (unsettled k r (feed (place r) k octet)) (inr still) ∙ ap (on_scan g l again r) f
+
+    pub passes_left : b.mode ≡ modes.Blank → b.used ≡ s.used + n → feed (place r) k octet ≡ Left x b → Passes g l (with_scan s r) octets n (with_scan b q)
+    passes_left blank used f =
+        passes_same g l (with_scan s r) (with_scan k r) (with_scan b q) octets n shown (let i = counted in omega arith)
+        (scans (Left x b) f
+        ∙ (ap (λ a. on_said a (λ c. behind_left again b (turn g l r (token_of x c)))) says
+        ∙ (ap (behind_left again b) turns ∙ twice_fuel g l (with_scan b q) octet (blank_twice b octet blank)))) before
+
+    pub passes_given : is_idle b.mode ≡ true → b.used ≡ s.used + n + 1 → is_top q.frames ≡ false → q.start ≡ r.start → feed (place r) k octet ≡ Given x b → Passes g l (with_scan s r) octets (n + 1) (with_scan b q)
+    passes_given idle used inside same f =
+        passes_on g l (with_scan s r) (with_scan k r) (with_scan b q) octets n 1 before
+        (passes_octet (drop n octets) (let i = length_drop n octets in omega arith) octet (get_drop n octets shown)
+        (scans (Given x b) f
+        ∙ (ap (λ a. on_said a (λ c. behind_given l b (turn g l r (token_of x c)))) says
+        ∙ (ap (behind_given l b) turns ∙ idle_noticed l q b idle inside (omega (arith, same, used, room))))))
+      where
+        passes_octet : (os : List ℕ) → 0 < length os → (o : ℕ) → get_or os 0 0 ≡ o → eats g l (with_scan k r) o ≡ uses (with_scan b q) → Passes g l (with_scan k r) os 1 (with_scan b q)
+        passes_octet [] some o e h = absurd (omega arith)
+        passes_octet (y ∷ os) some o e h =
+            passes_led g l (with_scan k r) (with_scan b q) (y ∷ os) 1 (omega arith) (let i = counted in omega (arith, used))
+            (ap (run_on k.used (λ j. eats g l j y) (λ j. led j)) (ap (eats g l (with_scan k r)) e ∙ h))
+
+        length_drop : (n : ℕ) (os : List ℕ) → length (drop n os) ≡ length os - n
+        length_drop n os = length-drop n os
+
+        get_drop : (n : ℕ) (os : List ℕ) → n < length os → get_or (drop n os) 0 0 ≡ get_or os n 0
+        get_drop n [] h = absurd (omega arith)
+        get_drop zero (y ∷ os) h = refl
+        get_drop (suc n) (y ∷ os) h = get_drop n os (omega arith)
+
+  -- an octet that shows that what may be a symbol is none before `::`
+  pub passes_settled : (s : Known) (h : Held) (end : ℕ) (octets : List ℕ) (q : Reading) → 0 < length octets → r.now ≡ nows.Pending h end → symbol_waits (feed (place r) s (get_or octets 0 0)) ≡ false → settle g l r ≡ goes q → settle g l q ≡ goes q → place q ≡ place r
+      → Passes g l (with_scan s r) octets 0 (with_scan s q)
+  passes_settled s h end octets q some now ends settles still same =
+      passes_same g l (with_scan s r) (with_scan s r) (with_scan s q) octets 0 some refl (here ∙ sym there) (passes_none g l (with_scan s r) octets)
+    where
+      here : eats g l (with_scan s r) (get_or octets 0 0) ≡ on_scan g l (λ m. takes g l 2 m (get_or octets 0 0)) q (feed (place r) s (get_or octets 0 0))
+      here =
+          ap (λ b. if b then on_scan g l (λ m. takes g l 2 m (get_or octets 0 0)) r (feed (place r) s (get_or octets 0 0)) else on_settled g l (λ m. takes g l 2 m (get_or octets 0 0)) s (feed (place r) s (get_or octets 0 0)) (settle g l r)) (free r.now now ∙ ends)
+          ∙ ap (on_settled g l (λ m. takes g l 2 m (get_or octets 0 0)) s (feed (place r) s (get_or octets 0 0))) settles
+        where
+          free : (n : Now) → n ≡ nows.Pending h end → (waits_now (is_top r.frames) n (feed (place r) s (get_or octets 0 0)) || in_segment n s) ≡ symbol_waits (feed (place r) s (get_or octets 0 0))
+          free n e = ap (λ k. waits_now (is_top r.frames) k (feed (place r) s (get_or octets 0 0)) || in_segment k s) e ∙ none (symbol_waits (feed (place r) s (get_or octets 0 0)))
+            where
+              none : (b : Bool) → (b || false) ≡ b
+              none true = refl
+              none false = refl
+
+      there : eats g l (with_scan s q) (get_or octets 0 0) ≡ on_scan g l (λ m. takes g l 2 m (get_or octets 0 0)) q (feed (place r) s (get_or octets 0 0))
+      there = go_on g l (λ m. takes g l 2 m (get_or octets 0 0)) q s (feed (place q) s (get_or octets 0 0)) (unsettled s q (feed (place q) s (get_or octets 0 0))) (inr still) ∙ ap (λ p. on_scan g l (λ m. takes g l 2 m (get_or octets 0 0)) q (feed p s (get_or octets 0 0))) same

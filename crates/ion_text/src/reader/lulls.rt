@@ -1,0 +1,76 @@
+//! Octets that are handed to the scanner at once while something waits, or a mark is awaited: those of a blank or
+//! a comment, and of a further segment of a long string.
+ghost use Rattle.std.specs.Prelude.{◌≡◌, ◌+◌, ◌<◌, ◌≤◌, ◌^◌, length, take, OnOk, IfErr};
+ghost use Rattle.ion_model.specs.declared.refusal.Reason.TheVariants.{Memory};
+ghost use Rattle.ion_tokens.specs.Fronts.{goes_on};
+ghost use Rattle.ion_tokens.specs.Lexemes.{Each};
+ghost use Rattle.ion_tokens.specs.Views.{scanned};
+ghost use Rattle.ion_text.specs.Run.{run};
+ghost use Rattle.ion_text.specs.Runs.{led};
+ghost use Rattle.ion_text.specs.Views.{reading_of, state_of, lulls, ended_so_far, IsFine, IsLull, SameReader};
+ghost use Rattle.ion_text.specs.Progress.{StaysSteady};
+
+use super::TextReader;
+use crate::state::Now;
+use ion_model::Refusal;
+use ion_tokens::Form;
+
+impl TextReader<'_> {
+    /// Whether it goes on to wait over octets with which the scanner goes on as it is.
+    fn lulls(&self) -> bool
+        ensures { result ≡ lulls self.now.stage (scanned self.now.scanner).mode }
+    {
+        match (&self.stage, self.scanner.begun()) {
+            (Now::Ready | Now::Name, _) => false,
+            (_, None) => true,
+            (Now::Long(_, _) | Now::LongName(_), Some(begun)) => match begun.form {
+                Form::Quote | Form::Long => true,
+                Form::Other => false,
+            },
+            _ => false,
+        }
+    }
+
+    /// Where what waits ended so far.
+    fn ended_so_far(&self) -> u64
+        ensures { result ≡ ended_so_far self.now.stage }
+    {
+        match &self.stage {
+            Now::Pending(_, end) => *end,
+            Now::Long(_, end) => *end,
+            _ => 0,
+        }
+    }
+
+    /// How many octets at the front of a piece it waits over: no more than the limit on items leaves.
+    pub(super) fn lull(&self, piece: &[u8]) -> usize
+        ensures within { result ≤ length piece.now }
+        ensures each { Each (goes_on (scanned self.now.scanner).mode) (take result piece.now) }
+        ensures lull { 0 < result → IsLull self.now.limits (reading_of self.now) (scanned self.now.scanner) result }
+    {
+        let last = self.start.saturating_add(self.limits.item);
+        if !self.lulls() || self.ended_so_far() > last {
+            return 0;
+        }
+        let room = last.saturating_sub(self.scanner.used());
+        let count = self.scanner.front(piece);
+        if (count as u64) <= room { count } else { 0 }
+    }
+
+    /// Takes up octets over which it waits. The only refusal is `Memory`.
+    pub(super) fn take_lull(&mut self, octets: &[u8]) -> Result<(), Refusal>
+        requires fine { IsFine self.old }
+        requires room { (scanned self.old.scanner).used + length octets.now < 2 ^ 63 }
+        requires some { 0 < length octets.now }
+        requires each { Each (goes_on (scanned self.old.scanner).mode) octets.now }
+        requires lull { IsLull self.old.limits (reading_of self.old) (scanned self.old.scanner) (length octets.now) }
+        ensures led { OnOk result (run self.old.catalog.now self.old.limits (scanned self.old.scanner).used (state_of self.old) octets.now ≡ led (state_of self.new)) }
+        ensures used { OnOk result ((scanned self.new.scanner).used ≡ (scanned self.old.scanner).used + length octets.now) }
+        ensures memory { IfErr result (λ refusal. refusal.reason ≡ Memory) }
+        ensures fine { OnOk result (IsFine self.new) }
+        ensures steady { OnOk result (StaysSteady self.old self.new) }
+        ensures same { SameReader self.old self.new }
+    {
+        self.scanner.go_on(octets)
+    }
+}
