@@ -8,3 +8,4 @@ pub mod Verdicts
 pub mod Conversions
 pub mod Loads
 pub mod Described
+pub mod Tables

@@ -26,7 +26,7 @@ none_parts (v ∷ s) [] h = absurd cc
 none_parts (v ∷ s) (w ∷ t) h = same_none (same v w) (pointwise same s t) (parts s t) h (none_parts s t)
 
 -- octets give one refusal
-one_refusal : (t : Trace) (p q : Refusal) → SaysRefusal t p → SaysRefusal t q → p ≡ q
+pub one_refusal : (t : Trace) (p q : Refusal) → SaysRefusal t p → SaysRefusal t q → p ≡ q
 one_refusal t p q (inl a) (inl b) = cc
 one_refusal t p q (inl a) (inr b) = let c = b.0 in absurd cc
 one_refusal t p q (inr a) (inl b) = let c = a.0 in absurd cc

@@ -1,5 +1,6 @@
 -- What loading a catalog from a document answers (Ion 1.0, "Symbols", "Shared Symbol Tables").
-use Rattle.std.specs.Prelude.{◌≡◌, ◌⊎◌, ℕ, List, [], ◌∷◌, ◌++◌, Bool, if◌then◌else◌, is_some, None, Result, Ok, Err}
+use Rattle.std.specs.Prelude.{◌≡◌, ◌⊎◌, ℕ, List, [], ◌∷◌, ◌++◌, map, Bool, if◌then◌else◌, is_some, None, Result, Ok, Err}
+use Rattle.std.specs.List.{Contains}
 use Rattle.ion_model.specs.declared.value.Value.{Value}
 use Rattle.ion_model.specs.declared.refusal.Reason.{Reason}
 use Rattle.ion_model.specs.declared.refusal.Reason.TheVariants.{DuplicateTable}
@@ -34,6 +35,17 @@ catalog_of tables (next ∷ given) = then_at next.1 (added tables next.0) (λ mo
 abbrev pub AreApart : List Table → List Table → Type 0
 AreApart before [] = Unit {0}
 AreApart before (t ∷ tables) = (find before t.name t.version ≡ None) × AreApart (before ++ t ∷ []) tables
+
+-- one of the values describes this table, which has this name and version
+abbrev pub DescribesUnder : List Value → List ℕ → ℕ → Table → Type 0
+DescribesUnder s name version t = (v : Value) × Contains s v × (shared_table v ≡ Ok t) × (t.name ≡ name) × (t.version ≡ version)
+
+-- the octets are a document, each of its values describes the table in its place, and no name and version comes twice
+pub record IsDocumentOf (F : Format) (octets : List ℕ) (tables : List Table) : Type 0 where
+  pub s : List Value
+  pub denoted : F.denotes octets s
+  pub each : map shared_table s ≡ map Ok tables
+  pub apart : AreApart [] tables
 
 -- the octets are a document, and these tables are what its values describe
 pub record DescribesTables (F : Format) (octets : List ℕ) (tables : List Table) : Type 0 where

@@ -1,6 +1,10 @@
 //! The reader that the first octet chooses.
-ghost use Rattle.std.specs.Prelude.{◌≡◌, [], IfOk, IfErr, None};
+ghost use Rattle.std.specs.Prelude.{◌≡◌, ℕ, ◌+◌, ◌*◌, ◌^◌, ◌<◌, ◌≤◌, List, [], ◌∷◌, ◌++◌, length, take, drop, IfOk, IfErr, IfSome, IsSome, None, Some};
+ghost use Rattle.ion_symtab.specs.Trace.{Answers, UsesAll, given_at};
+ghost use Rattle.ion_docs.specs.Chosen.{chosen};
+ghost use Rattle.ion_docs.specs.DocStands.{DocStands, taken_of, failed_of, awaits_of, pending_of};
 ghost use Rattle.ion_model.specs.declared.refusal.Reason.TheVariants.{Memory};
+ghost use Rattle.ion_model.specs.declared.value.Value.{Value as AnyValue};
 
 use ion_binary::BinaryReader;
 use ion_model::{Reason, Refusal, Value};
@@ -66,6 +70,55 @@ impl<'a> DocReader<'a> {
         let refusal = Refusal { offset: 0, reason };
         self.go_on(Format::Refused(refusal));
         refusal
+    }
+
+    /// Takes up the first octets, by the reader that the first of them chooses: `step` where no octet
+    /// has come. It stands by itself so that the other steps have no room for readers to clear.
+    #[inline(never)]
+    fn begin(&mut self, piece: &[u8]) -> Result<Step, Refusal>
+        requires unbegun { self.old.format ≡ Format.Unbegun }
+        requires room { length piece.now < 2 ^ 63 }
+        ensures catalog { self.new.catalog.now ≡ self.old.catalog.now }
+        ensures limits { self.new.limits ≡ self.old.limits }
+        ensures used { IfOk result (λ step. step.used ≤ length piece.now) }
+        ensures uses_all { IfOk result (UsesAll piece.now) }
+        ensures counts { IfOk result (λ step. taken_of self.new.format ≡ step.used) }
+        ensures progress { IfOk result (λ step. IsSome step.value →
+            pending_of self.new.format < 2 * step.used) }
+        ensures few_pending { IfOk result (λ step. pending_of self.new.format ≤ 2 * step.used) }
+        ensures stands { IfOk result (λ step. (u : List ℕ) (s : List (AnyValue × ℕ)) →
+            DocStands self.old u s → DocStands self.new (u ++ take step.used piece.now)
+            (s ++ given_at step.value (length u + step.used))) }
+        ensures answers { (u : List ℕ) (s : List (AnyValue × ℕ)) → DocStands self.old u s →
+            Answers (chosen self.old.catalog.now self.old.limits) u s piece.now result }
+        ensures not_failed { IfOk result (λ step. failed_of self.new.format ≡ None) }
+        ensures awaited { IfOk result (λ step. IfSome (awaits_of self.new.format) (λ octet.
+            (rest : List ℕ) × (drop step.used piece.now ≡ octet ∷ rest))) }
+        ensures memory { IfErr result (λ refusal. refusal.reason ≡ Memory → refusal.offset ≡ 0) }
+        ensures fails { IfErr result (λ refusal. failed_of self.new.format ≡ Some refusal) }
+    {
+        match piece.first() {
+            None => Ok(Step {
+                used: 0,
+                value: None,
+            }),
+            Some(&BINARY) => match BinaryReader::new(self.alloc, self.catalog, self.limits) {
+                Err(reason) => Err(self.refuse(reason)),
+                Ok(mut reader) => {
+                    let result = reader.step(piece);
+                    self.go_on(Format::Binary(reader));
+                    result
+                }
+            },
+            Some(_) => match TextReader::new(self.alloc, self.catalog, self.limits) {
+                Err(reason) => Err(self.refuse(reason)),
+                Ok(mut reader) => {
+                    let result = reader.step(piece);
+                    self.go_on(Format::Text(reader));
+                    result
+                }
+            },
+        }
     }
 }
 
@@ -138,28 +191,7 @@ impl Items for DocReader<'_> {
             Format::Refused(refusal) => Err(*refusal),
             Format::Binary(reader) => reader.step(piece),
             Format::Text(reader) => reader.step(piece),
-            Format::Unbegun => match piece.first() {
-                None => Ok(Step {
-                    used: 0,
-                    value: None,
-                }),
-                Some(&BINARY) => match BinaryReader::new(self.alloc, self.catalog, self.limits) {
-                    Err(reason) => Err(self.refuse(reason)),
-                    Ok(mut reader) => {
-                        let result = reader.step(piece);
-                        self.go_on(Format::Binary(reader));
-                        result
-                    }
-                },
-                Some(_) => match TextReader::new(self.alloc, self.catalog, self.limits) {
-                    Err(reason) => Err(self.refuse(reason)),
-                    Ok(mut reader) => {
-                        let result = reader.step(piece);
-                        self.go_on(Format::Text(reader));
-                        result
-                    }
-                },
-            },
+            Format::Unbegun => self.begin(piece),
         }
     }
 

@@ -1,12 +1,13 @@
 //! Laws of documents and verdicts. Each stands on a function that does nothing: its contract is the law.
-ghost use Rattle.std.specs.Prelude.{◌≡◌, ℕ, List, [], map, Ok};
+ghost use Rattle.std.specs.Prelude.{◌≡◌, ◌↔◌, ℕ, List, [], map, Option, Result, Ok};
+ghost use Rattle.ion_model.specs.declared.refusal.Refusal.{Refusal};
 ghost use Rattle.ion_model.specs.declared.value.Value.{Value};
 ghost use Rattle.ion_model.specs.Octets.{AreOctets};
 ghost use Rattle.ion_model.specs.Kept.{AreKept};
 ghost use Rattle.ion_symtab.specs.declared.catalog.Catalog.{Catalog};
 ghost use Rattle.ion_symtab.specs.declared.limits.Limits.{Limits};
 ghost use Rattle.ion_symtab.specs.Shared.{shared_table};
-ghost use Rattle.ion_symtab.specs.Tables.{Table};
+ghost use Rattle.ion_symtab.specs.Tables.{Table, find};
 ghost use Rattle.ion_symtab.specs.Trace.{plain};
 ghost use Rattle.ion_symtab.specs.Promises.{NoTables};
 ghost use Rattle.ion_symtab.specs.ContextTexts.{AreTextTables};
@@ -16,7 +17,7 @@ ghost use Rattle.ion_docs.specs.Encodings.{encoding_of};
 ghost use Rattle.ion_docs.specs.Formats.{documents};
 ghost use Rattle.ion_docs.specs.Compared.{IsVerdict};
 ghost use Rattle.ion_docs.specs.declared.conversion.Target.{Target};
-ghost use Rattle.ion_docs.specs.Loaded.{catalog_of, AreApart};
+ghost use Rattle.ion_docs.specs.Loaded.{catalog_of, AreApart, DescribesUnder, IsDocumentOf, IsCatalog};
 ghost use Rattle.ion_docs.specs.declared.comparison.Verdict.{Verdict};
 
 use ion_model::laws::paths;
@@ -59,4 +60,33 @@ pub fn catalogs()
     ensures all { (given : List (Value × ℕ)) (tables : List Table) →
         map shared_table (plain given) ≡ map Ok tables → AreApart [] tables →
         catalog_of [] given ≡ Ok tables }
+{}
+
+/// All octets are loaded as a catalog or refused, and within the same limits as one catalog, or with one
+/// reason and one offset.
+pub fn one_catalog()
+    ensures some { (l : Limits) (octets : List ℕ) →
+        (answer : Result (List Table) Refusal) × IsCatalog (documents [] l) octets answer }
+    ensures one { (l : Limits) (octets : List ℕ) (p q : Result (List Table) Refusal) →
+        IsCatalog (documents [] l) octets p → IsCatalog (documents [] l) octets q → p ≡ q }
+{}
+
+/// Octets are loaded as a catalog exactly where they are a document under a catalog of no tables, each
+/// of its values describes a shared symbol table, and no name and version comes twice.
+pub fn catalog_documents()
+    ensures { (l : Limits) (octets : List ℕ) (tables : List Table) →
+        IsCatalog (documents [] l) octets (Ok tables) ↔ IsDocumentOf (documents [] l) octets tables }
+{}
+
+/// In a catalog that was loaded `find` gives a table under a name and version exactly where a value of
+/// the document describes that table, and that name and version are its own; under all others none.
+pub fn catalogs_find()
+    ensures tables { (l : Limits) (octets : List ℕ) (tables : List Table) (s : List Value) →
+        IsCatalog (documents [] l) octets (Ok tables) → Denotes [] l octets s →
+        (name : List ℕ) (version : ℕ) (t : Table) →
+        find tables name version ≡ Option.Some t ↔ DescribesUnder s name version t }
+    ensures no_others { (l : Limits) (octets : List ℕ) (tables : List Table) (s : List Value) →
+        IsCatalog (documents [] l) octets (Ok tables) → Denotes [] l octets s →
+        (name : List ℕ) (version : ℕ) → ((t : Table) → DescribesUnder s name version t → ⊥) →
+        find tables name version ≡ Option.None }
 {}

@@ -1,0 +1,23 @@
+use Rattle.std.proofs.Common.{◌≡◌, ℕ, List, [], map, Ok, subst}
+use Rattle.ion_model.specs.declared.value.Value.{Value}
+use Rattle.ion_symtab.specs.Shared.{shared_table}
+use Rattle.ion_symtab.specs.Tables.{Table}
+use Rattle.ion_symtab.specs.declared.limits.Limits.{Limits}
+use Rattle.ion_docs.specs.DocLaws.{one_document}
+use Rattle.ion_docs.specs.Documents.{Denotes}
+use Rattle.ion_docs.specs.Formats.{documents}
+use Rattle.ion_docs.specs.Loaded.{AreApart, IsCatalog}
+use Rattle.ion_docs.proofs.Tables.{loaded_document, finds, finds_none}
+use Rattle.ion_docs.proofs.laws.catalogs_find.Goals as goal
+
+-- the values of the document describe the tables
+described : (l : Limits) (octets : List ℕ) (tables : List Table) (s : List Value) → IsCatalog (documents [] l) octets (Ok tables) → Denotes [] l octets s → (map shared_table s ≡ map Ok tables) × AreApart [] tables
+described l octets tables s h d =
+    let document = loaded_document (documents [] l) octets tables h in
+    (subst (λ (x : List Value). map shared_table x ≡ map Ok tables) (one_document [] l octets document.s s document.denoted d) document.each, document.apart)
+
+pub returns : goal.returns
+returns c = record {
+  tables = λ l octets tables s h d name version t. let each = described l octets tables s h d in finds s tables each.0 each.1 name version t;
+  no_others = λ l octets tables s h d name version never. let each = described l octets tables s h d in finds_none s tables each.0 each.1 name version never;
+}
