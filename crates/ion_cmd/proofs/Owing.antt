@@ -1,5 +1,5 @@
 -- Why a command was stopped, and what stays so where more names are read.
-use Rattle.std.proofs.Common.{◌≡◌, ℕ, List, [], ◌∷◌, codes, Bool, true, false, Option, Some, None, Result, Ok, IfOk, refl, ap, ◌∙◌, ◌⊎◌, inl, inr, arith}
+use Rattle.std.proofs.Common.{◌≡◌, ℕ, List, [], ◌∷◌, codes, Bool, true, false, Option, Some, None, Result, Ok, Err, IfOk, refl, subst, MatchResult, ap, ◌∙◌, ◌⊎◌, inl, inr, arith}
 use Rattle.std.specs.List.{Contains}
 use Rattle.std.proofs.lemmas.List.Elements.{Contains-append_right, Contains-append_cases, Contains-push_cases}
 use Rattle.std.proofs.lemmas.Option.{same_Some, none-some}
@@ -27,7 +27,9 @@ use Rattle.ion_docs.specs.declared.conversion.Target.{Target}
 use Rattle.ion_words.specs.declared.request.Encoding.{Encoding}
 use Rattle.ion_words.specs.declared.request.WordsError.{WordsError}
 use Rattle.ion_words.specs.declared.request.WordsError.TheVariants as words_errors
-use Rattle.ion_words.specs.Asked.{Asked, Job, check, show, convert, compare, names_of, names_of_job, names_with, NamesInputOnce, NamesNoInput}
+use Rattle.std.specs.declared.io.Error.{Error}
+use Rattle.ion_cmd.specs.Arguments.{Arguments, words_of, no_words}
+use Rattle.ion_words.specs.Asked.{asked, Asked, Job, check, show, convert, compare, names_of, names_of_job, names_with, NamesInputOnce, NamesNoInput}
 use Rattle.ion_cmd.specs.declared.run.Ending.{Ending}
 use Rattle.ion_cmd.specs.Names.{Name, Keeps}
 use Rattle.ion_cmd.specs.Endings.{answer_line, verdict_line, EndsShown, PassesOn}
@@ -36,7 +38,7 @@ use Rattle.ion_cmd.specs.declared.run.Ending.TheVariants.{Refused}
 use Rattle.ion_cmd.specs.declared.run.Status.{Status}
 use Rattle.ion_cmd.specs.declared.run.Status.TheVariants as the_status
 use Rattle.ion_cmd.specs.declared.lines.Whose.{Whose}
-use Rattle.ion_cmd.specs.Owed.{target_of, code_of, AreLimitsOf, IsCatalog, IsStopped, IsStoppedAt, NeedsLarge, IsDone, IsAnswered, WroteFront, WroteSoFar, is_done, Owes, usage, answered, untold, no_memory}
+use Rattle.ion_cmd.specs.Owed.{target_of, code_of, AreLimitsOf, IsCatalog, IsStopped, IsStoppedAt, NeedsLarge, IsDone, IsAnswered, WroteFront, WroteSoFar, is_done, Owes, usage, answered, untold, no_memory, OwesWithout, OwesFor}
 
 pub first_of_names : (name : Name) (names : List Name) → Contains (name ∷ names) name
 first_of_names name names = (0, omega arith, refl)
@@ -167,32 +169,21 @@ pub free_of_catalog : (catalog : Option Name) (names : List Name) → NamesInput
 free_of_catalog None names once name within is taken = none-some name taken
 free_of_catalog (Some first) names once name within is taken = free_behind first name names once within is taken
 
-within_all : (catalog : Option Name) (names : List Name) (name : Name) → Contains names name → Contains (names_with catalog names) name
-within_all None names name within = within
-within_all (Some first) names name within = behind_first first name names within
-
-first_among : (first name : Name) (names : List Name) → (first ≡ name) ⊎ Contains [] name → Contains (first ∷ names) name
-first_among first name names (inl is) = rw is (first_of_names name names)
-first_among first name names (inr none) = absurd (none_within name none)
-
-catalog_within : (catalog : Option Name) (names : List Name) (name : Name) → Contains (names_with catalog []) name → Contains (names_with catalog names) name
-catalog_within None names name within = absurd (none_within name within)
-catalog_within (Some first) names name within = first_among first name names (first_or_behind first name [] within)
-
 module _ {S X Y : Type 0} (R : Inlet X) (gives : S → Name → X → Type 0) (refuses : S → Name → Type 0) (I : Items Y) (asked : Asked) (l : Limits) (first : S) where
   pub stopped_at_catalog : (failed : Bool) (fault : Fault) → IsStopped R (gives first) (refuses first) l (names_with asked.catalog []) ⊥ false fault → IsStoppedAt R (gives first) (refuses first) I asked l failed fault
-  stopped_at_catalog failed fault h = IsStopped-kept R (gives first) (refuses first) l (names_with asked.catalog []) ⊥ (gives first) (refuses first) (names_of asked) _ false failed fault
-      (λ name within. catalog_within asked.catalog (names_of_job asked.job) name within) (λ name input within given. given) (λ name within refused. refused) (λ none. absurd none) (λ fails. absurd cc) h
+  stopped_at_catalog failed fault h = inl h
 
   -- behind the catalog, that the sources give the other names what they gave
   module _ (then : S) (kept : Keeps gives refuses first then asked.catalog) (once : NamesInputOnce (names_of asked)) (g : the_catalog) (catalog : IsCatalog R (gives first) asked.catalog l (Ok g)) where
     pub stopped_behind : (failed : Bool) (fault : Fault) → IsStopped R (gives then) (refuses then) l (names_of_job asked.job) (NeedsLarge R (gives then) I asked.job g l) failed fault → IsStoppedAt R (gives first) (refuses first) I asked l failed fault
-    stopped_behind failed fault h = IsStopped-kept R (gives then) (refuses then) l (names_of_job asked.job) _ (gives first) (refuses first) (names_of asked) _ failed failed fault
-        (λ name within. within_all asked.catalog (names_of_job asked.job) name within)
-        (λ name input within given. kept.given name input (free_of_catalog asked.catalog (names_of_job asked.job) once name within) given)
-        (λ name within refused. kept.refused name (free_of_catalog asked.catalog (names_of_job asked.job) once name within) refused)
-        (λ large. (g, catalog, NeedsLarge-kept R (gives then) (gives first) I g l asked.job (λ name input within given. kept.given name input (free_of_catalog asked.catalog (names_of_job asked.job) once name within) given) large))
-        (λ fails. fails) h
+    stopped_behind failed fault h =
+        let kept_given : (name : Name) (input : X) → Contains (names_of_job asked.job) name → gives then name input → gives first name input = λ name input within given. kept.given name input (free_of_catalog asked.catalog (names_of_job asked.job) once name within) given in
+        inr (
+          g,
+          catalog,
+          IsStopped-kept R (gives then) (refuses then) l (names_of_job asked.job) _ (gives first) (refuses first) (names_of_job asked.job) _ failed failed fault (λ name within. within) kept_given
+              (λ name within refused. kept.refused name (free_of_catalog asked.catalog (names_of_job asked.job) once name within) refused) (NeedsLarge-kept R (gives then) (gives first) I g l asked.job kept_given) (λ fails. fails) h,
+        )
 
 pub answered_behind : {S X T : Type 0} (R : Inlet X) (gives : S → Name → X → Type 0) (refuses : S → Name → Type 0) (W : Outlet T) (asked : Asked) (l : Limits) (first then : S) → Keeps gives refuses first then asked.catalog → NamesInputOnce (names_of asked) → (g : the_catalog) → IsCatalog R (gives first) asked.catalog l (Ok g) →
     (old new : T) (ending : Ending) → IsDone R (gives then) W old new asked.job g l ending → IsAnswered R (gives first) W old new asked l ending
@@ -220,3 +211,21 @@ module _ {X Y T D : Type 0} (R : Inlet X) (gives : Name → X → Type 0) (refus
       Owes R gives refuses I W V asked out out err err_now (code_of status)
   owes_usage asked words_errors.Usage out err err_now status none told failed = usage (none refl) (ap code_of (told refl).0) (Took-nil W.took W.written out) (λ same. same) (told refl).1
   owes_usage asked words_errors.Memory out err err_now status none told failed = no_memory (ap code_of (failed refl).0) (Took-nil W.took W.written out) (failed refl).1
+
+  -- the arguments are words
+  pub owes_words : (arguments : Result Arguments Error) (words : List (List ℕ)) (out out_now : T) (err err_now : D) (status : ℕ) → MatchResult arguments (λ all. words ≡ words_of all) (λ why. ⊥) →
+      Owes R gives refuses I W V (asked words) out out_now err err_now status → OwesFor R gives refuses I W V arguments out out_now err err_now status
+  owes_words (Ok all) words out out_now err err_now status are h = subst (λ (x : List (List ℕ)). Owes R gives refuses I W V (asked x) out out_now err err_now status) are h
+  owes_words (Err why) words out out_now err err_now status are h = absurd are
+
+  owes_without : (error : WordsError) (out : T) (err err_now : D) (status : Status) → (error ≡ words_errors.Usage → (status ≡ the_status.WrongWords) × Reports V err err_now usage_line) → (error ≡ words_errors.Memory → (status ≡ the_status.Fault) × Reports V err err_now (fault_line Memory)) →
+      OwesWithout R gives refuses I W V error out out err err_now (code_of status)
+  owes_without words_errors.Usage out err err_now status told failed = (ap code_of (told refl).0, Took-nil W.took W.written out, (λ same. same), (told refl).1)
+  owes_without words_errors.Memory out err err_now status told failed = (ap code_of (failed refl).0, Took-nil W.took W.written out, (λ same. same), (failed refl).1)
+
+  -- there are no words
+  pub owes_no_words : (arguments : Result Arguments Error) (error : WordsError) (out : T) (err err_now : D) (status : Status) → MatchResult arguments (λ all. error ≡ words_errors.Memory) (λ why. error ≡ no_words why) →
+      (error ≡ words_errors.Usage → (status ≡ the_status.WrongWords) × Reports V err err_now usage_line) → (error ≡ words_errors.Memory → (status ≡ the_status.Fault) × Reports V err err_now (fault_line Memory)) →
+      OwesFor R gives refuses I W V arguments out out err err_now (code_of status)
+  owes_no_words (Ok all) error out err err_now status is told failed = no_memory (ap code_of (failed is).0) (Took-nil W.took W.written out) (failed is).1
+  owes_no_words (Err why) error out err err_now status is told failed = subst (λ (x : WordsError). OwesWithout R gives refuses I W V x out out err err_now (code_of status)) is (owes_without error out err err_now status told failed)

@@ -1,4 +1,5 @@
 pub mod Lines
 pub mod Endings
 pub mod Names
+pub mod Arguments
 pub mod Owed

@@ -1,5 +1,5 @@
 -- What the program owes for its words.
-use Rattle.std.specs.Prelude.{⊤, ◌≡◌, ◌⊎◌, ℕ, ◌^◌, List, [], Bool, true, Option, Some, None, Result, Ok, Err}
+use Rattle.std.specs.Prelude.{⊤, ◌≡◌, ◌⊎◌, ℕ, ◌^◌, List, [], Bool, true, false, Option, Some, None, Result, Ok, Err}
 use Rattle.std.specs.List.{Contains}
 use Rattle.ion_model.specs.declared.value.Value.{Value}
 use Rattle.ion_model.specs.declared.refusal.Refusal.{Refusal as the_refusal}
@@ -24,9 +24,13 @@ use Rattle.ion_docs.specs.Loaded.{IsLoaded}
 use Rattle.ion_docs.specs.declared.comparison.Verdict.{Verdict}
 use Rattle.ion_docs.specs.declared.conversion.Target.{Target}
 use Rattle.ion_docs.specs.declared.conversion.Target.TheVariants as target
-use Rattle.ion_words.specs.Asked.{Asked, Job, check, show, convert, compare, names_of}
+use Rattle.std.specs.declared.io.Error.{Error}
+use Rattle.ion_words.specs.Asked.{Asked, Job, check, show, convert, compare, names_of_job, names_with, asked}
+use Rattle.ion_words.specs.declared.request.WordsError.{WordsError}
+use Rattle.ion_words.specs.declared.request.WordsError.TheVariants as words_errors
 use Rattle.ion_words.specs.declared.request.Encoding.{Encoding}
 use Rattle.ion_words.specs.declared.request.Encoding.TheVariants as encoding
+use Rattle.ion_cmd.specs.Arguments.{Arguments, words_of, no_words}
 use Rattle.ion_cmd.specs.Endings.{answer_line, verdict_line, EndsChecked, EndsShown, EndsCompared, PassesOn}
 use Rattle.ion_cmd.specs.Lines.{fault_line, refusal_line, usage_line, Reports}
 use Rattle.ion_cmd.specs.Names.{Name}
@@ -120,10 +124,10 @@ module _ {X : Type 0} (R : Inlet X) (gives : Name → X → Type 0) (refuses : N
   IsStopped l names large failed TooLarge = large
   IsStopped l names large failed Open = (name : Name) × Contains names name × refuses name
 
-  -- why what is asked for was stopped
+  -- why what is asked for was stopped: at the catalog; or at the documents, once the catalog was loaded
   abbrev pub IsStoppedAt : {Y : Type 0} → Items Y → Asked → Limits → Bool → Fault → Type 0
-  IsStoppedAt I asked l failed fault = IsStopped l (names_of asked)
-      ((g : the_catalog) × IsCatalog R gives asked.catalog l (Ok g) × NeedsLarge R gives I asked.job g l) failed fault
+  IsStoppedAt I asked l failed fault = IsStopped l (names_with asked.catalog []) ⊥ false fault
+      ⊎ ((g : the_catalog) × IsCatalog R gives asked.catalog l (Ok g) × IsStopped l (names_of_job asked.job) (NeedsLarge R gives I asked.job g l) failed fault)
 
 -- what is told on the errors where a command ended so: whose refusal it was, or nothing
 abbrev pub TellsErrors : {D : Type 0} → Outlet D → D → D → Ending → Type 0
@@ -152,3 +156,13 @@ module _ {X Y T D : Type 0} (R : Inlet X) (gives : Name → X → Type 0) (refus
     -- there was no memory for the words
     no_memory : status ≡ 4 → Took W.took W.written out out_now [] → Reports V err err_now (fault_line Memory)
         → Owes asked out out_now err err_now status
+
+  -- where there are no words: the usage line for an argument that is no text, and a fault for want of memory
+  abbrev pub OwesWithout : WordsError → T → T → D → D → ℕ → Type 0
+  OwesWithout words_errors.Usage out out_now err err_now status = (status ≡ 3) × Took W.took W.written out out_now [] × PassesOn W out out_now × Reports V err err_now usage_line
+  OwesWithout words_errors.Memory out out_now err err_now status = (status ≡ 4) × Took W.took W.written out out_now [] × PassesOn W out out_now × Reports V err err_now (fault_line Memory)
+
+  -- What the program owes for the arguments of the process: what it owes for the words that they are, or for want of words.
+  abbrev pub OwesFor : Result Arguments Error → T → T → D → D → ℕ → Type 0
+  OwesFor (Ok arguments) out out_now err err_now status = Owes (asked (words_of arguments)) out out_now err err_now status
+  OwesFor (Err why) out out_now err err_now status = OwesWithout (no_words why) out out_now err err_now status

@@ -1,12 +1,17 @@
 //! The file system, the standard input and the arguments of the process.
+ghost use Rattle.std.specs.Prelude.{◌≡◌, map, drop, string_bytes, MatchResult, IfOk, IfErr};
+ghost use Rattle.std.specs.Vec.Iter.{into_iter_items};
+ghost use Rattle.ion_cmd.specs.Arguments.{words_of, no_words};
 
 use crate::sources::Sources;
 use ion_symtab::{Fault, FromRead, Inlet};
 use ion_words::WordsError;
+use std::alloc::{AllocError, Global};
+use std::env::Args;
 use std::fs::File;
+use std::io;
 use std::io::{ErrorKind, Read};
 use std::rt::Stdin;
-use std::{env, io};
 
 /// An open file, or the standard input.
 #[derive(Drop)]
@@ -38,7 +43,7 @@ impl<'r> FileSystem<'r> {
 }
 
 impl Sources for FileSystem<'_> {
-    ghost use Rattle.std.specs.Prelude.{⊤, ◌≡◌, []};
+    ghost use Rattle.std.specs.Prelude.{◌≡◌, ◌≢◌, [], codes};
 
     type Input = FromRead<Source>;
 
@@ -46,7 +51,9 @@ impl Sources for FileSystem<'_> {
     ghost gives = { λ _ _ input.
         (⟦<FromRead<Source> as Inlet>⟧.handed input ≡ []) × (⟦<FromRead<Source> as Inlet>⟧.ends input ≡ []) };
 
-    ghost refuses = { λ _ _. ⊤ };
+    /// Any name of a file may be refused, since nothing is known of what can be opened; the standard
+    /// input never is.
+    ghost refuses = { λ _ name. name ≢ codes "-" };
 
     fn source(&mut self, name: &str) -> Result<FromRead<Source>, Fault> {
         if name == "-" {
@@ -60,13 +67,27 @@ impl Sources for FileSystem<'_> {
     }
 }
 
-/// The arguments of the process behind the program's name.
+/// The words among the arguments of the process that `env::args` gave: those behind the program's name.
 ///
-/// `Usage` where one is no UTF-8 text, and `Memory` where a growth was refused.
-pub fn arguments(rt: &HostRuntime) -> Result<Vec<String>, WordsError> {
-    match env::args(rt) {
-        Ok(all) => Ok(all.skip(1).collect(rt.alloc())?),
-        Err(error) if error.kind() == ErrorKind::OutOfMemory => Err(WordsError::Memory),
+/// `Usage` where an argument is no UTF-8 text, and `Memory` where a growth was refused.
+pub fn words_given(alloc: Global, arguments: io::Result<Args>) -> Result<Vec<String>, WordsError>
+    ensures words { IfOk result (λ words. MatchResult arguments
+        (λ all. map string_bytes words.items ≡ words_of all)
+        (λ _. ⊥)) }
+    ensures error { IfErr result (λ error. MatchResult arguments
+        (λ all. error ≡ WordsError.Memory)
+        (λ why. error ≡ no_words why)) }
+{
+    match arguments {
+        Ok(all) => Ok(behind_first(alloc, all)?),
+        Err(why) if why.kind() == ErrorKind::OutOfMemory => Err(WordsError::Memory),
         Err(_) => Err(WordsError::Usage),
     }
+}
+
+/// All arguments behind the first.
+fn behind_first(alloc: Global, arguments: Args) -> Result<Vec<String>, AllocError>
+    ensures { IfOk result (λ words. words.items ≡ drop 1 (into_iter_items arguments)) }
+{
+    arguments.skip(1).collect(alloc)
 }

@@ -1,6 +1,7 @@
 //! What the words mean, the lines and the statuses, over documents in memory.
 
 mod devices;
+mod documents;
 mod words;
 
 use crate::run::run;
@@ -405,8 +406,9 @@ fn each_read_fails(rt: HostRuntime) -> Result<(), Fail> {
     let alloc = rt.alloc();
     for fails in &["left", "right"] {
         for fails_at in 0..10 {
+            let files = [("left", FILES[2].1), ("right", FILES[2].1)];
             let mut shelf = FrailShelf {
-                octets: FILES[2].1,
+                files: files.as_slice(),
                 fails,
                 fails_at,
             };

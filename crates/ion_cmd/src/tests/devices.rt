@@ -28,10 +28,11 @@ impl<'a> Sources for Shelf<'a> {
     }
 }
 
-/// One document under every name; the reader of the name `fails` fails at one call, counted from 0.
+/// Documents by name, each given one octet a call; the reader of the name `fails` fails at one call, counted
+/// from 0.
 #[derive(Drop)]
 pub struct FrailShelf<'a> {
-    pub octets: &'a [u8],
+    pub files: &'a [(&'a str, &'a [u8])],
     pub fails: &'a str,
     pub fails_at: u64,
 }
@@ -51,11 +52,14 @@ impl<'a> Sources for FrailShelf<'a> {
         } else {
             u64::MAX
         };
-        Ok(FromRead::new(Frail {
-            octets: self.octets,
-            calls: 0,
-            fails_at,
-        }))
+        match self.files.iter().find(|file| file.0 == name) {
+            Some(file) => Ok(FromRead::new(Frail {
+                octets: file.1,
+                calls: 0,
+                fails_at,
+            })),
+            None => Err(Fault::Open),
+        }
     }
 }
 
