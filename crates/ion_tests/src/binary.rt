@@ -156,7 +156,37 @@ fn meets(rt: &impl Abort, answers: &Answers, row: &Row) {
     assert_eq!(rt; answers.refusal, row.refusal, "{row:?}");
 }
 
-/// The document in two pieces, at each cut, and in single octets gives the row's answers.
+/// A prefix is refused as the row is, from the octet on that decided; one that is shorter is a document
+/// or ends inside.
+fn meets_as_prefix(rt: &impl Abort, answers: &Answers, row: &Row, size: usize) {
+    match row.refusal {
+        Some(Refusal { offset, reason }) if reason != Reason::Incomplete && size as u64 >= offset =>
+            {
+                assert_eq!(rt; answers.refusal, row.refusal, "{row:?} {size}");
+            }
+        _ => match answers.refusal {
+            None => {}
+            Some(Refusal { offset, reason }) => {
+                assert_eq!(rt; reason, Reason::Incomplete, "{row:?} {size}");
+                assert_eq!(rt; offset, size as u64, "{row:?} {size}");
+            }
+        },
+    }
+}
+
+/// Reads each prefix of a row's document.
+fn read_prefixes(rt: &impl Abort, alloc: Global, row: &Row) -> Result<(), Fail> {
+    let limits = Limits::new(row.depth, row.item, 1).ok_or("limits")?;
+    let document = behind_marker(alloc, row.tail)?;
+    for size in 0..=document.len() {
+        let answers = read_octets(alloc, &document[..size], limits)?;
+        meets_as_prefix(rt, &answers, row, size);
+    }
+    Ok(())
+}
+
+/// The document in two pieces, at each cut, and in single octets gives the row's answers; each prefix is answered as it
+/// has to be.
 fn meets_at_each_cut(rt: &impl Abort, alloc: Global, row: &Row) -> Result<(), Fail> {
     let limits = Limits::new(row.depth, row.item, 1).ok_or("limits")?;
     let document = behind_marker(alloc, row.tail)?;
@@ -164,7 +194,7 @@ fn meets_at_each_cut(rt: &impl Abort, alloc: Global, row: &Row) -> Result<(), Fa
         meets(rt, &read_cut(alloc, document.as_slice(), cut, limits)?, row);
     }
     meets(rt, &read_octets(alloc, document.as_slice(), limits)?, row);
-    Ok(())
+    read_prefixes(rt, alloc, row)
 }
 
 /// Documents within the usual limits that are accepted.

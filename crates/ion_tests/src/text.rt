@@ -2,6 +2,7 @@
 ghost use Rattle.std.specs.Prelude.{◌≡◌, ◌+◌, ◌≤◌, ◌<◌, ◌^◌, true, length, IfOk, None};
 ghost use Rattle.ion_text.specs.Progress.{BeginsWith};
 
+mod malicious;
 mod writer;
 
 use ion_docs::DocReader;
@@ -137,6 +138,7 @@ pub(crate) fn read<I: Items + Drop>(
 fn meets<R: Abort + Drop>(
     rt: &R,
     alloc: Global,
+    catalog: &Catalog,
     row: Row,
     document: &[u8],
     cut: usize,
@@ -148,27 +150,65 @@ fn meets<R: Abort + Drop>(
     requires room { length document.now < 2 ^ 63 }
 {
     let limits = Limits::new(row.depth, row.item, 9).unwrap_or(Limits::usual());
-    let catalog = Catalog::new(alloc);
-    let reader = TextReader::new(alloc, &catalog, limits)?;
+    let reader = TextReader::new(alloc, catalog, limits)?;
     let answers = read(alloc, reader, document, cut, size)?;
     assert_eq!(rt; answers.totals.as_slice(), row.totals);
     assert_eq!(rt; answers.refusal, row.refusal);
-    let reader = DocReader::new(alloc, &catalog, limits)?;
+    let reader = DocReader::new(alloc, catalog, limits)?;
     let answers = read(alloc, reader, document, cut, size)?;
     assert_eq!(rt; answers.totals.as_slice(), row.totals);
     assert_eq!(rt; answers.refusal, row.refusal);
     Ok(())
 }
 
-/// The row's answers come whole, in single octets and at every cut.
-fn holds<R: Abort + Drop>(rt: &R, alloc: Global, row: Row) -> Result<(), Fail> {
-    let document = row.document.as_bytes();
-    for cut in 0..=document.len() {
-        for size in [1, 2, 1 << 20] {
-            meets(rt, alloc, row, document, cut, size)?;
+/// A prefix of the row's document is refused as the row is, from the octet on that decided; one that is shorter is a
+/// document, or is refused at its own end.
+fn meets_as_prefix<R: Abort + Drop>(
+    rt: &R,
+    alloc: Global,
+    catalog: &Catalog,
+    row: Row,
+    prefix: &[u8],
+) -> Result<(), Fail>
+    requires room { length prefix.now < 2 ^ 63 }
+{
+    let limits = Limits::new(row.depth, row.item, 9).unwrap_or(Limits::usual());
+    let reader = TextReader::new(alloc, catalog, limits)?;
+    let answers = read(alloc, reader, prefix, 0, 1 << 20)?;
+    let size = prefix.len() as u64;
+    match row.refusal {
+        Some(refusal) if size >= refusal.offset => {
+            assert_eq!(rt; answers.refusal, row.refusal);
+        }
+        _ => {
+            if let Some(refusal) = answers.refusal {
+                assert_eq!(rt; refusal.offset, size);
+            }
         }
     }
     Ok(())
+}
+
+/// The row's answers come whole, in single octets and at every cut, and each prefix is answered as it has to be.
+fn holds_under<R: Abort + Drop>(
+    rt: &R,
+    alloc: Global,
+    catalog: &Catalog,
+    row: Row,
+) -> Result<(), Fail> {
+    let document = row.document.as_bytes();
+    for cut in 0..=document.len() {
+        for size in [1, 2, 1 << 20] {
+            meets(rt, alloc, catalog, row, document, cut, size)?;
+        }
+        meets_as_prefix(rt, alloc, catalog, row, &document[..cut])?;
+    }
+    Ok(())
+}
+
+/// The same under a catalog of no tables.
+fn holds<R: Abort + Drop>(rt: &R, alloc: Global, row: Row) -> Result<(), Fail> {
+    holds_under(rt, alloc, &Catalog::new(alloc), row)
 }
 
 #[test]
