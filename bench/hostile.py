@@ -1,0 +1,303 @@
+#!/usr/bin/env python3
+"""Times a built ion_cmd on documents that are made to cost much: hostile.py PROGRAM [PART [CASE..]].
+
+Each case is measured at a quarter, a half and the whole of its size: processor time, and the peak of memory, also as a multiple of
+the octets read. A cost that grows with the octets doubles from column to column; one that grows with their square takes four times
+as long. PART (usually 1) is a factor on all sizes. A run is stopped after 120 seconds, and has no more memory than the limit that
+is printed (as by `ulimit -v`). The octets are the same at each call.
+"""
+import os
+import random
+import resource
+import subprocess
+import sys
+import tempfile
+
+MARKER = b"\xe0\x01\x00\xea"
+MIB = 1 << 20
+MILLION = 1000000
+SECONDS = 120
+SMALL = 32 * MIB  # for what has to be read in flat memory
+LARGE = 4 << 30
+
+
+def var_uint(number):
+    octets = [0x80 | number & 0x7F]
+    number >>= 7
+    while number:
+        octets.insert(0, number & 0x7F)
+        number >>= 7
+    return bytes(octets)
+
+
+def uint(number):
+    return number.to_bytes((number.bit_length() + 7) // 8, "big")
+
+
+def framed(code, body):
+    if len(body) < 14:
+        return bytes([code << 4 | len(body)]) + body
+    return bytes([code << 4 | 14]) + var_uint(len(body)) + body
+
+
+def text(value):
+    return framed(8, value.encode())
+
+
+def field(name, value):
+    return var_uint(name) + value
+
+
+def annotated(names, value):
+    names = b"".join(var_uint(name) for name in names)
+    return framed(14, var_uint(len(names)) + names + value)
+
+
+def table(symbols, imports=b""):
+    """A local symbol table: the ids 3, 6 and 7 are `$ion_symbol_table`, `imports` and `symbols`."""
+    return annotated([3], framed(13, imports + field(7, framed(11, b"".join(map(text, symbols))))))
+
+
+APPENDED = field(6, b"\x71\x03")
+
+
+def filled(piece, octets):
+    return piece * (octets // len(piece))
+
+
+# Streams that hold next to nothing.
+
+
+def pads(octets):
+    return MARKER + framed(0, bytes(13)) * (octets // 14)
+
+
+def one_pad(octets):
+    return MARKER + framed(0, bytes(octets))
+
+
+def blanks(octets):
+    return filled(b" \t\n\r\n  ", octets)
+
+
+def line_comments(octets):
+    return filled(b"// a comment\n", octets)
+
+
+def one_comment(octets):
+    return b"/*" + filled(b"* /", octets) + b"*/"
+
+
+def binary_markers(octets):
+    return MARKER * (octets // 4)
+
+
+def text_markers(octets):
+    return b"$ion_1_0 " * (octets // 9)
+
+
+# One item of the usual limit, 16 MiB.
+
+
+def nulls(octets):
+    return MARKER + framed(11, b"\x0f" * (octets - 8))
+
+
+def nulls_in_text(octets):
+    return b"[" + b"null," * ((octets - 8) // 5) + b"]"
+
+
+def nested(octets):
+    """Lists nested to the usual depth around a long string."""
+    value = framed(8, b"a" * (octets - 1024))
+    for _ in range(63):
+        value = framed(11, value)
+    return MARKER + value
+
+
+def nested_in_text(octets):
+    return b"[" * 63 + b'"' + b"a" * (octets - 1024) + b'"' + b"]" * 63
+
+
+def annotations(octets):
+    return MARKER + annotated([4] * (octets - 16), b"\x0f")
+
+
+def annotations_in_text(octets):
+    return b"a::" * (octets // 3 - 4) + b"1"
+
+
+# Structs and tables, by how many fields or symbols they have.
+
+
+def names(count):
+    return [f"{number:x}" for number in range(count)]
+
+
+def one_name(count):
+    return MARKER + framed(13, b"\x84\x11" * count)
+
+
+def many_names(count, backwards=False):
+    fields = [field(10 + place, b"\x11") for place in range(count)]
+    return MARKER + table(names(count)) + framed(13, b"".join(reversed(fields) if backwards else fields))
+
+
+def backward_names(count):
+    return many_names(count, True)
+
+
+def symbols(count):
+    """A list of symbols, in text."""
+    return b"[" + b",".join(b"a" + name.encode() for name in names(count)) + b"]"
+
+
+def tables(count):
+    """Tables of one symbol that are appended, and each new symbol as a value."""
+    pieces = [MARKER]
+    for place, name in enumerate(names(count)):
+        pieces.append(table([name], APPENDED))
+        pieces.append(framed(7, uint(10 + place)))
+    return b"".join(pieces)
+
+
+def tables_in_text(count):
+    return b"".join(b'$ion_symbol_table::{imports:$ion_symbol_table,symbols:["%x"]} $%d\n' % (place, 10 + place) for place in range(count))
+
+
+def importing(count, tables=1000):
+    """Imports of one slot each, from the tables of `shelf`."""
+    imports = [framed(13, field(4, text(f"table {place % tables}")) + field(5, b"\x21\x01") + field(8, b"\x21\x01")) for place in range(count)]
+    return MARKER + annotated([3], framed(13, field(6, framed(11, b"".join(imports)))))
+
+
+def shelf(tables=1000):
+    """A catalog: shared tables of one symbol; the id 9 is `$ion_shared_symbol_table`."""
+    return MARKER + b"".join(shared(f"table {place}", 1, ["a"]) for place in range(tables))
+
+
+def shared(name, version, symbols):
+    return annotated([9], framed(13, field(4, text(name)) + field(5, framed(2, uint(version))) + field(7, framed(11, b"".join(map(text, symbols))))))
+
+
+def catalog_of_names(count):
+    return MARKER + b"".join(shared(f"table {place}", 1, []) for place in range(count))
+
+
+def catalog_of_versions(count):
+    return MARKER + b"".join(shared("table", count - place, []) for place in range(count))
+
+
+def folded(a, b):
+    product = a * b
+    return product & (1 << 64) - 1 ^ product >> 64
+
+
+MULTIPLIER = 0x9E3779B97F4A7C15
+
+
+def colliding(count):
+    """A list of symbols whose texts have one hash under the maps' hasher of the fixed seed: the third eight octets are the state
+    behind the first sixteen, so a factor is 0 whatever the last eight octets are."""
+    begun = folded(0x243F6A8885A308D3 ^ 1, MULTIPLIER ^ 16)
+    letters = "abcdefghijklmnopqrstuvwxyz"
+    chosen = random.Random(1)
+    while True:
+        front = "".join(chosen.choices(letters, k=16)).encode()
+        state = folded(
+            int.from_bytes(front[:8], "little") ^ begun + 32,
+            int.from_bytes(front[8:], "little") ^ MULTIPLIER,
+        )
+        middle = state.to_bytes(8, "little")
+        if all(0x20 <= octet < 0x7F and octet not in b"'\\" for octet in middle):
+            break
+    return b"[" + b",".join(b"'%s%s%08x'" % (front, middle, place) for place in range(count)) + b"]"
+
+
+STREAM = 100 * MIB
+ITEM = 16 * MIB - 64
+# The name, the words, what each document is, their size, and the limit of memory.
+CASES = [
+    ("pads", "check A", [pads], STREAM, SMALL),
+    ("one pad", "check A", [one_pad], STREAM, SMALL),
+    ("blanks", "check A", [blanks], STREAM, SMALL),
+    ("comments", "check A", [line_comments], STREAM, SMALL),
+    ("one comment", "check A", [one_comment], STREAM, SMALL),
+    ("version markers", "check A", [binary_markers], STREAM, SMALL),
+    ("version markers in text", "check A", [text_markers], STREAM, SMALL),
+    ("nulls", "check A", [nulls], ITEM, LARGE),
+    ("nulls, to binary", "convert A --to binary", [nulls], ITEM, LARGE),
+    ("nulls in text", "check A", [nulls_in_text], ITEM, LARGE),
+    ("nested", "check A", [nested], ITEM, LARGE),
+    ("nested, to binary", "convert A --to binary", [nested], ITEM, LARGE),
+    ("nested in text, to binary", "convert A --to binary", [nested_in_text], ITEM, LARGE),
+    ("nested, to text", "convert A --to text", [nested], ITEM, LARGE),
+    ("annotations", "check A", [annotations], ITEM, LARGE),
+    ("annotations, to binary", "convert A --to binary", [annotations], ITEM, LARGE),
+    ("annotations in text", "check A", [annotations_in_text], ITEM, LARGE),
+    ("a struct of one name", "check A", [one_name], MILLION, LARGE),
+    ("a struct of one name, compared", "compare A B", [one_name, one_name], MILLION, LARGE),
+    ("a struct of many names", "check A", [many_names], MILLION, LARGE),
+    ("many names, to binary", "convert A --to binary", [many_names], MILLION, LARGE),
+    ("many names, compared", "compare A B", [many_names, many_names], MILLION, LARGE),
+    ("many names, the other way round", "compare A B", [many_names, backward_names], MILLION, LARGE),
+    ("symbols, to binary", "convert A --to binary", [symbols], MILLION, LARGE),
+    ("colliding symbols, to binary", "convert A --to binary", [colliding], MILLION // 4, LARGE),
+    ("appended tables", "check A", [tables], MILLION, LARGE),
+    ("appended tables, to binary", "convert A --to binary", [tables], MILLION, LARGE),
+    ("appended tables in text", "check A", [tables_in_text], MILLION // 4, LARGE),
+    ("imports", "check A --catalog B", [importing, lambda count: shelf()], MILLION // 4, LARGE),
+    ("a catalog of many names", "check A --catalog B", [lambda count: MARKER, catalog_of_names], MILLION // 4, LARGE),
+    ("a catalog of many versions", "check A --catalog B", [lambda count: MARKER, catalog_of_versions], MILLION // 4, LARGE),
+]
+
+
+def written(document, size, path):
+    """Writes a document, in a process of its own, whose memory isn't counted to the runs; gives its octets."""
+    child = os.fork()
+    if child == 0:
+        with open(path, "wb") as file:
+            file.write(document(size))
+        os._exit(0)
+    os.waitpid(child, 0)
+    return os.path.getsize(path)
+
+
+def measured(program, words, folder, limit):
+    """The processor time and the peak of memory of a run, and how it ended where that isn't well."""
+    words = [os.path.join(folder, word) if word in "AB" else word for word in words.split()]
+
+    def limited():
+        resource.setrlimit(resource.RLIMIT_AS, (limit, limit))
+        resource.setrlimit(resource.RLIMIT_CPU, (SECONDS, SECONDS))
+
+    with open(os.path.join(folder, "err"), "w+") as err:
+        child = subprocess.Popen([program, *words], stdout=subprocess.DEVNULL, stderr=err, preexec_fn=limited)
+        _, status, used = os.wait4(child.pid, 0)
+        child.returncode = status
+        err.seek(0)
+        told = err.read().strip()
+    if os.WIFSIGNALED(status):
+        told = "stopped"
+    return used.ru_utime + used.ru_stime, used.ru_maxrss * 1024, told
+
+
+def main():
+    program = os.path.abspath(sys.argv[1])
+    part = float(sys.argv[2]) if len(sys.argv) > 2 else 1
+    wanted = sys.argv[3:]
+    for name, words, documents, size, limit in CASES:
+        if wanted and name not in wanted:
+            continue
+        columns = []
+        with tempfile.TemporaryDirectory() as folder:
+            for share in [4, 2, 1]:
+                octets = 0
+                for letter, document in zip("AB", documents):
+                    octets += written(document, int(size * part / share), os.path.join(folder, letter))
+                seconds, peak, told = measured(program, words, folder, limit)
+                columns.append(f"{octets / 1e6:7.1f} MB {seconds:7.2f} s {peak / MIB:7.1f} MiB {peak / octets:6.1f}x" + (f" {told}" if told else ""))
+        print(f"{name} (below {limit / MIB:.0f} MiB): " + " | ".join(columns), flush=True)
+
+
+main()
