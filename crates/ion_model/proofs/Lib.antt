@@ -1,5 +1,3 @@
-pub mod OrderLaws
-pub mod OrderTotal
 pub mod Parts
 pub mod Heads
 pub mod OrderEqual

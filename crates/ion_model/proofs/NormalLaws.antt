@@ -10,7 +10,7 @@ use denote.Param.Members.{Mut}
 use denote.Ref.{Bor}
 use Rattle.std.specs.Ordering.{is_lt}
 use Rattle.ion_model.specs.Order.{order, field_cmp}
-use Rattle.ion_model.proofs.OrderTotal.{order-total, field_cmp-total}
+use Rattle.ion_model.specs.OrderTotal.{order-total, field_cmp-total}
 use Rattle.std.proofs.Common.{cond}
 use Rattle.std.proofs.lemmas.Bool.{cases_eq}
 use lib.Pointwise.{pointwise}

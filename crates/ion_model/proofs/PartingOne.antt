@@ -13,7 +13,7 @@ use Rattle.ion_model.specs.Measures.{Layer}
 use Rattle.ion_model.specs.Parting.{AtItems, AtFields, ItemsPart, FieldsPart, IsPath, LeastParting, heads_same, once_named}
 use Rattle.ion_model.specs.Same.{same, scalar, items, fields, field_count}
 use Rattle.ion_model.specs.Symbols.{symbol_same, symbol_cmp}
-use Rattle.ion_model.proofs.OrderTotal.{symbol_cmp-total}
+use Rattle.ion_model.specs.OrderTotal.{symbol_cmp-total}
 use Rattle.ion_model.proofs.Parts.{scalar_from, symbol_is}
 use Rattle.ion_model.proofs.PartingLaws.{tag, contra, path_differs}
 

@@ -12,6 +12,8 @@ pub mod Kept
 pub mod KeptLaws
 pub mod Same
 pub mod Order
+pub mod OrderLaws
+pub mod OrderTotal
 pub mod Normal
 pub mod MeasureLaws
 pub mod Counts

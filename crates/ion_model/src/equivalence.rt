@@ -21,7 +21,7 @@ use std::alloc::Global;
 /// Whether two values are equivalent, as `same_slow` says. The only refusal is `Memory`. Values that
 /// agree part by part, fields as they stand, take no memory. Others are compared as they stand down to
 /// their structs; two structs of n fields each are copied, their fields sorted, inner levels first, and
-/// then compared, which costs some n log n comparisons of fields.
+/// then compared, which costs some n log n comparisons of fields. Calls itself once for each level.
 pub fn equivalent(alloc: Global, a: &Value, b: &Value) -> Result<bool, Reason>
     ensures { MatchResult result (λ r. r ≡ same a.now b.now) (λ e. e ≡ reasons.Memory) }
 {

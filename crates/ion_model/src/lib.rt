@@ -12,6 +12,7 @@ mod kind;
 pub mod laws;
 mod measures;
 mod normal;
+mod orders;
 mod path;
 mod refusal;
 mod same;

@@ -64,7 +64,8 @@ impl Path {
 /// one of two lists or s-expressions lacks; or by `Part::Name` to the least name, in the order of symbols,
 /// with which some value stands in different numbers in two structs (Ion 1.0, "The Ion Data Model": a
 /// struct is unordered, and a name may repeat). It goes on behind a name only if the name stands once in
-/// both. The only refusal is `Memory`. Each step down costs what `equivalent` does.
+/// both. The only refusal is `Memory`. Each step down costs what `equivalent` does. Calls itself once for
+/// each level.
 pub fn parting(alloc: Global, a: &Value, b: &Value) -> Result<Option<Path>, Reason>
     ensures { MatchResult result (λ path. IsParting path a.now b.now) (λ e. e ≡ reasons.Memory) }
 {

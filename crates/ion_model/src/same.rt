@@ -11,7 +11,8 @@ use crate::value::{Field, Payload, Value};
 /// Whether two values are equivalent: their annotations agree in order, their kinds agree, both are
 /// null or neither is, scalars agree in every part, lists and s-expressions are as long and agree
 /// place by place, and every field of either struct stands as often in the one as in the other (Ion
-/// 1.0, "The Ion Data Model"). Takes no memory; a struct of n fields costs some n² comparisons.
+/// 1.0, "The Ion Data Model"). Takes no memory; a struct of n fields costs some n² comparisons. Calls
+/// itself once for each level.
 pub fn same_slow(a: &Value, b: &Value) -> bool
     ensures { result ≡ same a.now b.now }
 {

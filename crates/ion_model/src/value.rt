@@ -11,6 +11,10 @@ use crate::timestamp::Timestamp;
 use crate::whole::Whole;
 
 /// A value (Ion 1.0, "The Ion Data Model").
+///
+/// What goes through a value, or lets it go, calls itself once for each level of containers. The values
+/// that readers give are 128 levels deep at most (`Limits` of `ion_symtab`); on a stack of 8 MiB those of
+/// 10,000 levels went through every call.
 #[cycle(value)]
 #[derive(Debug, Drop)]
 pub struct Value {

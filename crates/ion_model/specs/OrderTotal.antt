@@ -1,8 +1,9 @@
 -- `order` is a total order, and tells any two values apart.
-use Rattle.std.proofs.Common.{ℕ, zero, suc, max, Ordering, refl, rules, arith, ap, ◌∙◌, sym}
+use Rattle.std.proofs.Common.{◌≡◌, ℕ, List, Option, None, Some, zero, suc, max, Ordering, refl, rules, arith, ap, ◌∙◌, sym}
 use Rattle.std.specs.Cmp.{IsTotalOrder}
 use Rattle.std.specs.Cmp.Rules.{comparing}
-use Rattle.std.specs.Ordering.{ordering_reverse}
+use Rattle.std.specs.Ordering.{ordering_reverse, is_eq}
+use Rattle.std.proofs.lemmas.Map.Text.{is_eq-slice_cmp}
 use Rattle.std.proofs.lemmas.Cmp.{then_total, on_total, lists_total, nat_cmp_total, int_cmp_total, nat_list_cmp_total}
 use Rattle.std.specs.Cmp.{bool_cmp_total}
 use Rattle.std.specs.Cmp.Lexicographic.{options_total}
@@ -11,15 +12,22 @@ use Rattle.ion_model.specs.Timestamps.{precision_rank, date_cmp, time_cmp, times
 use Rattle.ion_model.specs.Measures.{depth}
 use Rattle.ion_model.specs.Same.{items, fields, scalar}
 use Rattle.ion_model.specs.Order.{order, order_to, value_cmp, layer_cmp, field_cmp, scalar_cmp}
-use Rattle.ion_model.specs.Symbols.{symbol_cmp}
-use Rattle.ion_model.proofs.OrderLaws.{order-agrees}
+use Rattle.ion_model.specs.Symbols.{symbol_same, symbol_cmp}
+use Rattle.ion_model.specs.OrderLaws.{order-agrees}
 use Rattle.ion_model.specs.declared.value.Value.{Value}
 use Rattle.ion_model.specs.declared.value.Payload.TheViews.{out-Payload}
+
+-- the order of symbols has no ties but those of the same symbols
+pub symbol_ties : (s t : Option (List ℕ)) → symbol_same s t ≡ is_eq (symbol_cmp s t)
+symbol_ties None None = refl
+symbol_ties None (Some t) = refl
+symbol_ties (Some s) None = refl
+symbol_ties (Some s) (Some t) = sym (is_eq-slice_cmp s t)
 
 pub symbol_cmp-total : IsTotalOrder symbol_cmp
 symbol_cmp-total = search (comparing, rules)
 
-decimal_cmp-total : IsTotalOrder decimal_cmp
+pub decimal_cmp-total : IsTotalOrder decimal_cmp
 decimal_cmp-total = search (comparing, rules) depth 12
 
 timestamp_cmp-total : IsTotalOrder timestamp_cmp
