@@ -1,6 +1,7 @@
 //! Devices that octets come from.
 ghost use Rattle.std.specs.Prelude.{◌≡◌, ℕ, ◌+◌, ◌-◌, ◌^◌, ◌<◌, ◌≤◌, Bool, true, false, List, [], ◌∷◌, ◌++◌, length, take, min, IfOk, OnErr, is_err, IsErr};
 ghost use Rattle.ion_symtab.specs.Told.{Told, MayTell, known_some};
+ghost use Rattle.ion_symtab.specs.FromRead.{reader_of};
 
 use crate::history::History;
 use std::io::Read;
@@ -79,6 +80,7 @@ pub struct FromRead<R> {
 impl<R: Read> FromRead<R> {
     /// The device that tells what `inner` has left; no read is made yet.
     pub fn new(inner: R) -> FromRead<R>
+        ensures reader { reader_of result ≡ inner }
         ensures tells { (octets : List ℕ) → ⟦<FromRead<R> as Inlet>⟧.tells result octets →
             MayTell (R.remaining inner) octets }
         ensures calls { ⟦<FromRead<R> as Inlet>⟧.calls_made result ≡ 0 }
@@ -97,7 +99,7 @@ impl<R: Read> FromRead<R> {
 }
 
 impl<R: Read> Inlet for FromRead<R> {
-    ghost use Rattle.ion_symtab.specs.FromRead.{reader_of, calls_of, failed_of, handed_of, ends_of};
+    ghost use Rattle.ion_symtab.specs.FromRead.{calls_of, failed_of, handed_of, ends_of};
 
     ghost tells = { λ device. MayTell (R.remaining (reader_of device)) };
 

@@ -1,5 +1,5 @@
 //! What every reader of documents promises.
-ghost use Rattle.std.specs.Prelude.{◌≡◌, ℕ, ◌+◌, ◌*◌, ◌≤◌, ◌<◌, ◌^◌, List, [], ◌∷◌, ◌++◌, length, take, drop, Option, Result, IfOk, IfErr, IfSome, IsNone, IsSome, ◌↔◌};
+ghost use Rattle.std.specs.Prelude.{◌≡◌, ℕ, ◌+◌, ◌*◌, ◌≤◌, ◌<◌, ◌^◌, List, [], ◌∷◌, ◌++◌, length, take, drop, Option, Result, IfOk, IfErr, IfSome, IsNone, IsSome, is_some, true, false, ◌↔◌};
 ghost use Rattle.ion_model.specs.declared.value.Value.{Value};
 ghost use Rattle.ion_model.specs.declared.refusal.Reason.TheVariants.{Memory};
 ghost use Rattle.ion_symtab.specs.Trace.{Trace, Answers, Finishes, UsesAll, Grows, Streams, IsFront, plain, given_at};
@@ -16,6 +16,16 @@ pub struct Step {
     /// The next value of the document, if the last octet used ends it, or if the one behind that
     /// shows that it has ended.
     pub value: Option<Value>,
+}
+
+/// What one step used of its piece, and whether there was a value.
+#[derive(Clone, Copy, Drop, Debug)]
+pub struct Passed {
+    /// How many octets of the piece were used, from its first on: all of them where there was no
+    /// value.
+    pub used: usize,
+    /// Whether the next value of the document was passed over.
+    pub some: bool,
 }
 
 /// A reader of documents, to which the octets come in pieces of any size.
@@ -116,6 +126,46 @@ pub trait Items: Sized {
             IsNone (failed self.old) → refusal.offset ≡ taken self.old) }
         ensures fails { IfErr result (λ refusal. failed self.new ≡ Option.Some refusal) }
         ensures again { IfSome (failed self.old) (λ refusal. result ≡ Result.Err refusal) };
+
+    /// Takes up octets as `step` does, but doesn't hand out the value: only whether there was one.
+    fn pass(&mut self, piece: &[u8]) -> Result<Passed, Refusal>
+        requires room { taken self.old + length piece.now < 2 ^ 63 }
+        requires begins { IfSome (awaits self.old) (λ octet.
+            (rest : List ℕ) × (piece.now ≡ octet ∷ rest)) }
+        ensures catalog { catalog self.new ≡ catalog self.old }
+        ensures limits { limits self.new ≡ limits self.old }
+        ensures used { IfOk result (λ passed. passed.used ≤ length piece.now) }
+        ensures uses_all { IfOk result (λ passed.
+            passed.some ≡ false → passed.used ≡ length piece.now) }
+        ensures counts { IfOk result (λ passed. taken self.new ≡ taken self.old + passed.used) }
+        ensures progress { IfOk result (λ passed. passed.some ≡ true →
+            pending self.new < pending self.old + 2 * passed.used) }
+        ensures few_pending { IfOk result (λ passed.
+            pending self.new ≤ pending self.old + 2 * passed.used) }
+        ensures onward { IfOk result (λ passed. IsSome (awaits self.old) → 0 < passed.used) }
+        ensures stands { IfOk result (λ passed. (u : List ℕ) (s : List (Value × ℕ)) →
+            stands self.old u s → (value : Option Value) × (is_some value ≡ passed.some)
+            × stands self.new (u ++ take passed.used piece.now)
+            (s ++ given_at value (length u + passed.used))) }
+        ensures refuses { IfErr result (λ refusal. (u : List ℕ) (s : List (Value × ℕ)) →
+            stands self.old u s →
+            Answers (trace (catalog self.old) (limits self.old)) u s piece.now (Result.Err refusal)) }
+        ensures not_failed { IfOk result (λ passed. failed self.new ≡ Option.None) }
+        ensures awaited { IfOk result (λ passed. IfSome (awaits self.new) (λ octet.
+            (rest : List ℕ) × (drop passed.used piece.now ≡ octet ∷ rest))) }
+        ensures memory { IfErr result (λ refusal. refusal.reason ≡ Memory →
+            IsNone (failed self.old) → refusal.offset ≡ taken self.old) }
+        ensures fails { IfErr result (λ refusal. failed self.new ≡ Option.Some refusal) }
+        ensures again { IfSome (failed self.old) (λ refusal. result ≡ Result.Err refusal) }
+    {
+        match self.step(piece) {
+            Err(refusal) => Err(refusal),
+            Ok(Step { used, value }) => Ok(Passed {
+                used,
+                some: value.is_some(),
+            }),
+        }
+    }
 
     /// Ends the octets: the value that only the end shows to be whole, if there is one, or the
     /// refusal of octets that are no document.

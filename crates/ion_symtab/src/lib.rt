@@ -25,7 +25,7 @@ pub use context::Context;
 pub use fault::Fault;
 pub use history::History;
 pub use inlet::{Failed, FromRead, Inlet};
-pub use items::{Items, Step};
+pub use items::{Items, Passed, Step};
 pub use limits::Limits;
 pub use outlet::{Outlet, ToWrite};
 pub use shared_table::SharedTable;
