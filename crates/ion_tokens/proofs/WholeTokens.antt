@@ -304,3 +304,8 @@ pub colon_found : (p : Place) (r : Rest) (octets : List ℕ) → r.colon ≡ tru
 colon_found p r octets stands some e n =
     opened_left p r octets 1 (kinds.Mark marks.Colon) modes.Colon [] keeps.Nothing (subst (λ w. Opens p r.colon w modes.Colon []) (sym (first_of octets 58 (omega arith) e)) (opens_colon p r.colon stands)) (λ s u. refl) (omega arith) some
     (colon_ends (slice_index octets 1) (not_same (slice_index octets 1) 58 n) r.colon p)
+
+pub colons_found : (p : Place) (r : Rest) (octets : List ℕ) → r.colon ≡ true → 1 < length octets → slice_index octets 0 ≡ 58 → slice_index octets 1 ≡ 58 → IsFound p r octets (kinds.Mark marks.Colons) [] 2 false
+colons_found p r octets stands some e f =
+    opened_given p r octets 1 (kinds.Mark marks.Colons) modes.Colon [] keeps.Nothing (subst (λ w. Opens p r.colon w modes.Colon []) (sym (first_of octets 58 (omega arith) e)) (opens_colon p r.colon stands)) (λ s u. refl) some
+    (ap (λ (x : ℕ). next p r.colon modes.Colon x) f)

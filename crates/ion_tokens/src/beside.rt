@@ -1,12 +1,18 @@
 //! Tokens of any form that lie whole in memory: those with escapes or beyond ASCII, typed nulls, clobs and blobs, read by a
 //! machine beside the scanner's.
-ghost use Rattle.std.specs.Prelude.{◌≡◌, ◌+◌, ◌<◌, ◌^◌, length, IfSome};
+ghost use Rattle.std.specs.Prelude.{◌≡◌, ◌≢◌, ◌+◌, ◌<◌, ◌^◌, length, Ok, Err, IfOk, IfErr, IfSome};
+ghost use Rattle.ion_model.specs.declared.refusal.Reason.TheVariants.{Memory};
+ghost use Rattle.ion_tokens.specs.Bodies.{content};
 ghost use Rattle.ion_tokens.specs.Rests.{resting, past_token, lexeme_at, IsFound};
+ghost use Rattle.ion_tokens.specs.Said.{said};
 ghost use Rattle.ion_tokens.specs.Views.{known, lexeme_in, octets_in};
 
+use crate::body::body_of;
 use crate::machine::{Lexeme, Machine, Taken, takes_colon};
 use crate::mode::{Mode, Place, TokenKind};
+use crate::token::Body;
 use crate::whole::Rest;
+use ion_model::Reason;
 use std::alloc::Global;
 
 /// Reads tokens beside a scanner; it keeps the octets of the last one.
@@ -49,11 +55,13 @@ impl TokenReader {
         }
     }
 
-    /// The octets that are kept of the token found last: a text in UTF-8, or the octets of a clob or a blob.
-    pub fn octets(&self) -> &[u8]
-        ensures { result.now ≡ octets_in self.now }
+    /// What the token found last says as one of this kind. What is kept of it is taken.
+    pub fn body<'p>(&mut self, kind: TokenKind) -> Result<Body<'p>, Reason>
+        ensures says { IfOk result (λ body. said kind (octets_in self.old) ≡ Ok (content body)) }
+        ensures refused { IfErr result (λ reason. reason ≢ Memory →
+            said kind (octets_in self.old) ≡ Err reason) }
     {
-        self.machine.ended.as_slice()
+        body_of(self.machine.alloc, kind, &mut self.machine.ended, &[])
     }
 }
 
