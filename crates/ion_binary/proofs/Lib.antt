@@ -5,8 +5,9 @@ pub mod Levels
 pub mod Insides
 pub mod Encoded
 pub mod Numbered
-pub mod Places
+pub mod Ids
 pub mod Tabled
 pub mod Fronts
 pub mod Wholes
 pub mod Slotted
+pub mod Walks

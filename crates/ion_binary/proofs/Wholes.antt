@@ -1,5 +1,5 @@
 -- What is found at the front of octets in memory.
-use Rattle.std.proofs.Common.{◌≡◌, ℕ, ◌+◌, ◌-◌, ◌^◌, ◌<◌, ◌≤◌, List, [], ◌∷◌, ◌++◌, length, take, drop, get_or, Option, Some, None, IfSome, Bool, refl, ap, sym, subst, ◌∙◌, arith, append_assoc, length-append, length-take, length-drop, Ok}
+use Rattle.std.proofs.Common.{◌≡◌, ℕ, ◌+◌, ◌-◌, ◌<◌, ◌≤◌, List, [], ◌∷◌, ◌++◌, length, take, drop, get_or, Option, Some, None, IfSome, Bool, refl, ap, sym, subst, ◌∙◌, arith, append_assoc, length-append, length-take, length-drop, Ok}
 use Rattle.std.proofs.lemmas.Grind.{common_steps}
 use Rattle.std.proofs.lemmas.List.{length-take-le, take-append-drop}
 use Rattle.std.proofs.Math.Seq.{take-add, get_or-append_seam, set-append_seam}
@@ -30,9 +30,8 @@ use Rattle.ion_binary.specs.declared.state.Phase.TheVariants.{Ready}
 use Rattle.ion_binary.specs.Opening.{opening_of}
 use Rattle.ion_binary.specs.Grammar.{Header, listed, IsScalar, Plain, is_null, is_truth, is_scalar, is_listing, is_struct, is_ordered, Binary, unannotated, wrapped, Ids, one_id, IsPad, Sequence, one_more, padded, Fields, one_field, padded_field}
 use Rattle.ion_binary.specs.Framed.{Heads, Framed, IsListing, IsStruct, Wraps}
-use Rattle.ion_binary.specs.Judged.{scalar_flat}
 use Rattle.ion_binary.specs.Stands.{depths, field_depths}
-use Rattle.ion_binary.specs.Complete.{depth-listed, depth-fields, depth-annotated, field_deepest-more, Admits, binary_run, binary_some}
+use Rattle.ion_binary.specs.Complete.{depth-listed, depth-fields, depth-annotated, field_deepest-more, binary_run, binary_some}
 use Rattle.ion_binary.specs.Machine.{deliver, levels, unfit, or_else, misfits, stray, nameless}
 use Rattle.ion_binary.specs.Sound.{ends_back, misfits_ends}
 use Rattle.ion_binary.specs.Run.{run}

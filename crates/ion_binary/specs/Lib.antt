@@ -19,7 +19,9 @@ pub mod Laws
 pub mod StandsLaws
 pub mod Bulk
 pub mod Framed
+pub mod Walked
 pub mod Output
+pub mod Ids
 pub mod OutputLaws
 pub mod Writing
 pub mod Puts

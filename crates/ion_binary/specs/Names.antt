@@ -15,13 +15,13 @@ use Rattle.ion_binary.specs.Written.{Resolves}
 
 -- 1. Symbols among names.
 
-symbol_is : (s t : Option (List ℕ)) → symbol_same s t ≡ true → s ≡ t
+pub symbol_is : (s t : Option (List ℕ)) → symbol_same s t ≡ true → s ≡ t
 symbol_is None None h = refl
 symbol_is None (Some t) h = cc
 symbol_is (Some s) None h = cc
 symbol_is (Some s) (Some t) h = ap Some ((bytes_eq-Decides s t).0 h)
 
-symbol_self : (s : Option (List ℕ)) → symbol_same s s ≡ true
+pub symbol_self : (s : Option (List ℕ)) → symbol_same s s ≡ true
 symbol_self None = refl
 symbol_self (Some s) = (bytes_eq-Decides s s).1 refl
 
@@ -43,7 +43,7 @@ or_true : (b : Bool) → (b || true) ≡ true
 or_true true = refl
 or_true false = refl
 
-among_last : (names : Names) (s : Option (List ℕ)) → IsAmong (names ++ s ∷ []) s
+pub among_last : (names : Names) (s : Option (List ℕ)) → IsAmong (names ++ s ∷ []) s
 among_last names s = list_any-append (symbol_same s) names (s ∷ []) ∙ rw (symbol_self s) (or_true (list_any (symbol_same s) names))
 
 -- 2. Ids.

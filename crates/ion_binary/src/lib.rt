@@ -13,6 +13,7 @@ mod scalar;
 mod slots;
 mod state;
 mod table;
+mod walk;
 mod whole;
 mod writer;
 

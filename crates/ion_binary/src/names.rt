@@ -1,74 +1,16 @@
 //! The ids that a writer has given to symbols (Ion 1.0, "Symbols", "Symbol IDs").
 ghost use Rattle.std.specs.Prelude.{◌≡◌, ◌<◌, ◌≤◌, ◌^◌, Some, true, length, map, drop, MatchResult, IfErr, IfOk, OnOk};
-ghost use Rattle.std.specs.Cmp;
-ghost use Rattle.std.specs.Cmp.Rules.{hashing};
-ghost use Rattle.std.proofs.Common.{rules};
-ghost use Rattle.std.specs.Hash as fed;
 ghost use Rattle.ion_model.specs.Symbols.{symbol_same};
 ghost use Rattle.ion_symtab.specs.declared.fault.Fault.TheVariants as faults;
 ghost use Rattle.ion_binary.specs.Output.{system_names, id_of, with_name, with_names};
 ghost use Rattle.ion_binary.specs.Writing.{IsNumberingFault};
-ghost use Rattle.ion_model.specs.EquivLaws.{symbol_same-equiv};
 
 use crate::guesses::Guesses;
-use indexmap::IndexSet;
 use ion_model::Symbol;
 use ion_symtab::Fault;
 use std::alloc::Global;
-use std::hash::{Hash, Hasher};
+use std::collections::BTreeMap;
 use std::marker::Model;
-
-/// A symbol as it stands in a set.
-#[derive(Drop, Debug)]
-pub(crate) struct Key {
-    symbol: Symbol,
-}
-
-impl Key {
-    pub(crate) fn symbol(&self) -> &Symbol
-        ensures { result.now ≡ self.now }
-    {
-        &self.symbol
-    }
-}
-
-impl Model for Key {
-    ghost use Rattle.std.specs.Prelude.{List, ℕ, Option};
-
-    ghost Value = { Option (List ℕ) };
-
-    ghost view = { λ k. k.symbol };
-}
-
-impl PartialEq for Key {
-    ghost eq = { symbol_same };
-
-    ghost laws = { Cmp.partial_equiv_from_equiv symbol_same-equiv };
-
-    fn eq(&self, other: &Key) -> bool {
-        self.symbol.same(&other.symbol)
-    }
-}
-
-impl Eq for Key {
-    ghost laws = { symbol_same-equiv };
-}
-
-impl Hash for Key {
-    ghost hash_input = { fed.option fed.str };
-
-    ghost respects_eq = { Prim.search (hashing, rules) };
-
-    fn hash<H: Hasher>(&self, state: &mut H) {
-        match self.symbol.text() {
-            Some(text) => {
-                state.write_isize(1);
-                text.hash(state);
-            }
-            None => state.write_isize(0),
-        }
-    }
-}
 
 /// The greatest id that a symbol may have.
 const GREATEST_ID: usize = 0x7FFF_FFFF;
@@ -86,10 +28,12 @@ const SYSTEM: [&str; 9] = [
     "$ion_shared_symbol_table",
 ];
 
-/// Symbols by their ids. The symbol of unknown text has the id 0, and a text has one id.
+/// Symbols by their ids. The symbol of unknown text has the id 0, and a text has one id. An id is found
+/// in an ordered map, so no choice of texts makes it slow; both share a text's memory.
 #[derive(Drop)]
 pub(crate) struct Names {
-    keys: IndexSet<Key>,
+    symbols: Vec<Symbol>,
+    ids: BTreeMap<Symbol, usize>,
 }
 
 impl Model for Names {
@@ -97,7 +41,11 @@ impl Model for Names {
 
     ghost Value = { SymbolsById };
 
-    ghost view = { λ n. n.keys.keys };
+    ghost view = { λ n. n.symbols.items };
+
+    ghost use Rattle.ion_binary.specs.Ids.{IsIndex};
+
+    ghost invariant = { λ n. IsIndex n.symbols.items n.ids };
 }
 
 impl Names {
@@ -107,9 +55,10 @@ impl Names {
         ensures { MatchResult result (λ n. n ≡ system_names) (λ f. f ≡ faults.Memory) }
     {
         let mut names = Names {
-            keys: IndexSet::new(alloc),
+            symbols: Vec::new(alloc),
+            ids: BTreeMap::new(alloc),
         };
-        let _unknown = names.insert(key_of(&Symbol::unknown())?)?;
+        let _unknown = names.insert(Symbol::unknown())?;
         names.insert_texts(alloc, &SYSTEM)?;
         Ok(names)
     }
@@ -120,7 +69,7 @@ impl Names {
     {
         for text in texts {
             let symbol = Symbol::known(alloc, text).map_err(|_| Fault::Memory)?;
-            let _id = self.insert(Key { symbol })?;
+            let _id = self.insert(symbol)?;
         }
         Ok(())
     }
@@ -130,7 +79,7 @@ impl Names {
         ensures count { result ≡ length self.now }
         ensures small { result < 2 ^ 63 }
     {
-        self.keys.len()
+        self.symbols.len()
     }
 
     /// Gives the symbol the next id, if it has none.
@@ -156,9 +105,9 @@ impl Names {
         ensures small { result ≡ true → id < 2 ^ 63 }
         ensures named { result ≡ true → with_name self.now symbol.now ≡ self.now }
     {
-        match self.keys.as_slice().get(id) {
+        match self.symbols.as_slice().get(id) {
             None => false,
-            Some(key) => same(symbol, &key.symbol),
+            Some(other) => same(symbol, other),
         }
     }
 
@@ -168,18 +117,26 @@ impl Names {
         ensures ok { OnOk result (self.new ≡ with_name self.old symbol.now) }
         ensures cause { IfErr result (IsNumberingFault (with_name self.old symbol.now)) }
     {
-        let key = key_of(symbol)?;
-        if self.keys.len() > GREATEST_ID && !self.keys.contains(&key) {
+        let key = copy_of(symbol)?;
+        if self.symbols.len() > GREATEST_ID && !self.ids.contains_key(&key) {
             return Err(Fault::TooLarge);
         }
         self.insert(key)
     }
 
     // Gives the symbol the next id, if it has none, and answers its id. The only fault is `Memory`.
-    fn insert(&mut self, key: Key) -> Result<usize, Fault>
+    fn insert(&mut self, key: Symbol) -> Result<usize, Fault>
         ensures { MatchResult result (λ _. self.new ≡ with_name self.old key) (λ f. f ≡ faults.Memory) }
     {
-        let (id, _) = self.keys.insert_full(key)?;
+        if let Some(id) = self.ids.get(&key) {
+            return Ok(*id);
+        }
+        let id = self.symbols.len();
+        let symbol = copy_of(&key)?;
+        // Behind the map's growth nothing may fail.
+        self.symbols.reserve(1)?;
+        self.ids.insert(key, id)?;
+        self.symbols.push(symbol)?;
         Ok(id)
     }
 
@@ -204,27 +161,25 @@ impl Names {
         ensures id { MatchResult result (λ id. id ≡ id_of self.now symbol.now) (λ f. f ≡ faults.Memory) }
         ensures small { IfOk result (λ id. id < 2 ^ 63) }
     {
-        let key = key_of(symbol)?;
-        let count = self.keys.len();
-        Ok(self.keys.get_index_of(&key).unwrap_or(count))
+        let key = copy_of(symbol)?;
+        let count = self.len();
+        Ok(self.ids.get(&key).copied().unwrap_or(count))
     }
 
     /// The symbols from an id on, in the order of their ids.
-    pub(crate) fn from(&self, id: usize) -> &[Key]
+    pub(crate) fn from(&self, id: usize) -> &[Symbol]
         requires { id ≤ length self.now }
         ensures { result.now ≡ drop id self.now }
     {
-        &self.keys.as_slice()[id..]
+        &self.symbols.as_slice()[id..]
     }
 }
 
-fn key_of(symbol: &Symbol) -> Result<Key, Fault>
-    ensures { MatchResult result (λ k. k ≡ symbol.now) (λ f. f ≡ faults.Memory) }
+// A symbol that shares the text of this one.
+fn copy_of(symbol: &Symbol) -> Result<Symbol, Fault>
+    ensures { MatchResult result (λ s. s ≡ symbol.now) (λ f. f ≡ faults.Memory) }
 {
-    match symbol.copy() {
-        Err(_) => Err(Fault::Memory),
-        Ok(symbol) => Ok(Key { symbol }),
-    }
+    symbol.copy().map_err(|_| Fault::Memory)
 }
 
 // `Symbol::same`, without a call.

@@ -16,6 +16,7 @@ mod frames;
 mod inside;
 mod items;
 mod numbers;
+mod passing;
 mod room;
 mod whole;
 

@@ -36,7 +36,7 @@ pub(crate) fn put_scalar(
 }
 
 /// The number that these octets make, if it is found to be below 2^64.
-fn small_uint(body: &[u8]) -> Option<u64>
+pub(crate) fn small_uint(body: &[u8]) -> Option<u64>
     ensures { IfSome result (λ number. number ≡ positional 256 body.now) }
 {
     let mut number = 0;
@@ -50,7 +50,7 @@ fn small_uint(body: &[u8]) -> Option<u64>
 }
 
 /// The magnitude that these octets make, if it is below 2^127.
-fn magnitude_of(body: &[u8]) -> Option<u128>
+pub(crate) fn magnitude_of(body: &[u8]) -> Option<u128>
     ensures is { IfSome result (λ number. number ≡ positional 256 body.now) }
     ensures bound { IfSome result (λ number. number < 2 ^ 127) }
 {

@@ -4,7 +4,7 @@ ghost use Rattle.ion_model.specs.Measures.{bare, field_of};
 ghost use Rattle.ion_symtab.specs.declared.fault.Fault.TheVariants as faults;
 ghost use Rattle.ion_binary.specs.Output.{string_value, table_value};
 
-use crate::names::{Key, Names};
+use crate::names::Names;
 use ion_model::{Field, Payload, Sequence, Symbol, Text, Value};
 use ion_symtab::Fault;
 use std::alloc::Global;
@@ -37,12 +37,12 @@ fn field_of(alloc: Global, name: &str, payload: Payload) -> Result<Field, Fault>
 }
 
 // The texts as strings.
-fn texts_of(alloc: Global, keys: &[Key]) -> Result<Sequence<Value>, Fault>
-    ensures { MatchResult result (λ made. made ≡ map string_value keys.now) (λ f. f ≡ faults.Memory) }
+fn texts_of(alloc: Global, symbols: &[Symbol]) -> Result<Sequence<Value>, Fault>
+    ensures { MatchResult result (λ made. made ≡ map string_value symbols.now) (λ f. f ≡ faults.Memory) }
 {
     let mut texts = Sequence::new(alloc);
-    for key in keys {
-        texts.push(string_of(alloc, key.symbol())?)?;
+    for symbol in symbols {
+        texts.push(string_of(alloc, symbol)?)?;
     }
     Ok(texts)
 }

@@ -16,7 +16,7 @@ use std::alloc::Global;
 
 /// The VarUInt at the front of these octets, and how many octets it has.
 #[inline(always)]
-fn number(octets: &[u8]) -> Option<(u64, usize)>
+pub(crate) fn number(octets: &[u8]) -> Option<(u64, usize)>
     ensures within { IfSome result (λ read. read.1 ≤ length octets.now) }
     ensures is { IfSome result (λ read. VarUInt (take read.1 octets.now) read.0) }
 {
@@ -44,7 +44,7 @@ fn long_number(octets: &[u8]) -> Option<(u64, usize)>
 
 /// How many octets behind a descriptor are a length, and how many there are of the body behind them.
 #[inline(always)]
-fn lengths(size: Size, rest: &[u8]) -> Option<(usize, usize)>
+pub(crate) fn lengths(size: Size, rest: &[u8]) -> Option<(usize, usize)>
     ensures within { IfSome result (λ sizes. sizes.0 + sizes.1 ≤ length rest.now) }
     ensures header { IfSome result (λ sizes. Heads size sizes.1 (take sizes.0 rest.now)) }
 {
@@ -85,7 +85,7 @@ pub(crate) fn extent(octets: &[u8]) -> usize
 
 /// How many octets the pad at the front has.
 #[inline(always)]
-fn pad_of(octets: &[u8]) -> Option<usize>
+pub(crate) fn pad_of(octets: &[u8]) -> Option<usize>
     ensures within { IfSome result (λ count. count ≤ length octets.now) }
     ensures pad { IfSome result (λ count. IsPad (take count octets.now)) }
 {

@@ -7,7 +7,7 @@ ghost use Rattle.ion_binary.specs.Views.{machine_of, open_frames, SameSetting};
 use super::BinaryReader;
 use crate::state::{Effect, Mark, Phase};
 use ion_model::{Reason, Refusal, Value};
-use ion_symtab::{Catalog, Context, Items, Limits, Step};
+use ion_symtab::{Catalog, Context, Items, Limits, Passed, Step};
 use std::alloc::Global;
 
 impl<'a> BinaryReader<'a> {
@@ -169,6 +169,22 @@ impl Items for BinaryReader<'_> {
             self.failed = Some(*refusal);
         }
         result
+    }
+
+    fn pass(&mut self, piece: &[u8]) -> Result<Passed, Refusal> {
+        if let Some(refusal) = self.failed {
+            return Err(refusal);
+        }
+        if let Some(used) = self.walk(piece) {
+            return Ok(Passed { used, some: true });
+        }
+        match self.step(piece) {
+            Err(refusal) => Err(refusal),
+            Ok(Step { used, value }) => Ok(Passed {
+                used,
+                some: value.is_some(),
+            }),
+        }
     }
 
     fn finish(self) -> Result<Option<Value>, Refusal> {

@@ -1,4 +1,4 @@
-use Rattle.std.proofs.Common.{◌+◌, arith}
+use Rattle.std.proofs.Common.{arith}
 use Rattle.ion_scalar.specs.Positional.{positional_more}
 use Rattle.ion_binary.proofs.slots.small_uint.Goals as goal
 

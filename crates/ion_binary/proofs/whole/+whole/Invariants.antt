@@ -1,4 +1,4 @@
-use Rattle.std.proofs.Common.{◌≡◌, ◌+◌, ◌*◌, ◌-◌, ◌<◌, ◌≤◌, length, take}
+use Rattle.std.proofs.Common.{◌+◌, ◌*◌, ◌-◌, ◌≤◌, length, take}
 use Rattle.ion_binary.specs.Grammar.{Sequence, Fields}
 use Rattle.ion_binary.specs.Stands.{depths, field_depths}
 use Rattle.ion_binary.proofs.whole.+whole.Given as goal

@@ -1,4 +1,4 @@
-use Rattle.std.proofs.Common.{refl, ℕ, ◌≡◌, ◌+◌, ◌-◌, ◌<◌, length, take, drop, ◌∙◌, ap, sym, arith}
+use Rattle.std.proofs.Common.{refl, ◌-◌, ◌<◌, length, take, drop, ◌∙◌, ap, sym, arith}
 use Rattle.ion_binary.specs.declared.form.Form.TheVariants as forms
 use Rattle.ion_binary.specs.declared.form.Opening.TheVariants.{Sized}
 use Rattle.ion_binary.specs.Grammar.{IsPad, skipped}

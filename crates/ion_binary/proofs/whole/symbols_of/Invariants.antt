@@ -1,4 +1,4 @@
-use Rattle.std.proofs.Common.{◌≡◌, ◌≤◌, length, take}
+use Rattle.std.proofs.Common.{◌≤◌, length, take}
 use Rattle.ion_binary.specs.Grammar.{Ids}
 use Rattle.ion_binary.proofs.whole.symbols_of.Given as goal
 

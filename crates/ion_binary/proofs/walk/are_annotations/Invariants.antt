@@ -1,0 +1,13 @@
+use Rattle.std.proofs.Common.{◌≤◌, ℕ, List, Option, length, take}
+use Rattle.ion_binary.specs.Grammar.{Ids}
+use Rattle.ion_binary.specs.Walked.{NoTable}
+use Rattle.ion_binary.proofs.walk.are_annotations.Given as goal
+
+-- the octets before `at` are some ids
+abbrev pub invariant-loop : goal.invariant-loop
+invariant-loop l = record {
+  within : l.at ≤ length l.ids;
+  symbols : List (Option (List ℕ));
+  so_far : Ids l.context (take l.at l.ids) symbols;
+  given : NoTable symbols;
+}

@@ -1,0 +1,67 @@
+-- What a walk over octets in memory finds of a value that it doesn't build.
+use Rattle.std.specs.Prelude.{◌≡◌, ◌≤◌, ◌<◌, ℕ, List, false, Option}
+use Rattle.ion_model.specs.declared.kind.Kind.{Kind}
+use Rattle.ion_model.specs.declared.value.Value.{Value}
+use Rattle.ion_model.specs.declared.value.Field.{Field}
+use Rattle.ion_model.specs.declared.value.Payload.{Payload}
+use Rattle.ion_model.specs.Kinds.{is_table, is_table_of}
+use Rattle.ion_model.specs.Measures.{depth, bare}
+use Rattle.ion_symtab.specs.Slots.{Slot}
+use Rattle.ion_binary.specs.declared.form.Form.{Form}
+use Rattle.ion_binary.specs.declared.form.Scalar.{Scalar}
+use Rattle.ion_binary.specs.Grammar.{IsScalar, Ids, Plain, Binary, Sequence, Fields}
+use Rattle.ion_binary.specs.Framed.{Framed, Wraps}
+use Rattle.ion_binary.specs.Stands.{depths, field_depths}
+
+-- the octets are a value of at most so many levels, and no local symbol table
+pub record Walked (c : List Slot) (level : ℕ) (w : List ℕ) : Type 0 where
+  pub value : Value
+  pub is : Binary c w value
+  pub deep : depth value ≤ level
+  pub given : is_table value ≡ false
+
+-- the same of a value without annotations
+pub record WalkedPlain (c : List Slot) (level : ℕ) (w : List ℕ) : Type 0 where
+  pub payload : Payload
+  pub is : Plain c w payload
+  pub deep : depth (bare payload) ≤ level
+
+-- behind each header of this form the body is a value of at most so many levels
+pub record WalkedBody (c : List Slot) (form : Form) (level : ℕ) (body : List ℕ) : Type 0 where
+  pub payload : Payload
+  pub framed : Framed c form body payload
+  pub deep : depth (bare payload) ≤ level
+
+-- behind each header of a wrapper the body is such a value, and no local symbol table
+pub record WalkedWrapper (c : List Slot) (level : ℕ) (body : List ℕ) : Type 0 where
+  pub value : Value
+  pub wraps : Wraps c body value
+  pub deep : depth value ≤ level
+  pub given : is_table value ≡ false
+
+-- the body is this scalar
+pub record WalkedScalar (c : List Slot) (t : Scalar) (body : List ℕ) : Type 0 where
+  pub payload : Payload
+  pub is : IsScalar c body t payload
+
+-- the body is items that leave one level
+pub record WalkedItems (c : List Slot) (level : ℕ) (body : List ℕ) : Type 0 where
+  pub values : List Value
+  pub are : Sequence c body values
+  pub deep : depths values < level
+
+-- the body is fields that leave one level
+pub record WalkedFields (c : List Slot) (level : ℕ) (body : List ℕ) : Type 0 where
+  pub fields : List Field
+  pub are : Fields c body fields
+  pub deep : field_depths fields < level
+
+-- no value with these annotations is a local symbol table
+abbrev pub NoTable : List (Option (List ℕ)) → Type 0
+NoTable symbols = (k : Kind) → is_table_of symbols k ≡ false
+
+-- the octets are ids of annotations with which no value is a local symbol table
+pub record WalkedIds (c : List Slot) (ids : List ℕ) : Type 0 where
+  pub symbols : List (Option (List ℕ))
+  pub are : Ids c ids symbols
+  pub given : NoTable symbols

@@ -1,0 +1,270 @@
+//! Values whose octets lie whole in memory and that nobody asks for: they are judged and not built. What
+//! is cut, refused or unusual isn't told here: the reader takes it up octet by octet.
+ghost use Rattle.std.specs.Prelude.{◌≡◌, ◌≤◌, ◌<◌, true, List, length, take, get_or, IfSome};
+ghost use Rattle.std.specs.Str.{IsUtf8};
+ghost use Rattle.ion_model.specs.Kinds.{names_table};
+ghost use Rattle.ion_symtab.specs.Slots.{Slot};
+ghost use Rattle.ion_binary.specs.Opening.{opening_of};
+ghost use Rattle.ion_binary.specs.declared.form.Scalar.TheVariants as scalars;
+ghost use Rattle.ion_binary.specs.Walked.{Walked, WalkedPlain, WalkedBody, WalkedWrapper, WalkedScalar, WalkedItems, WalkedFields, WalkedIds};
+
+use crate::form::{Form, Opening, Scalar, opening_of};
+use crate::slots::{magnitude_of, small_uint};
+use crate::whole::{lengths, number, pad_of};
+use ion_model::Symbol;
+use ion_scalar::{decimal_of, timestamp_of};
+use ion_symtab::Context;
+
+/// Whether a body is this scalar (Ion 1.0, "Ion Binary Encoding", typed value formats).
+#[inline(always)]
+fn is_scalar(context: &Context, scalar: Scalar, body: &[u8]) -> bool
+    ensures { result ≡ true → WalkedScalar context.now scalar body.now }
+{
+    match scalar {
+        Scalar::Int => is_int(body),
+        Scalar::NegativeInt => is_negative(body),
+        Scalar::Decimal => is_decimal(body),
+        Scalar::Timestamp => is_timestamp(body),
+        Scalar::Symbol => is_symbol(context, body),
+        Scalar::Str => is_text(body),
+        Scalar::Clob => true,
+        Scalar::Blob => true,
+    }
+}
+
+fn is_int(body: &[u8]) -> bool
+    ensures { result ≡ true → (c : List Slot) → WalkedScalar c scalars.Int body.now }
+{
+    match magnitude_of(body) {
+        Some(_) => true,
+        None => false,
+    }
+}
+
+fn is_negative(body: &[u8]) -> bool
+    ensures { result ≡ true → (c : List Slot) → WalkedScalar c scalars.NegativeInt body.now }
+{
+    match magnitude_of(body) {
+        Some(magnitude) => magnitude != 0,
+        None => false,
+    }
+}
+
+#[inline(never)]
+fn is_decimal(body: &[u8]) -> bool
+    ensures { result ≡ true → (c : List Slot) → WalkedScalar c scalars.Decimal body.now }
+{
+    match decimal_of(body) {
+        Ok(_) => true,
+        Err(_) => false,
+    }
+}
+
+#[inline(never)]
+fn is_timestamp(body: &[u8]) -> bool
+    ensures { result ≡ true → (c : List Slot) → WalkedScalar c scalars.Timestamp body.now }
+{
+    match timestamp_of(body) {
+        Ok(_) => true,
+        Err(_) => false,
+    }
+}
+
+fn is_symbol(context: &Context, body: &[u8]) -> bool
+    ensures { result ≡ true → WalkedScalar context.now scalars.Symbol body.now }
+{
+    let Some(id) = small_uint(body) else {
+        return false;
+    };
+    let Ok(_) = context.resolve(id) else {
+        return false;
+    };
+    true
+}
+
+fn is_text(body: &[u8]) -> bool
+    ensures { result ≡ true → IsUtf8 body.now }
+{
+    simdutf8::is_utf8(body)
+}
+
+/// Whether a symbol is the name of local symbol tables.
+fn names_table(symbol: &Symbol) -> bool
+    ensures { result ≡ names_table symbol.now }
+{
+    match symbol.text() {
+        None => false,
+        Some(text) => text == "$ion_symbol_table",
+    }
+}
+
+/// Whether these octets are ids of annotations, none of which is the name of local symbol tables.
+fn are_annotations(context: &Context, ids: &[u8]) -> bool
+    ensures { result ≡ true → WalkedIds context.now ids.now }
+{
+    let mut at = 0;
+    for _ in 0..ids.len() {
+        if at >= ids.len() {
+            break;
+        }
+        let Some((id, used)) = number(&ids[at..]) else {
+            return false;
+        };
+        let Ok(symbol) = context.resolve(id) else {
+            return false;
+        };
+        if names_table(&symbol) {
+            return false;
+        }
+        at += used;
+    }
+    at >= ids.len()
+}
+
+/// How many octets the value at the front of these has, of at most so many levels (Ion 1.0, "Ion Binary
+/// Encoding", typed value formats). `None` where it isn't whole, is refused or is in any way unusual, as
+/// local symbol tables are.
+#[cycle(walk)]
+pub(crate) fn walk_value(context: &Context, octets: &[u8], level: u32) -> Option<usize>
+    ensures within { IfSome result (λ count. count ≤ length octets.now) }
+    ensures value { IfSome result (λ count. Walked context.now level (take count octets.now)) }
+{
+    if octets.is_empty() {
+        return None;
+    }
+    let opening = opening_of(octets[0]);
+    if let Opening::Sized(form, size) = opening {
+        if let Form::Wrapper = form {
+            let rest = &octets[1..];
+            let (used, count) = lengths(size, rest)?;
+            if walk_wrapped(context, &rest[used..used + count], level) {
+                return Some(1 + used + count);
+            }
+            return None;
+        }
+    }
+    walk_plain(context, opening, octets, level)
+}
+
+/// Whether these octets are the body of an annotation wrapper (Ion 1.0, "Ion Binary Encoding", "14:
+/// Annotations").
+#[cycle(walk)]
+#[inline(never)]
+fn walk_wrapped(context: &Context, body: &[u8], level: u32) -> bool
+    ensures { result ≡ true → WalkedWrapper context.now level body.now }
+{
+    let Some((size, used)) = number(body) else {
+        return false;
+    };
+    if size == 0 || size >= (body.len() - used) as u64 {
+        return false;
+    }
+    let stop = used + size as usize;
+    if !are_annotations(context, &body[used..stop]) {
+        return false;
+    }
+    let inner = &body[stop..];
+    match walk_plain(context, opening_of(inner[0]), inner, level) {
+        None => false,
+        Some(count) => count >= inner.len(),
+    }
+}
+
+/// The same as `walk_value` of a value without annotations, whose descriptor opens this.
+#[cycle(walk)]
+#[inline(always)]
+fn walk_plain(context: &Context, opening: Opening, octets: &[u8], level: u32) -> Option<usize>
+    requires some { 0 < length octets.now }
+    requires opens { opening ≡ opening_of (get_or octets.now 0 0) }
+    ensures within { IfSome result (λ count. count ≤ length octets.now) }
+    ensures value { IfSome result (λ count. WalkedPlain context.now level (take count octets.now)) }
+{
+    match opening {
+        Opening::Null(_) => Some(1),
+        Opening::Truth(_) => Some(1),
+        Opening::Sized(form, size) => {
+            let rest = &octets[1..];
+            let (used, count) = lengths(size, rest)?;
+            if walk_body(context, form, &rest[used..used + count], level) {
+                return Some(1 + used + count);
+            }
+            None
+        }
+        _ => None,
+    }
+}
+
+/// Whether these octets are the body of a value of this form.
+#[cycle(walk)]
+#[inline(always)]
+fn walk_body(context: &Context, form: Form, body: &[u8], level: u32) -> bool
+    ensures { result ≡ true → WalkedBody context.now form level body.now }
+{
+    match form {
+        Form::Scalar(scalar) => is_scalar(context, scalar, body),
+        Form::Listing(_) => walk_items(context, body, level),
+        Form::Struct => walk_fields(context, body, level),
+        Form::OrderedStruct => !body.is_empty() && walk_fields(context, body, level),
+        _ => false,
+    }
+}
+
+/// Whether these octets are items one behind the other, with pads anywhere.
+#[cycle(walk)]
+#[inline(never)]
+fn walk_items(context: &Context, body: &[u8], level: u32) -> bool
+    ensures { result ≡ true → WalkedItems context.now level body.now }
+{
+    if level == 0 {
+        return false;
+    }
+    let mut at = 0;
+    for _ in 0..body.len() {
+        if at >= body.len() {
+            break;
+        }
+        if let Some(count) = pad_of(&body[at..]) {
+            at += count;
+            continue;
+        }
+        match walk_value(context, &body[at..], level - 1) {
+            None => return false,
+            Some(count) => at += count,
+        }
+    }
+    at >= body.len()
+}
+
+/// Whether these octets are fields one behind the other: an id and its value, or an id of any kind and a
+/// pad.
+#[cycle(walk)]
+#[inline(never)]
+fn walk_fields(context: &Context, body: &[u8], level: u32) -> bool
+    ensures { result ≡ true → WalkedFields context.now level body.now }
+{
+    if level == 0 {
+        return false;
+    }
+    let mut at = 0;
+    for _ in 0..body.len() {
+        if at >= body.len() {
+            break;
+        }
+        let Some((id, used)) = number(&body[at..]) else {
+            return false;
+        };
+        at += used;
+        if let Some(count) = pad_of(&body[at..]) {
+            at += count;
+            continue;
+        }
+        let Ok(_) = context.resolve(id) else {
+            return false;
+        };
+        match walk_value(context, &body[at..], level - 1) {
+            None => return false,
+            Some(count) => at += count,
+        }
+    }
+    at >= body.len()
+}
