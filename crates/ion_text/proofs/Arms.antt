@@ -1,18 +1,16 @@
 -- What a token does that is taken up where the scanner rests and a container is open.
-use Rattle.std.proofs.Common.{◌≡◌, ◌≢◌, ℕ, zero, suc, ◌+◌, ◌-◌, ◌<◌, ◌≤◌, Bool, true, false, List, [], ◌∷◌, length, take, drop, get_or, Option, Some, None, Ok, Err, refl, ap, sym, ◌∙◌, subst, arith, length-drop, ◌⊎◌, inl, inr}
+use Rattle.std.proofs.Common.{◌≡◌, ◌≢◌, ℕ, zero, suc, ◌+◌, ◌-◌, ◌<◌, ◌≤◌, Bool, true, false, List, [], ◌∷◌, length, take, drop, get_or, Option, Some, None, Ok, Err, refl, ap, sym, ◌∙◌, subst, arith, ◌⊎◌, inl, inr}
 use Rattle.std.specs.Prelude.{IsNone}
 use Rattle.ion_model.specs.declared.value.Value.{Value}
 use Rattle.ion_model.specs.declared.refusal.Reason.TheVariants as reasons
-use Rattle.ion_model.specs.Measures.{annotated}
 use Rattle.ion_symtab.specs.declared.limits.Limits.{Limits}
 use Rattle.ion_symtab.specs.declared.catalog.Catalog.{Catalog}
 use Rattle.ion_symtab.specs.Slots.{Slot}
-use Rattle.ion_tokens.specs.declared.mode.Place.{Place}
 use Rattle.ion_tokens.specs.declared.mode.TokenKind.{TokenKind}
 use Rattle.ion_tokens.specs.declared.scanner.Scanner.{Scanner}
 use Rattle.ion_tokens.specs.declared.whole.Rest.{Rest}
-use Rattle.ion_tokens.specs.Bounds.{IsSteady, is_idle}
-use Rattle.std.specs.Prelude.{if◌then◌else◌, ◌==◌, ◌&&◌, ◌||◌, ◌^◌, nat_lt, min, IsUtf8}
+use Rattle.ion_tokens.specs.Bounds.{IsSteady}
+use Rattle.std.specs.Prelude.{if◌then◌else◌, ◌==◌, ◌&&◌, ◌^◌, nat_lt, min, IsUtf8}
 use Rattle.std.specs.List.{list_all}
 use Rattle.std.proofs.lemmas.Bool.Decides.{nat_tests}
 use Rattle.std.proofs.lemmas.Str.{is_utf8-from_IsUtf8}
@@ -24,30 +22,24 @@ use Rattle.ion_tokens.specs.declared.mode.TokenKind.TheVariants as kinds
 use Rattle.ion_tokens.specs.Octets.{is_digit}
 use Rattle.ion_tokens.specs.Bodies.{Content, Word, Short, Number', Mark', id_of, number_in}
 use Rattle.ion_tokens.specs.Said.{said, spelled, word_said, number_said}
-use Rattle.ion_tokens.proofs.WholeTokens.{comma_found, colon_found}
+use Rattle.ion_tokens.proofs.WholeTokens.{comma_found}
 use Rattle.ion_tokens.specs.Views.{scanned, looks, failure}
 use Rattle.ion_tokens.specs.Rests.{resting, past_blank, past_token, lexeme_at, before_end, IsPassed, IsFound}
 use Rattle.ion_tokens.specs.declared.mode.Place.TheVariants as places
-use Rattle.ion_tokens.specs.Ahead.{symbol_waits}
-use Rattle.ion_tokens.specs.Table.{in_blank}
-use Rattle.ion_tokens.specs.Scanning as scanning
-use Rattle.ion_tokens.specs.Scanning.{Known, Lexeme, Outcome, Next, feed, follow, acts}
+use Rattle.ion_tokens.specs.Scanning.{Known, Lexeme}
 use Rattle.std.proofs.lemmas.Grind.{common_steps}
-use Rattle.std.proofs.lemmas.List.{length-take-le}
-use Rattle.ion_model.specs.declared.value.Payload.{Payload}
-use Rattle.ion_text.specs.Grammar.{is_keyword}
 use Rattle.ion_text.specs.declared.state.Held.{Held}
 use Rattle.ion_text.specs.declared.state.Frame.{Frame}
 use Rattle.ion_text.specs.declared.state.Frame.TheVariants as frames
 use Rattle.ion_text.specs.declared.state.Now.{Now}
 use Rattle.ion_text.specs.declared.state.Now.TheVariants as nows
 use Rattle.ion_text.specs.declared.reader.TextReader.{TextReader}
-use Rattle.ion_text.specs.Machine.{Reading, Turn, Symbols, goes, late, at, place, place_in, settle, turn, turn_now, begun_at, on_ready, on_after, on_comma, ended, released, paid, held_word, held_payload, keyed, named}
+use Rattle.ion_text.specs.Machine.{Reading, Turn, Symbols, goes, place, place_in, settle, turn, turn_now, begun_at, on_ready, on_after, on_comma, ended, released, paid, held_payload, named}
 use Rattle.ion_text.specs.Run.{is_top, with_scan, token_of}
 use Rattle.ion_text.specs.Runs.{Quiet}
 use Rattle.ion_text.specs.Views.{state_of, reading_of, open_frames, IsCalm, SameSetting}
-use Rattle.ion_text.specs.Passing.{ends_element, Passes, IsStill, Inside, Strides}
-use Rattle.ion_text.proofs.Passing.{passes_on, passes_blank, passes_waiting, passes_settled, passes_left, passes_given, calm_quiet, blank_quiet}
+use Rattle.ion_text.specs.Passing.{Passes, IsStill, Inside, Strides}
+use Rattle.ion_text.proofs.Passing.{passes_blank, passes_left, passes_given, calm_quiet}
 use Rattle.ion_text.proofs.Striding.{still_settles}
 
 begun_inner : (start begin : ℕ) (fs : List Frame) (ss : Symbols) → is_top fs ≡ false → begun_at start begin fs ss ≡ start
@@ -71,7 +63,7 @@ reading_in : Turn → Reading → Reading
 reading_in (goes q) d = q
 reading_in _ d = d
 
-went : (P : Reading → Type 0) (a b : Reading) → goes a ≡ goes b → P a → P b
+pub went : (P : Reading → Type 0) (a b : Reading) → goes a ≡ goes b → P a → P b
 unfolding reading_in
 went P a b e h = subst P (ap (λ t. reading_in t a) e) h
 
@@ -98,17 +90,20 @@ module _ (g : Catalog) (l : Limits) (r : Reading) (inner : is_top r.frames ≡ f
       let shown = f.shown in
       passes_left g l r inner still (resting rest) f.known (resting (past_token (place r) rest kind n)) octets n (lexeme_at rest kind kept n) c q shown quiet f.ran (omega arith) says turns refl refl f.ends
 
-  pub given_passes : IsFound (place r) rest octets kind kept n false → Quiet g l r (place r) (resting rest) (take (n - 1) octets) → StaysIn r.start q → Passes g l (with_scan (resting rest) r) octets n (with_scan (resting (past_token (place r) rest kind n)) q)
-  given_passes f quiet stays =
+  pub given_leads : IsFound (place r) rest octets kind kept n false → Quiet g l r (place r) (resting rest) (take (n - 1) octets) → is_top q.frames ≡ false → q.start ≡ r.start → Passes g l (with_scan (resting rest) r) octets n (with_scan (resting (past_token (place r) rest kind n)) q)
+  given_leads f quiet inside same =
       let some = f.some in
       let shown = f.shown in
       let last : n - 1 + 1 ≡ n = omega arith in
       let used : rest.used + n ≡ rest.used + (n - 1) + 1 = omega arith in
       subst (λ k. Passes g l (with_scan (resting rest) r) octets k (with_scan (resting (past_token (place r) rest kind n)) q)) last
-      (passes_given g l r inner still (resting rest) f.known (resting (past_token (place r) rest kind n)) octets (n - 1) (lexeme_at rest kind kept n) c q shown quiet f.ran (omega arith) says turns refl used stays.0 stays.1 f.ends)
+      (passes_given g l r inner still (resting rest) f.known (resting (past_token (place r) rest kind n)) octets (n - 1) (lexeme_at rest kind kept n) c q shown quiet f.ran (omega arith) says turns refl used inside same f.ends)
+
+  pub given_passes : IsFound (place r) rest octets kind kept n false → Quiet g l r (place r) (resting rest) (take (n - 1) octets) → StaysIn r.start q → Passes g l (with_scan (resting rest) r) octets n (with_scan (resting (past_token (place r) rest kind n)) q)
+  given_passes f quiet stays = given_leads f quiet stays.0 stays.1
 
 abbrev pub with_scanner : TextReader → Scanner → TextReader
-with_scanner r s = record { alloc = r.alloc; catalog = r.catalog; limits = r.limits; scanner = s; start = r.start; context = r.context; frames = r.frames; notes = r.notes; stage = r.stage; given = r.given; awaited = r.awaited; failed = r.failed }
+with_scanner r s = record { alloc = r.alloc; catalog = r.catalog; limits = r.limits; scanner = s; beside = r.beside; start = r.start; context = r.context; frames = r.frames; notes = r.notes; stage = r.stage; given = r.given; awaited = r.awaited; failed = r.failed }
 
 -- a scanner that was moved there
 pub record Moved (s moved : Scanner) (rest : Rest) : Type 0 where
@@ -136,7 +131,7 @@ module _ (old new : TextReader) (moved : Scanner) (rest behind : Rest) (octets :
     same = record { catalog = setting.catalog; limits = setting.limits; awaited = setting.awaited; failed = setting.failed };
   }
 
-  room : rest.used + length octets ≤ old.limits.item + old.start
+  pub room : rest.used + length octets ≤ old.limits.item + old.start
   room = subst (λ (s : Known). s.used + length octets ≤ old.limits.item + old.start) rests inside.fits
 
   -- a token
@@ -163,7 +158,7 @@ pub number_says : (octets : List ℕ) (n : Number) → Ok n ≡ number_read octe
 unfolding said
 number_says octets n e = ap number_said (sym e)
 
-spelled_utf8 : (c : Content) (octets : List ℕ) → IsUtf8 octets → spelled c octets ≡ Ok c
+pub spelled_utf8 : (c : Content) (octets : List ℕ) → IsUtf8 octets → spelled c octets ≡ Ok c
 spelled_utf8 c octets h = ap (λ b. if b then Ok c else Err reasons.BadUtf8) (is_utf8-from_IsUtf8 octets h)
 
 pub short_says : (octets : List ℕ) → IsUtf8 octets → said kinds.ShortString octets ≡ Ok (Short octets)
@@ -181,7 +176,7 @@ pub word_says : (octets : List ℕ) → IsUtf8 octets → get_or octets 0 0 ≢ 
 unfolding said
 word_says octets h first = ap (word_said octets) (no_id octets first) ∙ spelled_utf8 (Word octets) octets h
 
-first_of : (n : ℕ) (w : List ℕ) → 0 < n → get_or (take n w) 0 0 ≡ get_or w 0 0
+pub first_of : (n : ℕ) (w : List ℕ) → 0 < n → get_or (take n w) 0 0 ≡ get_or w 0 0
 first_of n w h = grind (arith, common_steps)
 
 pub blank_used : (r : Rest) (n : ℕ) → (past_blank r n).used ≡ r.used + n
@@ -194,7 +189,7 @@ blank_used r n = by (n == 0) refl
         is_zero n e = grind (arith, nat_tests)
     by false e = refl
 
-blank_colon : (r : Rest) (n : ℕ) → (past_blank r n).colon ≡ r.colon
+pub blank_colon : (r : Rest) (n : ℕ) → (past_blank r n).colon ≡ r.colon
 blank_colon r n = by (n == 0)
   where
     by : (b : Bool) → (if b then r else record { start = r.used + (n - 1); used = r.used + n; colon = r.colon }).colon ≡ r.colon
@@ -231,37 +226,10 @@ comma_strides old new moved rest behind octets inside rests move setting within 
     (after_turns old.catalog.now old.limits (reading_of old) (lexeme_at rest (kinds.Mark marks.Comma) [] 1) (Mark' marks.Comma) now ∙ does)
     (comma_stays old.catalog.now old.limits.item 0 old.start old.context (reading_of new) (open_frames old) does)
 
--- a word as a value, and the octet that shows that it is none before `::`
-
-is_it : (o k : ℕ) → (o == k) ≡ true → o ≡ k
-is_it o k h = grind (arith, nat_tests)
-
-ends_waits : (p : Place) (r : Rest) (o : ℕ) → ends_element o ≡ true → symbol_waits (feed p (resting r) o) ≡ false
-ends_waits p r o h = first (o == 44) refl (o == 93) refl (o == 125) refl (o == 41) refl h
-  where
-    close : (q : Place) → symbol_waits (feed q (resting r) 93) ≡ false
-    close places.Top = refl
-    close places.List = refl
-    close places.Sexp = refl
-    close places.FieldValue = refl
-    close places.Name = refl
-
-    round : (q : Place) → symbol_waits (feed q (resting r) 41) ≡ false
-    round places.Top = refl
-    round places.List = refl
-    round places.Sexp = refl
-    round places.FieldValue = refl
-    round places.Name = refl
-
-    first : (a : Bool) → (o == 44) ≡ a → (b : Bool) → (o == 93) ≡ b → (c : Bool) → (o == 125) ≡ c → (d : Bool) → (o == 41) ≡ d → ((a || b) || (c || d)) ≡ true → symbol_waits (feed p (resting r) o) ≡ false
-    first true e b f c i d j h = subst (λ k. symbol_waits (feed p (resting r) k) ≡ false) (sym (is_it o 44 e)) refl
-    first false e true f c i d j h = subst (λ k. symbol_waits (feed p (resting r) k) ≡ false) (sym (is_it o 93 f)) (close p)
-    first false e false f true i d j h = subst (λ k. symbol_waits (feed p (resting r) k) ≡ false) (sym (is_it o 125 i)) refl
-    first false e false f false i true j h = subst (λ k. symbol_waits (feed p (resting r) k) ≡ false) (sym (is_it o 41 j)) (round p)
-    first false e false f false i false j h = absurd cc
+-- where a value or a name stands
 
 module _ (g : Catalog) (item end start : ℕ) (c : List Slot) (q : Reading) where
-  ended_place : (fs : List Frame) (v : Value) → is_top fs ≡ false → ended g item end start c fs v ≡ goes q → place q ≡ place_in fs nows.Ready
+  pub ended_place : (fs : List Frame) (v : Value) → is_top fs ≡ false → ended g item end start c fs v ≡ goes q → place q ≡ place_in fs nows.Ready
   ended_place [] v h e = absurd cc
   ended_place (frames.List ss vs ∷ fs) v h e = went (λ x. place x ≡ places.List) _ q e refl
   ended_place (frames.Sexp ss vs ∷ fs) v h e = went (λ x. place x ≡ places.Sexp) _ q e refl
@@ -275,11 +243,11 @@ module _ (g : Catalog) (item end start : ℕ) (c : List Slot) (q : Reading) wher
   named_stays (frames.Named ss ms name ∷ fs) s e = absurd cc
   named_stays (frames.Fields ss ms ∷ fs) s e = went (StaysIn start) _ q e (refl, refl, tt)
 
-released_inner : (g : Catalog) (item end start : ℕ) (c : List Slot) (fs : List Frame) (ss : Symbols) (h : Held) → is_top fs ≡ false → released g item end start c fs ss h ≡ paid g item end start c fs ss (held_payload h)
+pub released_inner : (g : Catalog) (item end start : ℕ) (c : List Slot) (fs : List Frame) (ss : Symbols) (h : Held) → is_top fs ≡ false → released g item end start c fs ss h ≡ paid g item end start c fs ss (held_payload h)
 released_inner g item end start c [] ss h e = absurd cc
 released_inner g item end start c (f ∷ fs) ss h e = refl
 
-same_place : (fs : List Frame) (n m : Now) → (n ≡ nows.Ready) → (h : Held) (e : ℕ) → m ≡ nows.Pending h e → place_in fs m ≡ place_in fs nows.Ready
+pub same_place : (fs : List Frame) (n m : Now) → (n ≡ nows.Ready) → (h : Held) (e : ℕ) → m ≡ nows.Pending h e → place_in fs m ≡ place_in fs nows.Ready
 same_place fs n m a h e i = ap (place_in fs) i ∙ by fs
   where
     by : (fs : List Frame) → place_in fs (nows.Pending h e) ≡ place_in fs nows.Ready
@@ -289,156 +257,14 @@ same_place fs n m a h e i = ap (place_in fs) i ∙ by fs
     by (frames.Named ss ms name ∷ fs) = refl
     by (frames.Fields ss ms ∷ fs) = refl
 
-name_place : (fs : List Frame) (s : Option (List ℕ)) → place_in fs (nows.Keyed s) ≡ place_in fs nows.Name
+pub name_place : (fs : List Frame) (s : Option (List ℕ)) → place_in fs (nows.Keyed s) ≡ place_in fs nows.Name
 name_place [] s = refl
 name_place (frames.List ss vs ∷ fs) s = refl
 name_place (frames.Sexp ss vs ∷ fs) s = refl
 name_place (frames.Named ss ms name ∷ fs) s = refl
 name_place (frames.Fields ss ms ∷ fs) s = refl
 
-drop_more : (a b : ℕ) (w : List ℕ) → drop b (drop a w) ≡ drop (a + b) w
-drop_more a b w = grind (arith, common_steps)
-
-at_drop : (k : ℕ) (w : List ℕ) → get_or (drop k w) 0 0 ≡ get_or w k 0
+pub at_drop : (k : ℕ) (w : List ℕ) → get_or (drop k w) 0 0 ≡ get_or w k 0
 at_drop zero w = refl
 at_drop (suc k) [] = refl
 at_drop (suc k) (x ∷ w) = at_drop k w
-
-module _ (g : Catalog) (l : Limits) (r : Reading) (inner : is_top r.frames ≡ false) (rest : Rest) (octets : List ℕ) (n m : ℕ) (room : rest.used + length octets ≤ l.item + r.start) (within : n + m < length octets)
-    (found : IsFound (place r) rest octets kinds.Word (take n octets) n true) (says : said kinds.Word (take n octets) ≡ Ok (Word (take n octets))) (passed : IsPassed (drop n octets) m) where
-  abbrev behind_word : Rest
-  behind_word = past_token (place r) rest kinds.Word n
-
-  abbrev behind_blank : Rest
-  behind_blank = past_blank behind_word m
-
-  size : length (drop n octets) ≡ length octets - n
-  size = length-drop n octets
-
-  -- where a value may come
-  module _ (now : r.now ≡ nows.Ready) (q : Reading) (payload : Payload) (pays : held_payload (held_word (take n octets)) ≡ Ok payload) (does : ended g l.item (rest.used + n) r.start r.context r.frames (annotated r.notes payload) ≡ goes q) (ends : ends_element (get_or octets (n + m) 0) ≡ true) where
-    abbrev held : Held
-    held = held_word (take n octets)
-
-    abbrev waiting : Reading
-    waiting = at r.start r.context r.frames r.notes (nows.Pending held (rest.used + n))
-
-    stays : StaysIn r.start q
-    stays = ended_stays g l.item (rest.used + n) r.start r.context q r.frames (annotated r.notes payload) inner does
-
-    waits_there : place waiting ≡ place r
-    waits_there = same_place r.frames nows.Ready waiting.now refl held (rest.used + n) refl ∙ ap (place_in r.frames) (sym now)
-
-    is_word : Passes g l (with_scan (resting rest) r) octets n (with_scan (resting behind_word) waiting)
-    is_word =
-        left_passes g l r inner (still_settles g l r (subst IsStill (sym now) tt)) rest octets kinds.Word (take n octets) n (Word (take n octets)) waiting says
-        (ready_turns g l r (lexeme_at rest kinds.Word (take n octets) n) (Word (take n octets)) now inner) room found
-        (calm_quiet g l r inner (subst IsCalm (sym now) tt) (resting rest) refl octets n (omega arith) (omega arith))
-
-    is_blank : Passes g l (with_scan (resting behind_word) waiting) (drop n octets) m (with_scan (resting behind_blank) waiting)
-    is_blank =
-        let some = size in
-        passes_waiting g l waiting inner (resting behind_word) (resting behind_blank) (drop n octets) m (omega arith) refl refl (passed (place waiting) behind_word) (omega arith) held (rest.used + n) refl
-
-    settles : settle g l waiting ≡ goes q
-    settles = released_inner g l.item (rest.used + n) r.start r.context r.frames r.notes held inner ∙ (ap (paid g l.item (rest.used + n) r.start r.context r.frames r.notes) pays ∙ does)
-
-    is_settled : Passes g l (with_scan (resting behind_blank) waiting) (drop (n + m) octets) 0 (with_scan (resting behind_blank) q)
-    is_settled =
-        let some : length (drop (n + m) octets) ≡ length octets - (n + m) = length-drop (n + m) octets in
-        passes_settled g l waiting inner (resting behind_blank) held (rest.used + n) (drop (n + m) octets) q (omega arith) refl
-        (ends_waits (place waiting) behind_blank (get_or (drop (n + m) octets) 0 0) (ap ends_element (at_drop (n + m) octets) ∙ ends)) settles (still_settles g l q stays.2)
-        (ended_place g l.item (rest.used + n) r.start r.context q r.frames (annotated r.notes payload) inner does ∙ (ap (place_in r.frames) (sym now) ∙ sym waits_there))
-
-    pub word_passes : Passes g l (with_scan (resting rest) r) octets (n + m) (with_scan (resting behind_blank) q)
-    word_passes =
-        let none : n + m + 0 ≡ n + m = omega arith in
-        subst (λ k. Passes g l (with_scan (resting rest) r) octets k (with_scan (resting behind_blank) q)) none
-        (passes_on g l (with_scan (resting rest) r) (with_scan (resting behind_blank) waiting) (with_scan (resting behind_blank) q) octets (n + m) 0
-        (passes_on g l (with_scan (resting rest) r) (with_scan (resting behind_word) waiting) (with_scan (resting behind_blank) waiting) octets n m is_word is_blank) is_settled)
-
-  -- where a field's name may come, and its colon
-  module _ (now : r.now ≡ nows.Name) (q : Reading) (more : n + m + 1 < length octets) (free : is_keyword (take n octets) ≡ false) (colon : get_or octets (n + m) 0 ≡ 58) (one : get_or octets (n + m + 1) 0 ≢ 58) (does : named r.start r.context r.frames (Some (take n octets)) ≡ goes q) where
-    abbrev with_name : Reading
-    with_name = keyed r.start r.context r.frames (Some (take n octets))
-
-    abbrev behind_colon : Rest
-    behind_colon = past_token (place r) behind_blank (kinds.Mark marks.Colon) 1
-
-    name_there : place with_name ≡ place r
-    name_there = name_place r.frames (Some (take n octets)) ∙ ap (place_in r.frames) (sym now)
-
-    is_name_word : Passes g l (with_scan (resting rest) r) octets n (with_scan (resting behind_word) with_name)
-    is_name_word =
-        left_passes g l r inner (still_settles g l r (subst IsStill (sym now) tt)) rest octets kinds.Word (take n octets) n (Word (take n octets)) with_name says
-        (ap (turn_now g l rest.used (rest.used + n) r.start r.context r.frames r.notes (Word (take n octets))) now ∙ ap (λ b. if b then late reasons.KeywordAsName with_name else goes with_name) free) room found
-        (calm_quiet g l r inner (subst IsCalm (sym now) tt) (resting rest) refl octets n (omega arith) (omega arith))
-
-    is_name_blank : Passes g l (with_scan (resting behind_word) with_name) (drop n octets) m (with_scan (resting behind_blank) with_name)
-    is_name_blank =
-        let some = size in
-        passes_blank g l with_name inner (resting behind_word) (resting behind_blank) (drop n octets) m (omega arith) refl refl (passed (place with_name) behind_word) (omega arith) refl
-
-    may_colon : behind_blank.colon ≡ true
-    may_colon = blank_colon behind_word m
-
-    colon_idle : (k : Known) → scanning.run (place with_name) (take 1 (drop (n + m) octets)) (resting behind_blank) ≡ Next k → is_idle k.mode ≡ true
-    colon_idle k e = ap idle_in (sym e) ∙ by (drop (n + m) octets) (at_drop (n + m) octets ∙ colon)
-      where
-        idle_in : Outcome → Bool
-        idle_in (Next k) = is_idle k.mode
-        idle_in _ = true
-
-        by : (os : List ℕ) → get_or os 0 0 ≡ 58 → idle_in (scanning.run (place with_name) (take 1 os) (resting behind_blank)) ≡ true
-        by [] h = refl
-        by (o ∷ os) h =
-            ap (λ x. idle_in (follow (acts (place with_name) (resting behind_blank) x (in_blank (place with_name) behind_blank.colon x)) (λ s. Next s))) h
-            ∙ ap (λ b. idle_in (follow (acts (place with_name) (resting behind_blank) 58 (in_blank (place with_name) b 58)) (λ s. Next s))) may_colon
-
-    is_colon : Passes g l (with_scan (resting behind_blank) with_name) (drop (n + m) octets) 1 (with_scan (resting behind_colon) q)
-    is_colon =
-        let some : length (drop (n + m) octets) ≡ length octets - (n + m) = length-drop (n + m) octets in
-        let used = blank_used behind_word m in
-        let f = colon_found (place with_name) behind_blank (drop (n + m) octets) may_colon (omega arith) (at_drop (n + m) octets ∙ colon) (λ e. one (sym (next_at (n + m) octets) ∙ e)) in
-        subst (λ p. Passes g l (with_scan (resting behind_blank) with_name) (drop (n + m) octets) 1 (with_scan (resting (past_token p behind_blank (kinds.Mark marks.Colon) 1)) q)) name_there
-        (left_passes g l with_name inner refl behind_blank (drop (n + m) octets) (kinds.Mark marks.Colon) [] 1 (Mark' marks.Colon) q (mark_says marks.Colon) does (omega arith) f
-        (blank_quiet g l with_name inner (place with_name) (take 1 (drop (n + m) octets)) (resting behind_blank) f.known refl (colon_idle f.known f.ran) f.ran (let few = length-take-le 1 (drop (n + m) octets) (omega arith) in omega arith)))
-      where
-        next_at : (k : ℕ) (w : List ℕ) → get_or (drop k w) 1 0 ≡ get_or w (k + 1) 0
-        next_at k w = grind (arith, common_steps)
-
-    pub name_passes : Passes g l (with_scan (resting rest) r) octets (n + m + 1) (with_scan (resting behind_colon) q)
-    name_passes =
-        passes_on g l (with_scan (resting rest) r) (with_scan (resting behind_blank) with_name) (with_scan (resting behind_colon) q) octets (n + m) 1
-        (passes_on g l (with_scan (resting rest) r) (with_scan (resting behind_word) with_name) (with_scan (resting behind_blank) with_name) octets n m is_name_word is_name_blank) is_colon
-
-pub word_strides : (old new : TextReader) (moved : Scanner) (rest behind : Rest) (octets : List ℕ) (n m : ℕ) (payload : Payload) (inside : Inside old octets) → scanned old.scanner ≡ resting rest → Moved old.scanner moved behind → SameSetting (with_scanner old moved) new
-    → n + m < length octets → behind ≡ past_blank (past_token (place (reading_of old)) rest kinds.Word n) m → old.stage ≡ nows.Ready → IsFound (place (reading_of old)) rest octets kinds.Word (take n octets) n true → IsUtf8 (take n octets) → get_or octets 0 0 ≢ 36 → IsPassed (drop n octets) m
-    → held_payload (held_word (take n octets)) ≡ Ok payload → ends_element (get_or octets (n + m) 0) ≡ true → ended old.catalog.now old.limits.item (rest.used + n) old.start old.context (open_frames old) (annotated old.notes payload) ≡ goes (reading_of new) → Strides old new octets (n + m)
-word_strides old new moved rest behind octets n m payload inside rests move setting within there now found text first passed pays ends does =
-    let some = found.some in
-    let says = word_says (take n octets) text (λ e. first (sym (first_of n octets some) ∙ e)) in
-    let fits = room old new moved rest behind octets inside rests move setting in
-    moved_strides old new moved rest behind octets inside rests move setting (n + m) within (ap (λ (k : Rest). k.used) there ∙ (blank_used (past_token (place (reading_of old)) rest kinds.Word n) m ∙ total rest.used n m))
-    (ended_stays old.catalog.now old.limits.item (rest.used + n) old.start old.context (reading_of new) (open_frames old) (annotated old.notes payload) inside.inner does)
-    (subst (λ (k : Rest). Passes old.catalog.now old.limits (with_scan (resting rest) (reading_of old)) octets (n + m) (with_scan (resting k) (reading_of new))) (sym there)
-    (word_passes old.catalog.now old.limits (reading_of old) inside.inner rest octets n m fits within found says passed now (reading_of new) payload pays does ends))
-  where
-    total : (a b c : ℕ) → a + b + c ≡ a + (b + c)
-    total a b c = omega arith
-
-pub name_strides : (old new : TextReader) (moved : Scanner) (rest behind : Rest) (octets : List ℕ) (n m : ℕ) (inside : Inside old octets) → scanned old.scanner ≡ resting rest → Moved old.scanner moved behind → SameSetting (with_scanner old moved) new
-    → n + m + 1 < length octets → behind ≡ past_token (place (reading_of old)) (past_blank (past_token (place (reading_of old)) rest kinds.Word n) m) (kinds.Mark marks.Colon) 1 → old.stage ≡ nows.Name → IsFound (place (reading_of old)) rest octets kinds.Word (take n octets) n true
-    → IsUtf8 (take n octets) → get_or octets 0 0 ≢ 36 → IsPassed (drop n octets) m → is_keyword (take n octets) ≡ false → get_or octets (n + m) 0 ≡ 58 → get_or octets (n + m + 1) 0 ≢ 58 → named old.start old.context (open_frames old) (Some (take n octets)) ≡ goes (reading_of new)
-    → Strides old new octets (n + m + 1)
-name_strides old new moved rest behind octets n m inside rests move setting within there now found text first passed free colon one does =
-    let some = found.some in
-    let says = word_says (take n octets) text (λ e. first (sym (first_of n octets some) ∙ e)) in
-    let fits = room old new moved rest behind octets inside rests move setting in
-    moved_strides old new moved rest behind octets inside rests move setting (n + m + 1) within (ap (λ (k : Rest). k.used) there ∙ (ap (λ k. k + 1) (blank_used (past_token (place (reading_of old)) rest kinds.Word n) m) ∙ total rest.used n m))
-    (named_stays old.catalog.now old.limits.item 0 old.start old.context (reading_of new) (open_frames old) (Some (take n octets)) does)
-    (subst (λ (k : Rest). Passes old.catalog.now old.limits (with_scan (resting rest) (reading_of old)) octets (n + m + 1) (with_scan (resting k) (reading_of new))) (sym there)
-    (name_passes old.catalog.now old.limits (reading_of old) inside.inner rest octets n m fits (omega arith) found says passed now (reading_of new) within free colon one does))
-  where
-    total : (a b c : ℕ) → a + b + c + 1 ≡ a + (b + c + 1)
-    total a b c = omega arith

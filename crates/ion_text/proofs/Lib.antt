@@ -14,3 +14,6 @@ pub mod Lulls
 pub mod Passing
 pub mod Striding
 pub mod Arms
+pub mod Nested
+pub mod Symbols
+pub mod Innermost

@@ -15,7 +15,7 @@ use Rattle.ion_tokens.proofs.Runs.{feed_used, next_used}
 use Rattle.ion_tokens.specs.Bounds.{is_idle}
 use Rattle.ion_tokens.specs.Bodies.{Content}
 use Rattle.ion_tokens.specs.Said.{said}
-use Rattle.ion_tokens.specs.Ahead.{OnNext, IsUsed, is_sane, symbol_waits}
+use Rattle.ion_tokens.specs.Ahead.{OnNext, IsUsed, is_sane, is_colons, symbol_waits}
 use Rattle.ion_model.specs.declared.refusal.Reason.TheVariants as reasons
 use Rattle.ion_text.specs.declared.state.Frame.{Frame}
 use Rattle.ion_text.specs.declared.state.Held.{Held}
@@ -89,6 +89,11 @@ module _ (g : Catalog) (l : Limits) where
       ap (run g l m.scan.used m) (sym (take-append-drop count w) ∙ ap (λ v. v ++ drop count w) front)
       ∙ (run-append g l m.scan.used n.scan.used (take count octets) (drop count w) (omega arith) m
       ∙ ap (λ r. then_run r (λ k. run g l n.scan.used k (drop count w))) e)
+
+  -- one octet that is used and gives nothing
+  pub passes_one : (m n : State) (octets : List ℕ) → 0 < length octets → n.scan.used ≡ m.scan.used + 1 → eats g l m (get_or octets 0 0) ≡ uses n → Passes g l m octets 1 n
+  passes_one m n [] some counted h = absurd (omega arith)
+  passes_one m n (o ∷ os) some counted h = passes_led m n (o ∷ os) 1 (omega arith) counted (ap (run_on m.scan.used (λ j. eats g l j o) (λ j. led j)) h)
 
   -- the octet there does the same from another state
   pub passes_same : (m n p : State) (octets : List ℕ) (k : ℕ) → k < length octets → n.scan.used ≡ p.scan.used → eats g l n (get_or octets k 0) ≡ eats g l p (get_or octets k 0) → Passes g l m octets k n → Passes g l m octets k p
@@ -241,10 +246,7 @@ module _ (g : Catalog) (l : Limits) (r : Reading) (inner : is_top r.frames ≡ f
         ∙ (ap (behind_given l b) turns ∙ idle_noticed l q b idle inside (omega (arith, same, used, room))))))
       where
         passes_octet : (os : List ℕ) → 0 < length os → (o : ℕ) → get_or os 0 0 ≡ o → eats g l (with_scan k r) o ≡ uses (with_scan b q) → Passes g l (with_scan k r) os 1 (with_scan b q)
-        passes_octet [] some o e h = absurd (omega arith)
-        passes_octet (y ∷ os) some o e h =
-            passes_led g l (with_scan k r) (with_scan b q) (y ∷ os) 1 (omega arith) (let i = counted in omega (arith, used))
-            (ap (run_on k.used (λ j. eats g l j y) (λ j. led j)) (ap (eats g l (with_scan k r)) e ∙ h))
+        passes_octet os some o e h = passes_one g l (with_scan k r) (with_scan b q) os some (let i = counted in omega (arith, used)) (ap (eats g l (with_scan k r)) e ∙ h)
 
         length_drop : (n : ℕ) (os : List ℕ) → length (drop n os) ≡ length os - n
         length_drop n os = length-drop n os
@@ -253,6 +255,19 @@ module _ (g : Catalog) (l : Limits) (r : Reading) (inner : is_top r.frames ≡ f
         get_drop n [] h = absurd (omega arith)
         get_drop zero (y ∷ os) h = refl
         get_drop (suc n) (y ∷ os) h = get_drop n os (omega arith)
+
+  -- `::` behind what may be a symbol: its last octet, where the scanner knows this before it
+  pub passes_colons : (h : Held) (end : ℕ) → r.now ≡ nows.Pending h end → (k b : Known) (octets : List ℕ) (x : Lexeme) (c : Content) (q : Reading) → 0 < length octets → feed (place r) k (get_or octets 0 0) ≡ Given x b → is_colons x.kind ≡ true → said x.kind x.octets ≡ Ok c → turn g l r (token_of x c) ≡ goes q
+      → is_idle b.mode ≡ true → b.used ≡ k.used + 1 → is_top q.frames ≡ false → b.used ≤ l.item + q.start → Passes g l (with_scan k r) octets 1 (with_scan b q)
+  passes_colons h end now k b octets x c q some f colons says turns idle used inside room =
+      passes_one g l (with_scan k r) (with_scan b q) octets some used
+      (go_on g l (λ m. takes g l 2 m (get_or octets 0 0)) r k (feed (place r) k (get_or octets 0 0)) (unsettled k r (feed (place r) k (get_or octets 0 0))) (inl waits_on)
+      ∙ (ap (on_scan g l (λ m. takes g l 2 m (get_or octets 0 0)) r) f
+      ∙ (ap (λ a. on_said a (λ c. behind_given l b (turn g l r (token_of x c)))) says
+      ∙ (ap (behind_given l b) turns ∙ idle_noticed l q b idle inside room))))
+    where
+      waits_on : unsettled k r (feed (place r) k (get_or octets 0 0)) ≡ true
+      waits_on = ap (λ y. unsettled k r y) f ∙ (ap (λ n. waits_now (is_top r.frames) n (Given x b) || in_segment n k) now ∙ ap (λ b. b || false) colons)
 
   -- an octet that shows that what may be a symbol is none before `::`
   pub passes_settled : (s : Known) (h : Held) (end : ℕ) (octets : List ℕ) (q : Reading) → 0 < length octets → r.now ≡ nows.Pending h end → symbol_waits (feed (place r) s (get_or octets 0 0)) ≡ false → settle g l r ≡ goes q → settle g l q ≡ goes q → place q ≡ place r

@@ -43,6 +43,8 @@ pub mod Stands
 pub mod MarkerWords
 pub mod Progress
 pub mod Passing
+pub mod Nested
+pub mod FrontTokens
 pub mod Lengths
 pub mod Small
 pub mod Bounded

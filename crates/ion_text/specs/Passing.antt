@@ -1,5 +1,5 @@
 -- Octets of an open container that are taken up at once, up to one that is yet to be taken up.
-use Rattle.std.specs.Prelude.{◌≡◌, ◌<◌, ◌≤◌, ◌^◌, ℕ, ◌+◌, ◌==◌, ◌||◌, Bool, false, List, length, take, drop}
+use Rattle.std.specs.Prelude.{◌≡◌, ◌<◌, ◌≤◌, ◌^◌, ℕ, ◌+◌, false, List, length, take, drop}
 use Rattle.ion_symtab.specs.declared.limits.Limits.{Limits}
 use Rattle.ion_symtab.specs.declared.catalog.Catalog.{Catalog}
 use Rattle.ion_tokens.specs.declared.mode.Mode.TheVariants as modes
@@ -14,10 +14,6 @@ use Rattle.ion_text.specs.Progress.{StaysSteady}
 -- Over octets that agree with these up to the one behind so many, whatever comes then, a run from m goes on there from n.
 abbrev pub Passes : Catalog → Limits → State → List ℕ → ℕ → State → Type 0
 Passes g l m octets count n = (w : List ℕ) → take (count + 1) w ≡ take (count + 1) octets → run g l m.scan.used m w ≡ run g l n.scan.used n (drop count w)
-
--- the octet ends an element of a container: a comma, or a close
-abbrev pub ends_element : ℕ → Bool
-ends_element o = ((o == 44) || (o == 93)) || ((o == 125) || (o == 41))
 
 -- nothing waits
 abbrev pub IsStill : Now → Type 0

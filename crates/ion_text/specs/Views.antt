@@ -1,10 +1,11 @@
 -- What a reader in memory stands for.
-use Rattle.std.specs.Prelude.{◌≡◌, ◌≢◌, ◌+◌, ◌≤◌, ◌||◌, ℕ, List, [], reverse, Option, Some, None, Result, Ok, Err, IsNone, Bool, true, false}
+use Rattle.std.specs.Prelude.{◌≡◌, ◌≢◌, ◌+◌, ◌≤◌, ◌||◌, ℕ, List, [], ◌∷◌, reverse, Option, Some, None, Result, Ok, Err, IsNone, Bool, true, false}
 use Rattle.ion_model.specs.declared.value.Value.{Value}
 use Rattle.ion_model.specs.declared.refusal.Reason.{Reason}
 use Rattle.ion_model.specs.declared.refusal.Refusal.{Refusal}
 use Rattle.ion_model.specs.declared.refusal.Reason.TheVariants.{Memory}
 use Rattle.ion_text.specs.declared.state.Frame.{Frame}
+use Rattle.ion_text.specs.declared.state.Frame.TheVariants as frames
 use Rattle.ion_text.specs.declared.state.Now.{Now}
 use Rattle.ion_text.specs.declared.state.Now.TheVariants as nows
 use Rattle.ion_text.specs.declared.state.Effect.{Effect as Turned}
@@ -26,7 +27,8 @@ use Rattle.ion_text.specs.Run.{State, Effect, uses, tells, leaves, fails, lesser
 use Rattle.ion_text.specs.declared.reader.TextReader.{TextReader}
 use Rattle.ion_tokens.specs.declared.token.Token.{Token as Found}
 use Rattle.ion_tokens.specs.Bodies.{content}
-use Rattle.ion_text.specs.Machine.{Reading, Symbols, Turn, Token, goes, gives, refuses, late}
+use Rattle.ion_symtab.specs.Slots.{Slot}
+use Rattle.ion_text.specs.Machine.{Reading, Symbols, Turn, Token, goes, gives, refuses, late, at, ended}
 
 -- in memory the innermost of the open containers is the last
 abbrev pub open_frames : TextReader → List Frame
@@ -49,6 +51,21 @@ Does turn (Ok Goes) r = turn ≡ goes (reading_of r)
 Does turn (Ok Gives) r = Gave turn r.given (reading_of r)
 Does turn (Ok (Late e)) r = turn ≡ late e (reading_of r)
 Does turn (Err reason) r = reason ≢ Memory → turn ≡ refuses reason
+
+-- The innermost of these containers took up a value; those are open then, and so may come next. Unless memory ran out.
+abbrev pub Puts : List Frame → Value → Result Now Reason → List Frame → Type 0
+Puts fs v (Ok now) those = (g : Catalog) (item end start : ℕ) (c : List Slot) → ended g item end start c fs v ≡ goes (at start c those [] now)
+Puts fs v (Err reason) those = reason ≢ Memory → (g : Catalog) (item end start : ℕ) (c : List Slot) → ended g item end start c fs v ≡ refuses reason
+
+-- a struct, a value of whose fields is open
+abbrev pub is_named : Frame → Bool
+is_named (frames.Named ss ms name) = true
+is_named _ = false
+
+-- the innermost container is such a one
+abbrev pub has_field : List Frame → Bool
+has_field [] = false
+has_field (f ∷ fs) = is_named f
 
 -- what no token changes
 pub record SameSetting (old new : TextReader) : Type 0 where

@@ -1,23 +1,27 @@
 //! The reader of text documents: what it holds, and what each token does.
-ghost use Rattle.std.specs.Prelude.{◌≡◌, ◌∷◌, [], nat_lt, length};
+ghost use Rattle.std.specs.Prelude.{◌≡◌, ◌∷◌, [], nat_lt, length, List, reverse, false, true};
 ghost use Rattle.ion_model.specs.Measures.{annotated};
 ghost use Rattle.ion_text.specs.Machine.{place, begun_at, ended};
-ghost use Rattle.ion_text.specs.Views.{open_frames, reading_of, Does, SameSetting};
+ghost use Rattle.ion_text.specs.Run.{is_top};
+ghost use Rattle.ion_text.specs.Views.{open_frames, reading_of, Does, Puts, SameSetting, is_named, has_field};
 
 use crate::state::{Effect, Frame, Now};
 use ion_model::{Field, Payload, Reason, Refusal, Sequence, Symbol, Value};
 use ion_symtab::{Catalog, Context, Limits};
-use ion_tokens::{Place, Scanner};
+use ion_tokens::{Place, Scanner, TokenReader};
 use std::alloc::Global;
 use std::mem;
 
+mod beside;
 mod closes;
 mod ends;
 mod items;
 mod lulls;
+mod nested;
 mod octets;
 mod steps;
 mod stretches;
+mod symbols;
 mod turns;
 mod waiting;
 mod whole;
@@ -32,6 +36,8 @@ pub struct TextReader<'a> {
     catalog: &'a Catalog,
     limits: Limits,
     scanner: Scanner,
+    /// Reads tokens that lie whole in a piece and aren't plain.
+    beside: TokenReader,
     /// Where the open item of the top level begins.
     start: u64,
     /// What symbol ids stand for.
@@ -47,6 +53,36 @@ pub struct TextReader<'a> {
     awaited: Option<u8>,
     /// The refusal that each call answers from now on.
     failed: Option<Refusal>,
+}
+
+// Puts a whole value into a list or an s-expression: what may come next.
+fn put_item(frame: &mut Frame, value: Value) -> Result<Now, Reason>
+    requires { is_named frame.old ≡ false }
+    ensures { (outer : List Frame) → Puts (frame.old ∷ outer) value result (frame.new ∷ outer) }
+{
+    match frame {
+        Frame::List(_, items) => {
+            items.push(value)?;
+            Ok(Now::After)
+        }
+        Frame::Sexp(_, items) => {
+            items.push(value)?;
+            Ok(Now::Ready)
+        }
+        _ => Err(Reason::Unexpected),
+    }
+}
+
+// The same where that is the innermost of the open containers.
+fn put_innermost(frames: &mut Vec<Frame>, value: Value) -> Result<Now, Reason>
+    requires some { is_top (reverse frames.old.items) ≡ false }
+    requires value { has_field (reverse frames.old.items) ≡ false }
+    ensures { Puts (reverse frames.old.items) value result (reverse frames.new.items) }
+{
+    match frames.last_mut() {
+        None => unreachable!(),
+        Some(innermost) => put_item(innermost, value),
+    }
 }
 
 impl TextReader<'_> {
@@ -104,27 +140,31 @@ impl TextReader<'_> {
         ensures does { Does (ended self.old.catalog.now self.old.limits.item end self.old.start self.old.context (open_frames self.old) value) result self.new }
         ensures setting { SameSetting self.old self.new }
     {
-        match self.frames.pop() {
+        match self.frames.last() {
             None => self.give(value, end),
-            Some(Frame::List(annotations, mut items)) => {
-                items.push(value)?;
-                self.frames.push(Frame::List(annotations, items))?;
-                self.stage = Now::After;
+            Some(Frame::Named(_, _, _)) => self.put_field(value),
+            Some(_) => {
+                self.stage = put_innermost(&mut self.frames, value)?;
                 Ok(Effect::Goes)
             }
-            Some(Frame::Sexp(annotations, mut items)) => {
-                items.push(value)?;
-                self.frames.push(Frame::Sexp(annotations, items))?;
-                self.stage = Now::Ready;
-                Ok(Effect::Goes)
-            }
+        }
+    }
+
+    /// Hands a whole value to the struct whose field is open.
+    fn put_field(&mut self, value: Value) -> Result<Effect, Reason>
+        requires notes { self.old.notes ≡ [] }
+        requires open { has_field (open_frames self.old) ≡ true }
+        ensures does { Does (ended self.old.catalog.now 0 0 self.old.start self.old.context (open_frames self.old) value) result self.new }
+        ensures setting { SameSetting self.old self.new }
+    {
+        match self.frames.pop() {
             Some(Frame::Named(annotations, mut fields, name)) => {
                 fields.push(Field { name, value })?;
                 self.frames.push(Frame::Fields(annotations, fields))?;
                 self.stage = Now::After;
                 Ok(Effect::Goes)
             }
-            Some(Frame::Fields(_, _)) => Err(Reason::Unexpected),
+            _ => unreachable!(),
         }
     }
 

@@ -7,7 +7,7 @@ use super::TextReader;
 use crate::state::Now;
 use ion_model::{Reason, Refusal, Sequence, Value};
 use ion_symtab::{Catalog, Context, Items, Limits, Step};
-use ion_tokens::Scanner;
+use ion_tokens::{Scanner, TokenReader};
 use std::alloc::Global;
 
 impl<'a> TextReader<'a> {
@@ -33,6 +33,7 @@ impl<'a> TextReader<'a> {
             catalog,
             limits,
             scanner: Scanner::new(alloc),
+            beside: TokenReader::new(alloc),
             start: 0,
             context,
             frames: Vec::new(alloc),

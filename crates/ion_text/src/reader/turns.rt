@@ -94,7 +94,7 @@ impl TextReader<'_> {
     }
 
     /// A mark where a value or an annotation may come.
-    fn on_mark(&mut self, end: u64, mark: Mark) -> Result<Effect, Reason>
+    pub(super) fn on_mark(&mut self, end: u64, mark: Mark) -> Result<Effect, Reason>
         requires stage { self.old.stage ≡ nows.Ready }
         ensures does { Does (on_ready self.old.catalog.now self.old.limits.depth self.old.limits.item end self.old.start self.old.context (open_frames self.old) self.old.notes (Mark' mark)) result self.new }
         ensures setting { SameSetting self.old self.new }

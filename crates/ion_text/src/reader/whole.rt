@@ -1,53 +1,30 @@
 //! Tokens that lie whole in a piece, where a container is open. What is cut, refused or unusual is left to
 //! the octets. Where a container is open a value only goes on; another answer couldn't come, and is told as
 //! memory that ran out, which says nothing of the octets.
-ghost use Rattle.std.specs.Prelude.{◌≡◌, ◌+◌, ◌<◌, ◌≤◌, ◌^◌, [], length, true, false, not, Ok, IfOk, IfErr, IfSome};
+ghost use Rattle.std.specs.Prelude.{◌≡◌, ◌+◌, ◌<◌, ◌≤◌, ◌^◌, [], length, true, false, not, IfOk, IfErr};
 ghost use Rattle.ion_model.specs.declared.refusal.Reason.TheVariants.{Memory};
 ghost use Rattle.ion_tokens.specs.Views.{scanned};
 ghost use Rattle.ion_tokens.specs.Places.{is_name};
 ghost use Rattle.ion_tokens.specs.Rests.{resting, IsPassed};
 ghost use Rattle.ion_text.specs.declared.state.Now.TheVariants as nows;
-ghost use Rattle.ion_text.specs.Machine.{place, held_word, held_payload};
+ghost use Rattle.ion_text.specs.Machine.{place};
 ghost use Rattle.ion_text.specs.Run.{is_top};
 ghost use Rattle.ion_text.specs.Views.{open_frames, reading_of, state_of, IsFine, SameReader};
 ghost use Rattle.ion_text.specs.Progress.{Took, StaysSteady};
-ghost use Rattle.ion_text.specs.Passing.{ends_element, IsResting, Inside, Strides};
+ghost use Rattle.ion_text.specs.Passing.{IsResting, Inside, Strides};
 
 use super::TextReader;
 use super::turns::number_payload;
-use crate::state::{Effect, Held, Now, Taken};
-use crate::words::{held_word, is_keyword};
-use ion_model::{Payload, Reason, Refusal, Symbol, Text};
+use crate::state::{Effect, Now, Taken};
+use ion_model::{Payload, Reason, Refusal, Text};
 use ion_scalar::number_of;
-use ion_tokens::{Mark, Place, Rest, TokenKind, blanks, number, short_string, word};
-use std::alloc::Global;
+use ion_tokens::{Mark, Place, Rest, TokenKind, blanks, number, short_string};
 
 // Whether a value may stand there, and no field's name.
 fn may_be_value(place: Place) -> bool
     ensures { result ≡ not (is_name place) }
 {
     !matches!(place, Place::Name)
-}
-
-// Whether an octet ends an element of a container.
-fn ends_element(octet: u8) -> bool
-    ensures { result ≡ ends_element octet }
-{
-    (octet == b',' || octet == b']') || (octet == b'}' || octet == b')')
-}
-
-// The value that a word is, but for `nan`.
-fn word_payload(alloc: Global, word: &str) -> Result<Option<Payload>, Reason>
-    ensures pays { IfOk result (λ value. IfSome value (λ payload. held_payload (held_word word.now) ≡ Ok payload)) }
-    ensures memory { IfErr result (λ reason. reason ≡ Memory) }
-{
-    match held_word(alloc, word)? {
-        Held::Symbol(symbol) => Ok(Some(Payload::Symbol(symbol))),
-        Held::Version(_, symbol) => Ok(Some(Payload::Symbol(symbol))),
-        Held::Null(kind) => Ok(Some(Payload::Null(kind))),
-        Held::Truth(truth) => Ok(Some(Payload::Truth(truth))),
-        Held::Nan => Ok(None),
-    }
 }
 
 impl TextReader<'_> {
@@ -112,10 +89,11 @@ impl TextReader<'_> {
         if count > 0 {
             return Ok(self.take_blank(rest, count, octets));
         }
-        match &self.stage {
-            Now::Ready => self.take_value(rest, octets),
-            Now::Name => self.take_name(rest, octets),
-            Now::After => self.take_comma(rest, octets),
+        match (&self.stage, octets[0]) {
+            (Now::Name, b'}') | (Now::After, b']' | b'}') => self.take_close(rest, octets),
+            (Now::Ready, _) => self.take_value(rest, octets),
+            (Now::Name, _) => self.take_name(rest, octets),
+            (Now::After, _) => self.take_comma(rest, octets),
             _ => Ok(0),
         }
     }
@@ -150,6 +128,9 @@ impl TextReader<'_> {
         match octets[0] {
             b'"' => self.take_string(here, rest, octets),
             b'-' | b'0'..=b'9' => self.take_number(here, rest, octets),
+            b'[' | b'(' | b'{' => self.take_open(here, rest, octets),
+            b']' | b')' => self.take_close(rest, octets),
+            b'\'' => self.take_quoted(here, rest, octets),
             _ => self.take_word(here, rest, octets),
         }
     }
@@ -167,7 +148,7 @@ impl TextReader<'_> {
         ensures same { SameReader self.old self.new }
     {
         let Some(count) = number(octets) else {
-            return Ok(0);
+            return self.take_rare(here, rest, octets);
         };
         if count >= octets.len() {
             return Ok(0);
@@ -196,7 +177,7 @@ impl TextReader<'_> {
         ensures same { SameReader self.old self.new }
     {
         let Some(count) = short_string(octets) else {
-            return Ok(0);
+            return self.take_rare(here, rest, octets);
         };
         if count >= octets.len() || count < 2 {
             return Ok(0);
@@ -208,82 +189,6 @@ impl TextReader<'_> {
             .move_to(rest.past_token(here, TokenKind::ShortString, count));
         match self.whole(Payload::Str(Text::from_string(text)), end) {
             Ok(Effect::Goes) => Ok(count),
-            _ => Err(Reason::Memory),
-        }
-    }
-
-    /// Takes up a word and the blank behind it, if the octet there shows that it is a value.
-    #[inline(never)]
-    fn take_word(&mut self, here: Place, rest: Rest, octets: &[u8]) -> Result<usize, Reason>
-        requires inside { Inside self.old octets.now }
-        requires rests { scanned self.old.scanner ≡ resting rest }
-        requires stage { self.old.stage ≡ nows.Ready }
-        requires here { here ≡ place (reading_of self.old) }
-        ensures strides { IfOk result (λ count. Strides self.old self.new octets.now count) }
-        ensures memory { IfErr result (λ reason. reason ≡ Memory) }
-        ensures same { SameReader self.old self.new }
-    {
-        let Some(count) = word(octets) else {
-            return Ok(0);
-        };
-        if octets[0] == b'$' || count >= octets.len() {
-            return Ok(0);
-        }
-        let between = blanks(&octets[count..]);
-        let total = count + between;
-        if total >= octets.len() || !ends_element(octets[total]) {
-            return Ok(0);
-        }
-        let spelled = unsafe { str::from_utf8_unchecked(&octets[..count]) };
-        let Some(payload) = word_payload(self.alloc, spelled)? else {
-            return Ok(0);
-        };
-        let end = rest.used + count as u64;
-        let behind = rest
-            .past_token(here, TokenKind::Word, count)
-            .past_blank(between);
-        self.scanner.move_to(behind);
-        match self.whole(payload, end) {
-            Ok(Effect::Goes) => Ok(total),
-            _ => Err(Reason::Memory),
-        }
-    }
-
-    /// Takes up a word that is a field's name, and the colon behind it.
-    #[inline(never)]
-    fn take_name(&mut self, rest: Rest, octets: &[u8]) -> Result<usize, Reason>
-        requires inside { Inside self.old octets.now }
-        requires rests { scanned self.old.scanner ≡ resting rest }
-        requires stage { self.old.stage ≡ nows.Name }
-        ensures strides { IfOk result (λ count. Strides self.old self.new octets.now count) }
-        ensures memory { IfErr result (λ reason. reason ≡ Memory) }
-        ensures same { SameReader self.old self.new }
-    {
-        let Some(count) = word(octets) else {
-            return Ok(0);
-        };
-        if octets[0] == b'$' || count >= octets.len() || self.has_notes() {
-            return Ok(0);
-        }
-        let between = blanks(&octets[count..]);
-        let total = count + between + 1;
-        if total >= octets.len() || octets[total - 1] != b':' || octets[total] == b':' {
-            return Ok(0);
-        }
-        let spelled = unsafe { str::from_utf8_unchecked(&octets[..count]) };
-        if is_keyword(spelled) {
-            return Ok(0);
-        }
-        let name = Symbol::known(self.alloc, spelled)?;
-        let here = self.place();
-        let behind = rest
-            .past_token(here, TokenKind::Word, count)
-            .past_blank(between)
-            .past_token(here, TokenKind::Mark(Mark::Colon), 1);
-        self.scanner.move_to(behind);
-        self.stage = Now::Ready;
-        match self.named(name) {
-            Ok(Effect::Goes) => Ok(total),
             _ => Err(Reason::Memory),
         }
     }
@@ -310,7 +215,7 @@ impl TextReader<'_> {
     }
 
     /// Whether annotations were read.
-    fn has_notes(&self) -> bool
+    pub(super) fn has_notes(&self) -> bool
         ensures { result ≡ false → self.now.notes ≡ [] }
     {
         match self.notes.as_slice().first() {

@@ -1,0 +1,205 @@
+-- What an open and a close do where the scanner rests and a container is open.
+use Rattle.std.proofs.Common.{◌≡◌, ℕ, ◌+◌, ◌<◌, Bool, true, false, List, [], ◌∷◌, length, refl, ap, sym, ◌∙◌, subst, arith, inl, inr}
+use Rattle.std.specs.Prelude.{if◌then◌else◌, nat_lt, slice_index}
+use Rattle.ion_model.specs.declared.value.Payload.TheVariants as payloads
+use Rattle.ion_model.specs.Measures.{annotated}
+use Rattle.ion_symtab.specs.declared.limits.Limits.{Limits}
+use Rattle.ion_symtab.specs.declared.catalog.Catalog.{Catalog}
+use Rattle.ion_symtab.specs.Slots.{Slot}
+use Rattle.ion_tokens.specs.declared.mode.Place.{Place}
+use Rattle.ion_tokens.specs.declared.mode.Mark.{Mark}
+use Rattle.ion_tokens.specs.declared.mode.Mark.TheVariants as marks
+use Rattle.ion_tokens.specs.declared.mode.TokenKind.TheVariants as kinds
+use Rattle.ion_tokens.specs.declared.scanner.Scanner.{Scanner}
+use Rattle.ion_tokens.specs.declared.whole.Rest.{Rest}
+use Rattle.ion_tokens.specs.Bodies.{Mark'}
+use Rattle.ion_tokens.specs.Places.{is_name}
+use Rattle.ion_tokens.specs.Views.{scanned}
+use Rattle.ion_tokens.specs.Rests.{resting, past_token, lexeme_at, IsFound}
+use Rattle.ion_tokens.proofs.WholeTokens.{list_open_found, list_close_found, sexp_open_found, sexp_close_found, fields_open_found, fields_close_found}
+use Rattle.ion_text.specs.declared.state.Frame.{Frame}
+use Rattle.ion_text.specs.declared.state.Frame.TheVariants as frames
+use Rattle.ion_text.specs.declared.state.Now.{Now}
+use Rattle.ion_text.specs.declared.state.Now.TheVariants as nows
+use Rattle.ion_text.specs.declared.reader.TextReader.{TextReader}
+use Rattle.ion_text.specs.Machine.{Reading, Turn, Symbols, goes, place, place_in, turn_now, on_ready}
+use Rattle.ion_text.specs.Nested.{Opens, Closes, closes, close_octet, closed}
+use Rattle.ion_text.specs.Views.{reading_of, open_frames, IsCalm, SameSetting}
+use Rattle.ion_text.specs.Passing.{IsStill, Inside, Strides}
+use Rattle.ion_text.proofs.Arms.{StaysIn, Moved, with_scanner, went, ready_turns, ended_stays, mark_says, token_strides}
+
+-- An open. That of a struct shows its end by the octet behind it.
+abbrev pub is_left : Mark → Bool
+is_left marks.FieldsOpen = true
+is_left _ = false
+
+open_found : (m : Mark) (p : Place) (r : Rest) (octets : List ℕ) → Opens octets m → 1 < length octets → is_name p ≡ false → IsFound p r octets (kinds.Mark m) [] 1 (is_left m)
+open_found marks.ListOpen p r octets opens more name = list_open_found p r octets name (omega arith) opens
+open_found marks.SexpOpen p r octets opens more name = sexp_open_found p r octets name (omega arith) opens
+open_found marks.FieldsOpen p r octets opens more name = fields_open_found p r octets name more opens.0 opens.1
+open_found marks.ListClose p r octets opens more name = absurd opens
+open_found marks.SexpClose p r octets opens more name = absurd opens
+open_found marks.FieldsClose p r octets opens more name = absurd opens
+open_found marks.Comma p r octets opens more name = absurd opens
+open_found marks.Colon p r octets opens more name = absurd opens
+open_found marks.Colons p r octets opens more name = absurd opens
+
+-- it goes on in one container more
+module _ (g : Catalog) (depth item end start : ℕ) (c : List Slot) (fs : List Frame) (ss : Symbols) where
+  deepens : (b : Bool) (a q : Reading) (deep : Turn) → (deep ≡ goes q → ⊥) → StaysIn start a → (if b then goes a else deep) ≡ goes q → StaysIn start q
+  deepens true a q deep never stays does = went (StaysIn start) a q does stays
+  deepens false a q deep never stays does = absurd (never does)
+
+  open_stays : (m : Mark) (octets : List ℕ) (q : Reading) → Opens octets m → on_ready g depth item end start c fs ss (Mark' m) ≡ goes q → StaysIn start q
+  open_stays marks.ListOpen octets q opens does = deepens (nat_lt (length fs) depth) _ q _ (λ never. cc) (refl, refl, tt) does
+  open_stays marks.SexpOpen octets q opens does = deepens (nat_lt (length fs) depth) _ q _ (λ never. cc) (refl, refl, tt) does
+  open_stays marks.FieldsOpen octets q opens does = deepens (nat_lt (length fs) depth) _ q _ (λ never. cc) (refl, refl, tt) does
+  open_stays marks.ListClose octets q opens does = absurd opens
+  open_stays marks.SexpClose octets q opens does = absurd opens
+  open_stays marks.FieldsClose octets q opens does = absurd opens
+  open_stays marks.Comma octets q opens does = absurd opens
+  open_stays marks.Colon octets q opens does = absurd opens
+  open_stays marks.Colons octets q opens does = absurd opens
+
+pub open_strides : (old new : TextReader) (moved : Scanner) (rest behind : Rest) (octets : List ℕ) (m : Mark) → Inside old octets → scanned old.scanner ≡ resting rest → Moved old.scanner moved behind → SameSetting (with_scanner old moved) new
+    → 1 < length octets → Opens octets m → is_name (place (reading_of old)) ≡ false → behind ≡ past_token (place (reading_of old)) rest (kinds.Mark m) 1 → old.stage ≡ nows.Ready
+    → on_ready old.catalog.now old.limits.depth old.limits.item (rest.used + 1) old.start old.context (open_frames old) old.notes (Mark' m) ≡ goes (reading_of new) → Strides old new octets 1
+open_strides old new moved rest behind octets m inside rests move setting within opens name there now does =
+    token_strides old new moved rest behind octets inside rests move setting (kinds.Mark m) [] 1 (is_left m) (Mark' m) within there (subst IsStill (sym now) tt) (inl (subst IsCalm (sym now) tt))
+    (open_found m (place (reading_of old)) rest octets opens within name) (mark_says m)
+    (ready_turns old.catalog.now old.limits (reading_of old) (lexeme_at rest (kinds.Mark m) [] 1) (Mark' m) now inside.inner ∙ does)
+    (open_stays old.catalog.now old.limits.depth old.limits.item (rest.used + 1) old.start old.context (open_frames old) old.notes m octets (reading_of new) opens does)
+
+-- A close.
+
+close_found : (m : Mark) (fs : List Frame) (now : Now) (r : Rest) (octets : List ℕ) → closes m fs now ≡ true → 0 < length octets → slice_index octets 0 ≡ close_octet m → IsFound (place_in fs now) r octets (kinds.Mark m) [] 1 false
+close_found marks.ListClose [] now r octets h some first = absurd cc
+close_found marks.ListClose (frames.List ss vs ∷ fs) now r octets h some first = list_close_found (place_in (frames.List ss vs ∷ fs) now) r octets refl some first
+close_found marks.ListClose (frames.Sexp ss vs ∷ fs) now r octets h some first = absurd cc
+close_found marks.ListClose (frames.Fields ss ms ∷ fs) now r octets h some first = absurd cc
+close_found marks.ListClose (frames.Named ss ms name ∷ fs) now r octets h some first = absurd cc
+close_found marks.SexpClose [] now r octets h some first = absurd cc
+close_found marks.SexpClose (frames.List ss vs ∷ fs) now r octets h some first = absurd cc
+close_found marks.SexpClose (frames.Sexp ss vs ∷ fs) now r octets h some first = sexp_close_found (place_in (frames.Sexp ss vs ∷ fs) now) r octets refl some first
+close_found marks.SexpClose (frames.Fields ss ms ∷ fs) now r octets h some first = absurd cc
+close_found marks.SexpClose (frames.Named ss ms name ∷ fs) now r octets h some first = absurd cc
+close_found marks.FieldsClose fs now r octets h some first = fields_close_found (place_in fs now) r octets some first
+close_found marks.ListOpen fs now r octets h some first = absurd cc
+close_found marks.SexpOpen fs now r octets h some first = absurd cc
+close_found marks.FieldsOpen fs now r octets h some first = absurd cc
+close_found marks.Comma fs now r octets h some first = absurd cc
+close_found marks.Colon fs now r octets h some first = absurd cc
+close_found marks.Colons fs now r octets h some first = absurd cc
+
+module _ (g : Catalog) (l : Limits) (begin end start : ℕ) (c : List Slot) where
+  -- in such a state the mark closes, and nothing waits
+  abbrev Closing : Mark → List Frame → Now → Type 0
+  Closing m fs now = (turn_now g l begin end start c fs [] (Mark' m) now ≡ closed m g l.item end start c fs) × IsStill now
+
+  closing : (m : Mark) (fs : List Frame) (now : Now) → closes m fs now ≡ true → Closing m fs now
+  closing marks.ListClose [] now h = absurd cc
+  closing marks.ListClose (frames.List ss vs ∷ fs) nows.Ready h = (refl, tt)
+  closing marks.ListClose (frames.List ss vs ∷ fs) (nows.Pending held e) h = absurd cc
+  closing marks.ListClose (frames.List ss vs ∷ fs) (nows.Long w e) h = absurd cc
+  closing marks.ListClose (frames.List ss vs ∷ fs) nows.After h = (refl, tt)
+  closing marks.ListClose (frames.List ss vs ∷ fs) nows.Name h = absurd cc
+  closing marks.ListClose (frames.List ss vs ∷ fs) (nows.LongName w) h = absurd cc
+  closing marks.ListClose (frames.List ss vs ∷ fs) (nows.Keyed name) h = absurd cc
+  closing marks.ListClose (frames.Sexp ss vs ∷ fs) now h = absurd cc
+  closing marks.ListClose (frames.Fields ss ms ∷ fs) now h = absurd cc
+  closing marks.ListClose (frames.Named ss ms key ∷ fs) now h = absurd cc
+  closing marks.SexpClose [] now h = absurd cc
+  closing marks.SexpClose (frames.List ss vs ∷ fs) now h = absurd cc
+  closing marks.SexpClose (frames.Sexp ss vs ∷ fs) nows.Ready h = (refl, tt)
+  closing marks.SexpClose (frames.Sexp ss vs ∷ fs) (nows.Pending held e) h = absurd cc
+  closing marks.SexpClose (frames.Sexp ss vs ∷ fs) (nows.Long w e) h = absurd cc
+  closing marks.SexpClose (frames.Sexp ss vs ∷ fs) nows.After h = absurd cc
+  closing marks.SexpClose (frames.Sexp ss vs ∷ fs) nows.Name h = absurd cc
+  closing marks.SexpClose (frames.Sexp ss vs ∷ fs) (nows.LongName w) h = absurd cc
+  closing marks.SexpClose (frames.Sexp ss vs ∷ fs) (nows.Keyed name) h = absurd cc
+  closing marks.SexpClose (frames.Fields ss ms ∷ fs) now h = absurd cc
+  closing marks.SexpClose (frames.Named ss ms key ∷ fs) now h = absurd cc
+  closing marks.FieldsClose [] now h = absurd cc
+  closing marks.FieldsClose (frames.List ss vs ∷ fs) now h = absurd cc
+  closing marks.FieldsClose (frames.Sexp ss vs ∷ fs) now h = absurd cc
+  closing marks.FieldsClose (frames.Fields ss ms ∷ fs) nows.Ready h = absurd cc
+  closing marks.FieldsClose (frames.Fields ss ms ∷ fs) (nows.Pending held e) h = absurd cc
+  closing marks.FieldsClose (frames.Fields ss ms ∷ fs) (nows.Long w e) h = absurd cc
+  closing marks.FieldsClose (frames.Fields ss ms ∷ fs) nows.After h = (refl, tt)
+  closing marks.FieldsClose (frames.Fields ss ms ∷ fs) nows.Name h = (refl, tt)
+  closing marks.FieldsClose (frames.Fields ss ms ∷ fs) (nows.LongName w) h = absurd cc
+  closing marks.FieldsClose (frames.Fields ss ms ∷ fs) (nows.Keyed name) h = absurd cc
+  closing marks.FieldsClose (frames.Named ss ms key ∷ fs) now h = absurd cc
+  closing marks.ListOpen fs now h = absurd cc
+  closing marks.SexpOpen fs now h = absurd cc
+  closing marks.FieldsOpen fs now h = absurd cc
+  closing marks.Comma fs now h = absurd cc
+  closing marks.Colon fs now h = absurd cc
+  closing marks.Colons fs now h = absurd cc
+
+-- what stands around it goes on
+close_stays : (g : Catalog) (item end start : ℕ) (c : List Slot) (q : Reading) (m : Mark) (fs : List Frame) → 1 < length fs → closed m g item end start c fs ≡ goes q → StaysIn start q
+close_stays g item end start c q marks.ListClose [] more does = absurd cc
+close_stays g item end start c q marks.ListClose (frames.List ss vs ∷ []) more does = absurd (omega arith)
+close_stays g item end start c q marks.ListClose (frames.List ss vs ∷ f ∷ fs) more does = ended_stays g item end start c q (f ∷ fs) (annotated ss (payloads.List vs)) refl does
+close_stays g item end start c q marks.ListClose (frames.Sexp ss vs ∷ fs) more does = absurd cc
+close_stays g item end start c q marks.ListClose (frames.Fields ss ms ∷ fs) more does = absurd cc
+close_stays g item end start c q marks.ListClose (frames.Named ss ms key ∷ fs) more does = absurd cc
+close_stays g item end start c q marks.SexpClose [] more does = absurd cc
+close_stays g item end start c q marks.SexpClose (frames.List ss vs ∷ fs) more does = absurd cc
+close_stays g item end start c q marks.SexpClose (frames.Sexp ss vs ∷ []) more does = absurd (omega arith)
+close_stays g item end start c q marks.SexpClose (frames.Sexp ss vs ∷ f ∷ fs) more does = ended_stays g item end start c q (f ∷ fs) (annotated ss (payloads.Sexp vs)) refl does
+close_stays g item end start c q marks.SexpClose (frames.Fields ss ms ∷ fs) more does = absurd cc
+close_stays g item end start c q marks.SexpClose (frames.Named ss ms key ∷ fs) more does = absurd cc
+close_stays g item end start c q marks.FieldsClose [] more does = absurd cc
+close_stays g item end start c q marks.FieldsClose (frames.List ss vs ∷ fs) more does = absurd cc
+close_stays g item end start c q marks.FieldsClose (frames.Sexp ss vs ∷ fs) more does = absurd cc
+close_stays g item end start c q marks.FieldsClose (frames.Fields ss ms ∷ []) more does = absurd (omega arith)
+close_stays g item end start c q marks.FieldsClose (frames.Fields ss ms ∷ f ∷ fs) more does = ended_stays g item end start c q (f ∷ fs) (annotated ss (payloads.Fields ms)) refl does
+close_stays g item end start c q marks.FieldsClose (frames.Named ss ms key ∷ fs) more does = absurd cc
+close_stays g item end start c q marks.ListOpen [] more does = absurd cc
+close_stays g item end start c q marks.ListOpen (frames.List ss vs ∷ fs) more does = absurd cc
+close_stays g item end start c q marks.ListOpen (frames.Sexp ss vs ∷ fs) more does = absurd cc
+close_stays g item end start c q marks.ListOpen (frames.Fields ss ms ∷ []) more does = absurd (omega arith)
+close_stays g item end start c q marks.ListOpen (frames.Fields ss ms ∷ f ∷ fs) more does = ended_stays g item end start c q (f ∷ fs) (annotated ss (payloads.Fields ms)) refl does
+close_stays g item end start c q marks.ListOpen (frames.Named ss ms key ∷ fs) more does = absurd cc
+close_stays g item end start c q marks.SexpOpen [] more does = absurd cc
+close_stays g item end start c q marks.SexpOpen (frames.List ss vs ∷ fs) more does = absurd cc
+close_stays g item end start c q marks.SexpOpen (frames.Sexp ss vs ∷ fs) more does = absurd cc
+close_stays g item end start c q marks.SexpOpen (frames.Fields ss ms ∷ []) more does = absurd (omega arith)
+close_stays g item end start c q marks.SexpOpen (frames.Fields ss ms ∷ f ∷ fs) more does = ended_stays g item end start c q (f ∷ fs) (annotated ss (payloads.Fields ms)) refl does
+close_stays g item end start c q marks.SexpOpen (frames.Named ss ms key ∷ fs) more does = absurd cc
+close_stays g item end start c q marks.FieldsOpen [] more does = absurd cc
+close_stays g item end start c q marks.FieldsOpen (frames.List ss vs ∷ fs) more does = absurd cc
+close_stays g item end start c q marks.FieldsOpen (frames.Sexp ss vs ∷ fs) more does = absurd cc
+close_stays g item end start c q marks.FieldsOpen (frames.Fields ss ms ∷ []) more does = absurd (omega arith)
+close_stays g item end start c q marks.FieldsOpen (frames.Fields ss ms ∷ f ∷ fs) more does = ended_stays g item end start c q (f ∷ fs) (annotated ss (payloads.Fields ms)) refl does
+close_stays g item end start c q marks.FieldsOpen (frames.Named ss ms key ∷ fs) more does = absurd cc
+close_stays g item end start c q marks.Comma [] more does = absurd cc
+close_stays g item end start c q marks.Comma (frames.List ss vs ∷ fs) more does = absurd cc
+close_stays g item end start c q marks.Comma (frames.Sexp ss vs ∷ fs) more does = absurd cc
+close_stays g item end start c q marks.Comma (frames.Fields ss ms ∷ []) more does = absurd (omega arith)
+close_stays g item end start c q marks.Comma (frames.Fields ss ms ∷ f ∷ fs) more does = ended_stays g item end start c q (f ∷ fs) (annotated ss (payloads.Fields ms)) refl does
+close_stays g item end start c q marks.Comma (frames.Named ss ms key ∷ fs) more does = absurd cc
+close_stays g item end start c q marks.Colon [] more does = absurd cc
+close_stays g item end start c q marks.Colon (frames.List ss vs ∷ fs) more does = absurd cc
+close_stays g item end start c q marks.Colon (frames.Sexp ss vs ∷ fs) more does = absurd cc
+close_stays g item end start c q marks.Colon (frames.Fields ss ms ∷ []) more does = absurd (omega arith)
+close_stays g item end start c q marks.Colon (frames.Fields ss ms ∷ f ∷ fs) more does = ended_stays g item end start c q (f ∷ fs) (annotated ss (payloads.Fields ms)) refl does
+close_stays g item end start c q marks.Colon (frames.Named ss ms key ∷ fs) more does = absurd cc
+close_stays g item end start c q marks.Colons [] more does = absurd cc
+close_stays g item end start c q marks.Colons (frames.List ss vs ∷ fs) more does = absurd cc
+close_stays g item end start c q marks.Colons (frames.Sexp ss vs ∷ fs) more does = absurd cc
+close_stays g item end start c q marks.Colons (frames.Fields ss ms ∷ []) more does = absurd (omega arith)
+close_stays g item end start c q marks.Colons (frames.Fields ss ms ∷ f ∷ fs) more does = ended_stays g item end start c q (f ∷ fs) (annotated ss (payloads.Fields ms)) refl does
+close_stays g item end start c q marks.Colons (frames.Named ss ms key ∷ fs) more does = absurd cc
+
+pub close_strides : (old new : TextReader) (moved : Scanner) (rest behind : Rest) (octets : List ℕ) (m : Mark) → Inside old octets → scanned old.scanner ≡ resting rest → Moved old.scanner moved behind → SameSetting (with_scanner old moved) new
+    → 1 < length octets → Closes (reading_of old) (slice_index octets 0) m → behind ≡ past_token (place (reading_of old)) rest (kinds.Mark m) 1
+    → closed m old.catalog.now old.limits.item (rest.used + 1) old.start old.context (open_frames old) ≡ goes (reading_of new) → Strides old new octets 1
+close_strides old new moved rest behind octets m inside rests move setting within h there does =
+    let k = closing old.catalog.now old.limits rest.used (rest.used + 1) old.start old.context m (open_frames old) old.stage h.fits in
+    token_strides old new moved rest behind octets inside rests move setting (kinds.Mark m) [] 1 false (Mark' m) within there k.1 (inr refl)
+    (close_found m (open_frames old) old.stage rest octets h.fits (omega arith) h.octet) (mark_says m)
+    (ap (λ ss. turn_now old.catalog.now old.limits rest.used (rest.used + 1) old.start old.context (open_frames old) ss (Mark' m) old.stage) h.bare ∙ (k.0 ∙ does))
+    (close_stays old.catalog.now old.limits.item (rest.used + 1) old.start old.context (reading_of new) m (open_frames old) h.nested does)

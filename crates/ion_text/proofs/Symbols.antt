@@ -1,0 +1,510 @@
+-- Values that may yet be annotations, names of fields, and other values, each found whole where a container is open.
+use Rattle.std.proofs.Common.{◌≡◌, ◌≢◌, ℕ, ◌+◌, ◌-◌, ◌<◌, ◌≤◌, Bool, true, false, List, [], ◌∷◌, ◌++◌, length, take, drop, get_or, Option, Some, None, Result, Ok, Err, refl, ap, sym, ◌∙◌, subst, arith, length-drop, cond}
+use Rattle.std.specs.Prelude.{◌==◌, ◌&&◌, if◌then◌else◌, IsUtf8}
+use Rattle.std.proofs.lemmas.Bool.Decides.{nat_tests}
+use Rattle.std.proofs.lemmas.Grind.{common_steps}
+use Rattle.std.proofs.lemmas.List.{length-take-le}
+use Rattle.ion_model.specs.declared.value.Payload.{Payload}
+use Rattle.ion_model.specs.declared.value.Payload.TheVariants as payloads
+use Rattle.ion_model.specs.Measures.{annotated}
+use Rattle.ion_model.specs.declared.refusal.Reason.{Reason}
+use Rattle.ion_model.specs.declared.refusal.Reason.TheVariants as reasons
+use Rattle.ion_symtab.specs.declared.limits.Limits.{Limits}
+use Rattle.ion_symtab.specs.declared.catalog.Catalog.{Catalog}
+use Rattle.ion_symtab.specs.Slots.{Slot}
+use Rattle.ion_tokens.specs.declared.beside.FoundToken.{FoundToken}
+use Rattle.ion_tokens.specs.declared.beside.TokenReader.{TokenReader}
+use Rattle.ion_tokens.specs.declared.mode.Place.{Place}
+use Rattle.ion_tokens.specs.declared.mode.Mark.TheVariants as marks
+use Rattle.ion_tokens.specs.declared.mode.TokenKind.{TokenKind}
+use Rattle.ion_tokens.specs.declared.mode.TokenKind.TheVariants as kinds
+use Rattle.ion_tokens.specs.declared.scanner.Scanner.{Scanner}
+use Rattle.ion_tokens.specs.declared.whole.Rest.{Rest}
+use Rattle.ion_tokens.specs.Ahead.{symbol_waits}
+use Rattle.ion_tokens.specs.Bodies.{Content, Word, Id, Quoted, Short, Long, Number', TypedNull, Operator, Clob, Blob, Mark', SaysNumber, IsBody}
+use Rattle.ion_tokens.specs.Bounds.{is_idle}
+use Rattle.ion_tokens.specs.Octets.{is_white, begins_word, is_digit, is_operator_octet}
+use Rattle.ion_tokens.specs.Places.{is_name, is_sexp}
+use Rattle.ion_tokens.specs.Rests.{resting, past_blank, past_token, lexeme_at, IsPassed, IsFound}
+use Rattle.ion_tokens.specs.Said.{said, says}
+use Rattle.ion_tokens.specs.Scanning as scanning
+use Rattle.ion_tokens.specs.Scanning.{Known, Outcome, Next, feed, follow, acts, takes_colon}
+use Rattle.ion_tokens.specs.Table.{in_blank, begins_value}
+use Rattle.ion_tokens.specs.declared.mode.Action.{Action}
+use Rattle.ion_tokens.specs.Views.{scanned}
+use Rattle.ion_tokens.proofs.Runs.{next_used}
+use Rattle.ion_tokens.proofs.WholeTokens.{colon_found, colons_found}
+use Rattle.ion_text.specs.Grammar.{is_keyword}
+use Rattle.ion_text.specs.declared.state.Frame.{Frame}
+use Rattle.ion_text.specs.declared.state.Frame.TheVariants as frames
+use Rattle.ion_text.specs.declared.state.Held.{Held}
+use Rattle.ion_text.specs.declared.state.Held.TheVariants as helds
+use Rattle.ion_text.specs.declared.state.Now.TheVariants as nows
+use Rattle.ion_text.specs.declared.reader.TextReader.{TextReader}
+use Rattle.ion_text.specs.FrontTokens.{ends_symbol, held_of, value_of, Pays, Names, BeginsSymbol, BeginsValue, BeginsName}
+use Rattle.ion_text.specs.Machine.{Reading, Symbols, goes, late, at, place, place_in, settle, turn, turn_now, on_ready, on_name, ended, paid, held_word, held_payload, held_symbol, noted, keyed, named}
+use Rattle.ion_text.specs.Passing.{Passes, IsStill, Inside, Strides}
+use Rattle.ion_text.specs.Run.{is_top, with_scan, token_of}
+use Rattle.ion_text.specs.Runs.{Quiet}
+use Rattle.ion_text.specs.Views.{reading_of, open_frames, IsCalm, SameSetting}
+use Rattle.ion_text.proofs.Arms.{Moved, StaysIn, with_scanner, spelled_utf8, short_says, word_says, first_of, moved_strides, room, ready_turns, left_passes, given_leads, ended_stays, ended_place, named_stays, released_inner, same_place, name_place, value_strides, mark_says, blank_used, blank_colon, at_drop}
+use Rattle.ion_text.proofs.Passing.{passes_on, passes_blank, passes_waiting, passes_settled, passes_colons, calm_quiet, blank_quiet}
+use Rattle.ion_text.proofs.Striding.{still_settles}
+
+-- What the tokens do.
+
+some_is : {A : Type 0} (a b : A) → Path (Option A) (Some a) (Some b) → a ≡ b
+some_is a b e = cc
+
+ok_is : (a b : Content) → Path (Result Content Reason) (Ok a) (Ok b) → a ≡ b
+ok_is a b e = cc
+
+waits_so : (g : Catalog) (depth item end start : ℕ) (ctx : List Slot) (fs : List Frame) (ss : Symbols) (c : Content) (h : Held) → held_of c ≡ Some h → on_ready g depth item end start ctx fs ss c ≡ goes (at start ctx fs ss (nows.Pending h end))
+waits_so g depth item end start ctx fs ss c h e = go c e
+  where
+    held : (a : Held) → Some a ≡ Some h → goes (at start ctx fs ss (nows.Pending a end)) ≡ goes (at start ctx fs ss (nows.Pending h end))
+    held a e = ap (λ x. goes (at start ctx fs ss (nows.Pending x end))) (some_is a h e)
+
+    go : (c : Content) → held_of c ≡ Some h → on_ready g depth item end start ctx fs ss c ≡ goes (at start ctx fs ss (nows.Pending h end))
+    go (Word w) e = held _ e
+    go (Quoted w) e = held _ e
+    go (TypedNull k) e = held _ e
+    go (Id n) e = absurd cc
+    go (Short w) e = absurd cc
+    go (Long w) e = absurd cc
+    go (Number' n) e = absurd cc
+    go (Operator w) e = absurd cc
+    go (Clob w) e = absurd cc
+    go (Blob w) e = absurd cc
+    go (Mark' m) e = absurd cc
+
+ends_so : (g : Catalog) (depth item end start : ℕ) (ctx : List Slot) (fs : List Frame) (ss : Symbols) (c : Content) (v : Payload) → value_of c ≡ Some v → on_ready g depth item end start ctx fs ss c ≡ ended g item end start ctx fs (annotated ss v)
+ends_so g depth item end start ctx fs ss c v e = go c e
+  where
+    value : (a : Payload) → Some a ≡ Some v → ended g item end start ctx fs (annotated ss a) ≡ ended g item end start ctx fs (annotated ss v)
+    value a e = ap (λ x. ended g item end start ctx fs (annotated ss x)) (some_is a v e)
+
+    go : (c : Content) → value_of c ≡ Some v → on_ready g depth item end start ctx fs ss c ≡ ended g item end start ctx fs (annotated ss v)
+    go (Short w) e = value _ e
+    go (Operator w) e = value _ e
+    go (Clob w) e = value _ e
+    go (Blob w) e = value _ e
+    go (Word w) e = absurd cc
+    go (Quoted w) e = absurd cc
+    go (TypedNull k) e = absurd cc
+    go (Id n) e = absurd cc
+    go (Long w) e = absurd cc
+    go (Number' n) e = absurd cc
+    go (Mark' m) e = absurd cc
+
+names_so : (g : Catalog) (item end start : ℕ) (ctx : List Slot) (fs : List Frame) (c : Content) (s : Option (List ℕ)) → Names c s → on_name g item end start ctx fs c ≡ goes (keyed start ctx fs s)
+names_so g item end start ctx fs c s e = go c e
+  where
+    name : (w : List ℕ) → s ≡ Some w → goes (keyed start ctx fs (Some w)) ≡ goes (keyed start ctx fs s)
+    name w e = ap (λ x. goes (keyed start ctx fs x)) (sym e)
+
+    go : (c : Content) → Names c s → on_name g item end start ctx fs c ≡ goes (keyed start ctx fs s)
+    go (Word w) e = ap (λ b. if b then late reasons.KeywordAsName (keyed start ctx fs (Some w)) else goes (keyed start ctx fs (Some w))) e.1 ∙ name w e.0
+    go (Quoted w) e = name w e
+    go (Short w) e = name w e
+    go (TypedNull k) e = absurd e
+    go (Operator w) e = absurd e
+    go (Clob w) e = absurd e
+    go (Blob w) e = absurd e
+    go (Id n) e = absurd e
+    go (Long w) e = absurd e
+    go (Number' n) e = absurd e
+    go (Mark' m) e = absurd e
+
+-- a colon may stand behind it
+name_colon : (p : Place) (k : TokenKind) (kept : List ℕ) (c : Content) (s : Option (List ℕ)) → said k kept ≡ Ok c → Names c s → is_name p ≡ true → takes_colon p k ≡ true
+name_colon p k kept c s e n h = go k (subst (λ x. IsBody k kept x) e (says k kept))
+  where
+    other : (d : Content) → c ≡ d → Names d s
+    other d f = subst (λ x. Names x s) f n
+
+    number : (c : Content) → SaysNumber kept c → Names c s → ⊥
+    number (Number' m) f n = n
+    number _ f n = f
+
+    go : (k : TokenKind) → IsBody k kept (Ok c) → takes_colon p k ≡ true
+    go kinds.Word f = refl
+    go kinds.KindName f = refl
+    go kinds.QuotedSymbol f = refl
+    go kinds.ShortString f = h
+    go kinds.LongString f = h
+    go kinds.Number f = absurd (number c f n)
+    go kinds.Operator f = absurd (other (Operator kept) f.0)
+    go kinds.Clob f = absurd (other (Clob kept) (ok_is c (Clob kept) f))
+    go kinds.Blob f = absurd (other (Blob kept) (ok_is c (Blob kept) f))
+    go (kinds.Mark m) f = absurd (other (Mark' m) (ok_is c (Mark' m) f))
+
+symbol_colon : (p : Place) (k : TokenKind) (kept : List ℕ) (c : Content) (h : Held) → said k kept ≡ Ok c → held_of c ≡ Some h → takes_colon p k ≡ true
+symbol_colon p k kept c h e is = go k (subst (λ x. IsBody k kept x) e (says k kept))
+  where
+    other : (d : Content) → c ≡ d → held_of d ≡ None → ⊥
+    other d f none = let n : Some h ≡ None = sym is ∙ (ap held_of f ∙ none) in absurd cc
+
+    number : (c : Content) → SaysNumber kept c → held_of c ≡ Some h → ⊥
+    number (Number' m) f n = absurd cc
+    number _ f n = f
+
+    go : (k : TokenKind) → IsBody k kept (Ok c) → takes_colon p k ≡ true
+    go kinds.Word f = refl
+    go kinds.KindName f = refl
+    go kinds.QuotedSymbol f = refl
+    go kinds.ShortString f = absurd (other (Short kept) f.0 refl)
+    go kinds.LongString f = absurd (other (Long kept) f.0 refl)
+    go kinds.Number f = absurd (number c f is)
+    go kinds.Operator f = absurd (other (Operator kept) f.0 refl)
+    go kinds.Clob f = absurd (other (Clob kept) (ok_is c (Clob kept) f) refl)
+    go kinds.Blob f = absurd (other (Blob kept) (ok_is c (Blob kept) f) refl)
+    go (kinds.Mark m) f = absurd (other (Mark' m) (ok_is c (Mark' m) f) refl)
+
+-- The octet that shows that no `::` follows.
+
+record Shows (p : Place) (r : Rest) (o : ℕ) (a : Action) : Type 0 where
+  is : symbol_waits (acts p (resting r) o a) ≡ false
+
+module _ {p : Place} {r : Rest} {o : ℕ} where
+  yes : {a : Action} → symbol_waits (acts p (resting r) o a) ≡ false → Shows p r o a
+  yes h = record { is = h }
+
+  both : {x y : Action} (b : Bool) → Shows p r o x → Shows p r o y → Shows p r o (cond b x y)
+  both true h k = h
+  both false h k = k
+
+  skip : {y : Action} (x : Action) (b : Bool) → b ≡ false → Shows p r o y → Shows p r o (cond b x y)
+  skip x true e h = absurd cc
+  skip x false e h = h
+
+value_shows : (p : Place) (r : Rest) (o : ℕ) → Shows p r o (begins_value p o)
+value_shows p r o =
+    both (is_digit o) (yes refl)
+    (both (o == 123) (yes refl)
+    (both (o == 91) (yes refl)
+    (both (o == 93) (yes refl)
+    (both (o == 40) (yes refl)
+    (both (o == 41) (yes refl)
+    (both (o == 45) (yes refl)
+    (both (o == 43) (yes refl)
+    (both (is_sexp p && is_operator_octet o) (yes refl) (yes refl)))))))))
+
+no_white : (o : ℕ) → ends_symbol o ≡ true → is_white o ≡ false
+no_white o h = grind (arith, nat_tests)
+
+no_slash : (o : ℕ) → ends_symbol o ≡ true → (o == 47) ≡ false
+no_slash o h = grind (arith, nat_tests)
+
+no_colon : (o : ℕ) → ends_symbol o ≡ true → (o == 58) ≡ false
+no_colon o h = grind (arith, nat_tests)
+
+ends_shows : (p : Place) (r : Rest) (o : ℕ) → ends_symbol o ≡ true → Shows p r o (in_blank p r.colon o)
+ends_shows p r o h =
+    skip _ (is_white o) (no_white o h)
+    (both (begins_word o) (yes refl)
+    (skip _ (o == 47) (no_slash o h)
+    (both (o == 34) (yes refl)
+    (both (o == 39) (yes refl)
+    (both (o == 44) (yes refl)
+    (both (o == 125) (yes refl)
+    (skip _ (o == 58) (no_colon o h)
+    (both (is_name p) (yes refl) (value_shows p r o)))))))))
+
+ends_waits : (p : Place) (r : Rest) (o : ℕ) → ends_symbol o ≡ true → symbol_waits (feed p (resting r) o) ≡ false
+ends_waits p r o h = (ends_shows p r o h).is
+
+next_at : (k : ℕ) (w : List ℕ) → get_or (drop k w) 1 0 ≡ get_or w (k + 1) 0
+next_at k w = grind (arith, common_steps)
+
+-- Behind one colon no token has begun that surely is one.
+colon_idle : (p : Place) (b : Rest) (octets : List ℕ) → b.colon ≡ true → get_or octets 0 0 ≡ 58 → (k : Known) → scanning.run p (take 1 octets) (resting b) ≡ Next k → is_idle k.mode ≡ true
+colon_idle p b octets may colon k e = ap idle_in (sym e) ∙ by octets colon
+  where
+    idle_in : Outcome → Bool
+    idle_in (Next k) = is_idle k.mode
+    idle_in _ = true
+
+    by : (os : List ℕ) → get_or os 0 0 ≡ 58 → idle_in (scanning.run p (take 1 os) (resting b)) ≡ true
+    by [] h = refl
+    by (o ∷ os) h =
+        ap (λ x. idle_in (follow (acts p (resting b) x (in_blank p b.colon x)) (λ s. Next s))) h
+        ∙ ap (λ c. idle_in (follow (acts p (resting b) 58 (in_blank p c 58)) (λ s. Next s))) may
+
+-- The machine over such a token, the blank behind it, and what follows.
+
+named_place : (start : ℕ) (c : List Slot) (q : Reading) (fs : List Frame) (s : Option (List ℕ)) → named start c fs s ≡ goes q → is_name (place_in fs nows.Name) ≡ true
+named_place start c q [] s e = absurd cc
+named_place start c q (frames.List ss vs ∷ fs) s e = absurd cc
+named_place start c q (frames.Sexp ss vs ∷ fs) s e = absurd cc
+named_place start c q (frames.Named ss ms name ∷ fs) s e = absurd cc
+named_place start c q (frames.Fields ss ms ∷ fs) s e = refl
+
+module _ (g : Catalog) (l : Limits) (r : Reading) (inner : is_top r.frames ≡ false) (rest : Rest) (octets : List ℕ) (kind : TokenKind) (kept : List ℕ) (n m : ℕ) (left : Bool) (c : Content) (room : rest.used + length octets ≤ l.item + r.start) (within : n + m < length octets)
+    (found : IsFound (place r) rest octets kind kept n left) (says : said kind kept ≡ Ok c) (passed : IsPassed (drop n octets) m) (calm : IsCalm r.now) (still : IsStill r.now) where
+  abbrev behind_token : Rest
+  behind_token = past_token (place r) rest kind n
+
+  abbrev behind_blank : Rest
+  behind_blank = past_blank behind_token m
+
+  size : length (drop n octets) ≡ length octets - n
+  size = length-drop n octets
+
+  quiet : (k : ℕ) → k ≤ n → Quiet g l r (place r) (resting rest) (take k octets)
+  quiet k few = calm_quiet g l r inner calm (resting rest) refl octets k (omega arith) (omega arith)
+
+  token_passes : (q : Reading) → turn g l r (token_of (lexeme_at rest kind kept n) c) ≡ goes q → is_top q.frames ≡ false → q.start ≡ r.start → Passes g l (with_scan (resting rest) r) octets n (with_scan (resting behind_token) q)
+  token_passes q turns inside same = by left found
+    where
+      by : (b : Bool) → IsFound (place r) rest octets kind kept n b → Passes g l (with_scan (resting rest) r) octets n (with_scan (resting behind_token) q)
+      by true f = left_passes g l r inner (still_settles g l r still) rest octets kind kept n c q says turns room f (quiet n (omega arith))
+      by false f = given_leads g l r inner (still_settles g l r still) rest octets kind kept n c q says turns room f (quiet (n - 1) (omega arith)) inside same
+
+  -- where a value or an annotation may come
+  module _ (now : r.now ≡ nows.Ready) (held : Held) (holds : held_of c ≡ Some held) where
+    abbrev waiting : Reading
+    waiting = at r.start r.context r.frames r.notes (nows.Pending held (rest.used + n))
+
+    waits_there : place waiting ≡ place r
+    waits_there = same_place r.frames nows.Ready waiting.now refl held (rest.used + n) refl ∙ ap (place_in r.frames) (sym now)
+
+    is_token : Passes g l (with_scan (resting rest) r) octets n (with_scan (resting behind_token) waiting)
+    is_token =
+        token_passes waiting (ready_turns g l r (lexeme_at rest kind kept n) c now inner ∙ waits_so g l.depth l.item (rest.used + n) r.start r.context r.frames r.notes c held holds) inner refl
+
+    is_blank : Passes g l (with_scan (resting behind_token) waiting) (drop n octets) m (with_scan (resting behind_blank) waiting)
+    is_blank =
+        let some = size in
+        passes_waiting g l waiting inner (resting behind_token) (resting behind_blank) (drop n octets) m (omega arith) refl refl (passed (place waiting) behind_token) (omega arith) held (rest.used + n) refl
+
+    is_waiting : Passes g l (with_scan (resting rest) r) octets (n + m) (with_scan (resting behind_blank) waiting)
+    is_waiting = passes_on g l (with_scan (resting rest) r) (with_scan (resting behind_token) waiting) (with_scan (resting behind_blank) waiting) octets n m is_token is_blank
+
+    -- it is a value
+    module _ (q : Reading) (payload : Payload) (pays : held_payload held ≡ Ok payload) (does : ended g l.item (rest.used + n) r.start r.context r.frames (annotated r.notes payload) ≡ goes q) (ends : ends_symbol (get_or octets (n + m) 0) ≡ true) where
+      stays : StaysIn r.start q
+      stays = ended_stays g l.item (rest.used + n) r.start r.context q r.frames (annotated r.notes payload) inner does
+
+      settles : settle g l waiting ≡ goes q
+      settles = released_inner g l.item (rest.used + n) r.start r.context r.frames r.notes held inner ∙ (ap (paid g l.item (rest.used + n) r.start r.context r.frames r.notes) pays ∙ does)
+
+      is_settled : Passes g l (with_scan (resting behind_blank) waiting) (drop (n + m) octets) 0 (with_scan (resting behind_blank) q)
+      is_settled =
+          let some : length (drop (n + m) octets) ≡ length octets - (n + m) = length-drop (n + m) octets in
+          passes_settled g l waiting inner (resting behind_blank) held (rest.used + n) (drop (n + m) octets) q (omega arith) refl
+          (ends_waits (place waiting) behind_blank (get_or (drop (n + m) octets) 0 0) (ap ends_symbol (at_drop (n + m) octets) ∙ ends)) settles (still_settles g l q stays.2)
+          (ended_place g l.item (rest.used + n) r.start r.context q r.frames (annotated r.notes payload) inner does ∙ (ap (place_in r.frames) (sym now) ∙ sym waits_there))
+
+      pub symbol_passes : Passes g l (with_scan (resting rest) r) octets (n + m) (with_scan (resting behind_blank) q)
+      symbol_passes =
+          let none : n + m + 0 ≡ n + m = omega arith in
+          subst (λ k. Passes g l (with_scan (resting rest) r) octets k (with_scan (resting behind_blank) q)) none
+          (passes_on g l (with_scan (resting rest) r) (with_scan (resting behind_blank) waiting) (with_scan (resting behind_blank) q) octets (n + m) 0 is_waiting is_settled)
+
+    -- it is an annotation, and `::` follows
+    module _ (s : Option (List ℕ)) (symbol : held_symbol held ≡ Ok s) (more : n + m + 2 < length octets) (one : get_or octets (n + m) 0 ≡ 58) (two : get_or octets (n + m + 1) 0 ≡ 58) where
+      abbrev with_note : Reading
+      with_note = at r.start r.context r.frames (r.notes ++ s ∷ []) nows.Ready
+
+      abbrev behind_colons : Rest
+      behind_colons = past_token (place r) behind_blank (kinds.Mark marks.Colons) 2
+
+      left_over : length (drop (n + m) octets) ≡ length octets - (n + m)
+      left_over = length-drop (n + m) octets
+
+      second : get_or (drop (n + m) octets) 1 0 ≡ 58
+      second = next_at (n + m) octets ∙ two
+
+      colons : IsFound (place waiting) behind_blank (drop (n + m) octets) (kinds.Mark marks.Colons) [] 2 false
+      colons = let some = left_over in colons_found (place waiting) behind_blank (drop (n + m) octets) (blank_colon behind_token m ∙ symbol_colon (place r) kind kept c held says holds) (omega arith) (at_drop (n + m) octets ∙ one) second
+
+      is_first : Passes g l (with_scan (resting behind_blank) waiting) (drop (n + m) octets) 1 (with_scan colons.known waiting)
+      is_first =
+          let some = left_over in
+          let used = blank_used behind_token m in
+          passes_waiting g l waiting inner (resting behind_blank) colons.known (drop (n + m) octets) 1 (omega arith) refl
+          (colon_idle (place waiting) behind_blank (drop (n + m) octets) (blank_colon behind_token m ∙ symbol_colon (place r) kind kept c held says holds) (at_drop (n + m) octets ∙ one) colons.known colons.ran) colons.ran (omega arith) held (rest.used + n) refl
+
+      is_second : Passes g l (with_scan colons.known waiting) (drop 1 (drop (n + m) octets)) 1 (with_scan (resting behind_colons) with_note)
+      is_second =
+          let some = left_over in
+          let used = blank_used behind_token m in
+          let rest_of = length-drop 1 (drop (n + m) octets) in
+          let few = length-take-le 1 (drop (n + m) octets) (omega arith) in
+          let counted = next_used (place waiting) (take 1 (drop (n + m) octets)) (resting behind_blank) colons.known (sym colons.ran) in
+          passes_colons g l waiting inner held (rest.used + n) refl colons.known (resting behind_colons) (drop 1 (drop (n + m) octets)) (lexeme_at behind_blank (kinds.Mark marks.Colons) [] 2) (Mark' marks.Colons) with_note (omega arith)
+          (ap (feed (place waiting) colons.known) (at_drop 1 (drop (n + m) octets)) ∙ colons.ends) refl (mark_says marks.Colons) (ap (noted r.start r.context r.frames r.notes) symbol) refl (omega arith) inner (omega arith)
+
+      pub note_passes : Passes g l (with_scan (resting rest) r) octets (n + m + 2) (with_scan (resting behind_colons) with_note)
+      note_passes =
+          passes_on g l (with_scan (resting rest) r) (with_scan (resting behind_blank) waiting) (with_scan (resting behind_colons) with_note) octets (n + m) 2 is_waiting
+          (passes_on g l (with_scan (resting behind_blank) waiting) (with_scan colons.known waiting) (with_scan (resting behind_colons) with_note) (drop (n + m) octets) 1 1 is_first is_second)
+
+  -- where a field's name may come, and its colon
+  module _ (now : r.now ≡ nows.Name) (q : Reading) (more : n + m + 1 < length octets) (name : Option (List ℕ)) (names : Names c name)
+      (colon : get_or octets (n + m) 0 ≡ 58) (one : get_or octets (n + m + 1) 0 ≢ 58) (does : named r.start r.context r.frames name ≡ goes q) where
+    abbrev with_name : Reading
+    with_name = keyed r.start r.context r.frames name
+
+    abbrev behind_colon : Rest
+    behind_colon = past_token (place r) behind_blank (kinds.Mark marks.Colon) 1
+
+    name_there : place with_name ≡ place r
+    name_there = name_place r.frames name ∙ ap (place_in r.frames) (sym now)
+
+    is_key : Passes g l (with_scan (resting rest) r) octets n (with_scan (resting behind_token) with_name)
+    is_key =
+        token_passes with_name
+        (ap (turn_now g l rest.used (rest.used + n) r.start r.context r.frames r.notes c) now ∙ names_so g l.item (rest.used + n) r.start r.context r.frames c name names) inner refl
+
+    is_key_blank : Passes g l (with_scan (resting behind_token) with_name) (drop n octets) m (with_scan (resting behind_blank) with_name)
+    is_key_blank =
+        let some = size in
+        passes_blank g l with_name inner (resting behind_token) (resting behind_blank) (drop n octets) m (omega arith) refl refl (passed (place with_name) behind_token) (omega arith) refl
+
+    may_colon : behind_blank.colon ≡ true
+    may_colon = blank_colon behind_token m ∙ name_colon (place r) kind kept c name says names (ap (λ x. is_name (place_in r.frames x)) now ∙ named_place r.start r.context q r.frames name does)
+
+    is_colon : Passes g l (with_scan (resting behind_blank) with_name) (drop (n + m) octets) 1 (with_scan (resting behind_colon) q)
+    is_colon =
+        let some : length (drop (n + m) octets) ≡ length octets - (n + m) = length-drop (n + m) octets in
+        let used = blank_used behind_token m in
+        let f = colon_found (place with_name) behind_blank (drop (n + m) octets) may_colon (omega arith) (at_drop (n + m) octets ∙ colon) (λ e. one (sym (next_at (n + m) octets) ∙ e)) in
+        subst (λ p. Passes g l (with_scan (resting behind_blank) with_name) (drop (n + m) octets) 1 (with_scan (resting (past_token p behind_blank (kinds.Mark marks.Colon) 1)) q)) name_there
+        (left_passes g l with_name inner refl behind_blank (drop (n + m) octets) (kinds.Mark marks.Colon) [] 1 (Mark' marks.Colon) q (mark_says marks.Colon) does (omega arith) f
+        (blank_quiet g l with_name inner (place with_name) (take 1 (drop (n + m) octets)) (resting behind_blank) f.known refl (colon_idle (place with_name) behind_blank (drop (n + m) octets) may_colon (at_drop (n + m) octets ∙ colon) f.known f.ran) f.ran (let few = length-take-le 1 (drop (n + m) octets) (omega arith) in omega arith)))
+
+    pub name_passes : Passes g l (with_scan (resting rest) r) octets (n + m + 1) (with_scan (resting behind_colon) q)
+    name_passes =
+        passes_on g l (with_scan (resting rest) r) (with_scan (resting behind_blank) with_name) (with_scan (resting behind_colon) q) octets (n + m) 1
+        (passes_on g l (with_scan (resting rest) r) (with_scan (resting behind_token) with_name) (with_scan (resting behind_blank) with_name) octets n m is_key is_key_blank) is_colon
+
+-- Tokens that are found whole, and what they are.
+
+quoted_says : (w : List ℕ) → IsUtf8 w → said kinds.QuotedSymbol w ≡ Ok (Quoted w)
+unfolding said
+quoted_says w h = spelled_utf8 (Quoted w) w h
+
+module _ (p : Place) (r : Rest) (octets : List ℕ) (n : ℕ) where
+  abbrev word_token : FoundToken
+  word_token = record { kind = kinds.Word; count = n; left = true }
+
+  abbrev quoted_token : FoundToken
+  quoted_token = record { kind = kinds.QuotedSymbol; count = n; left = false }
+
+  abbrev short_token : FoundToken
+  short_token = record { kind = kinds.ShortString; count = n; left = false }
+
+  word_said : IsFound p r octets kinds.Word (take n octets) n true → IsUtf8 (take n octets) → get_or octets 0 0 ≢ 36 → said kinds.Word (take n octets) ≡ Ok (Word (take n octets))
+  word_said found text first = let some = found.some in word_says (take n octets) text (λ e. first (sym (first_of n octets some) ∙ e))
+
+  pub word_symbol : (payload : Payload) → IsFound p r octets kinds.Word (take n octets) n true → IsUtf8 (take n octets) → get_or octets 0 0 ≢ 36 → held_payload (held_word (take n octets)) ≡ Ok payload → BeginsSymbol p r octets word_token payload
+  word_symbol payload found text first pays = record {
+    kept = take n octets;
+    content = Word (take n octets);
+    found = found;
+    says = word_said found text first;
+    pays = pays;
+  }
+
+  pub word_name : (name : Option (List ℕ)) → IsFound p r octets kinds.Word (take n octets) n true → IsUtf8 (take n octets) → get_or octets 0 0 ≢ 36 → is_keyword (take n octets) ≡ false → name ≡ Some (take n octets) → BeginsName p r octets word_token name
+  word_name name found text first free is = record {
+    kept = take n octets;
+    content = Word (take n octets);
+    found = found;
+    says = word_said found text first;
+    names = (is, free);
+  }
+
+  module _ (w : List ℕ) (s : Option (List ℕ)) (text : IsUtf8 w) (is : s ≡ Some w) where
+    pub quoted_symbol : IsFound p r octets kinds.QuotedSymbol w n false → BeginsSymbol p r octets quoted_token (payloads.Symbol s)
+    quoted_symbol found = record {
+      kept = w;
+      content = Quoted w;
+      found = found;
+      says = quoted_says w text;
+      pays = ap (λ x. Ok (payloads.Symbol x)) (sym is);
+    }
+
+    pub quoted_name : IsFound p r octets kinds.QuotedSymbol w n false → BeginsName p r octets quoted_token s
+    quoted_name found = record { kept = w; content = Quoted w; found = found; says = quoted_says w text; names = is }
+
+    pub short_name : IsFound p r octets kinds.ShortString w n false → BeginsName p r octets short_token s
+    short_name found = record { kept = w; content = Short w; found = found; says = short_says w text; names = is }
+
+-- The reader over them.
+
+-- what is held of a symbol may be an annotation
+
+in_symbol : Result Payload Reason → Result (Option (List ℕ)) Reason
+in_symbol (Ok (payloads.Symbol x)) = Ok x
+in_symbol _ = Err reasons.KeywordAsName
+
+symbol_held : (h : Held) (s : Option (List ℕ)) → held_payload h ≡ Ok (payloads.Symbol s) → held_symbol h ≡ Ok s
+unfolding in_symbol
+symbol_held (helds.Symbol a) s e = ap in_symbol e
+symbol_held (helds.Version ours a) s e = ap in_symbol e
+symbol_held (helds.Null k) s e = absurd cc
+symbol_held (helds.Truth b) s e = absurd cc
+symbol_held helds.Nan s e = absurd cc
+
+held_in : (o : Option Held) (v : Payload) → Pays o v → (h : Held) × (o ≡ Some h) × (held_payload h ≡ Ok v)
+held_in None v p = absurd p
+held_in (Some h) v p = (h, refl, p)
+
+module _ (old new : TextReader) (moved : Scanner) (rest behind : Rest) (octets : List ℕ) (token : FoundToken) (inside : Inside old octets) (rests : scanned old.scanner ≡ resting rest) (move : Moved old.scanner moved behind) (setting : SameSetting (with_scanner old moved) new) where
+  abbrev n : ℕ
+  n = token.count
+
+  fits : rest.used + length octets ≤ old.limits.item + old.start
+  fits = room old new moved rest behind octets inside rests move setting
+
+  total : (a b c : ℕ) → a + b + c ≡ a + (b + c)
+  total a b c = omega arith
+
+  pub symbol_strides : (m : ℕ) (payload : Payload) → n + m < length octets → behind ≡ past_blank (past_token (place (reading_of old)) rest token.kind n) m → old.stage ≡ nows.Ready → BeginsSymbol (place (reading_of old)) rest octets token payload → IsPassed (drop n octets) m
+      → ends_symbol (get_or octets (n + m) 0) ≡ true → ended old.catalog.now old.limits.item (rest.used + n) old.start old.context (open_frames old) (annotated old.notes payload) ≡ goes (reading_of new) → Strides old new octets (n + m)
+  symbol_strides m payload within there now b passed ends does =
+      let pays = held_in (held_of b.content) payload b.pays in
+      moved_strides old new moved rest behind octets inside rests move setting (n + m) within (ap (λ (k : Rest). k.used) there ∙ (blank_used (past_token (place (reading_of old)) rest token.kind n) m ∙ total rest.used n m))
+      (ended_stays old.catalog.now old.limits.item (rest.used + n) old.start old.context (reading_of new) (open_frames old) (annotated old.notes payload) inside.inner does)
+      (subst (λ (k : Rest). Passes old.catalog.now old.limits (with_scan (resting rest) (reading_of old)) octets (n + m) (with_scan (resting k) (reading_of new))) (sym there)
+      (symbol_passes old.catalog.now old.limits (reading_of old) inside.inner rest octets token.kind b.kept n m token.left b.content fits within b.found b.says passed (subst IsCalm (sym now) tt) (subst IsStill (sym now) tt) now pays.0 pays.1 (reading_of new) payload pays.2 does ends))
+
+  pub note_strides : (m : ℕ) (s : Option (List ℕ)) → n + m + 2 < length octets → behind ≡ past_token (place (reading_of old)) (past_blank (past_token (place (reading_of old)) rest token.kind n) m) (kinds.Mark marks.Colons) 2 → old.stage ≡ nows.Ready → BeginsSymbol (place (reading_of old)) rest octets token (payloads.Symbol s)
+      → IsPassed (drop n octets) m → get_or octets (n + m) 0 ≡ 58 → get_or octets (n + m + 1) 0 ≡ 58 → reading_of new ≡ at old.start old.context (open_frames old) (old.notes ++ s ∷ []) nows.Ready → Strides old new octets (n + m + 2)
+  note_strides m s within there now b passed one two is =
+      let pays = held_in (held_of b.content) (payloads.Symbol s) b.pays in
+      moved_strides old new moved rest behind octets inside rests move setting (n + m + 2) within (ap (λ (k : Rest). k.used) there ∙ (ap (λ k. k + 2) (blank_used (past_token (place (reading_of old)) rest token.kind n) m) ∙ more rest.used n m))
+      (subst (StaysIn old.start) (sym is) (inside.inner, refl, tt))
+      (subst (λ (k : Rest). Passes old.catalog.now old.limits (with_scan (resting rest) (reading_of old)) octets (n + m + 2) (with_scan (resting k) (reading_of new))) (sym there)
+      (subst (λ q. Passes old.catalog.now old.limits (with_scan (resting rest) (reading_of old)) octets (n + m + 2) (with_scan (resting (past_token (place (reading_of old)) (past_blank (past_token (place (reading_of old)) rest token.kind n) m) (kinds.Mark marks.Colons) 2)) q)) (sym is)
+      (note_passes old.catalog.now old.limits (reading_of old) inside.inner rest octets token.kind b.kept n m token.left b.content fits (omega arith) b.found b.says passed (subst IsCalm (sym now) tt) (subst IsStill (sym now) tt) now pays.0 pays.1 s (symbol_held pays.0 s pays.2) within one two)))
+    where
+      more : (a b c : ℕ) → a + b + c + 2 ≡ a + (b + c + 2)
+      more a b c = omega arith
+
+  pub name_strides : (m : ℕ) (name : Option (List ℕ)) → n + m + 1 < length octets → behind ≡ past_token (place (reading_of old)) (past_blank (past_token (place (reading_of old)) rest token.kind n) m) (kinds.Mark marks.Colon) 1 → old.stage ≡ nows.Name → BeginsName (place (reading_of old)) rest octets token name
+      → IsPassed (drop n octets) m → get_or octets (n + m) 0 ≡ 58 → get_or octets (n + m + 1) 0 ≢ 58 → named old.start old.context (open_frames old) name ≡ goes (reading_of new) → Strides old new octets (n + m + 1)
+  name_strides m name within there now b passed colon one does =
+      moved_strides old new moved rest behind octets inside rests move setting (n + m + 1) within (ap (λ (k : Rest). k.used) there ∙ (ap (λ k. k + 1) (blank_used (past_token (place (reading_of old)) rest token.kind n) m) ∙ more rest.used n m))
+      (named_stays old.catalog.now old.limits.item 0 old.start old.context (reading_of new) (open_frames old) name does)
+      (subst (λ (k : Rest). Passes old.catalog.now old.limits (with_scan (resting rest) (reading_of old)) octets (n + m + 1) (with_scan (resting k) (reading_of new))) (sym there)
+      (name_passes old.catalog.now old.limits (reading_of old) inside.inner rest octets token.kind b.kept n m token.left b.content fits (omega arith) b.found b.says passed (subst IsCalm (sym now) tt) (subst IsStill (sym now) tt) now (reading_of new) within name b.names colon one does))
+    where
+      more : (a b c : ℕ) → a + b + c + 1 ≡ a + (b + c + 1)
+      more a b c = omega arith
+
+  pub whole_strides : (payload : Payload) → n < length octets → behind ≡ past_token (place (reading_of old)) rest token.kind n → old.stage ≡ nows.Ready → BeginsValue (place (reading_of old)) rest octets token payload
+      → ended old.catalog.now old.limits.item (rest.used + n) old.start old.context (open_frames old) (annotated old.notes payload) ≡ goes (reading_of new) → Strides old new octets n
+  whole_strides payload within there now b does =
+      value_strides old new moved rest behind octets token.kind b.kept n token.left b.content (annotated old.notes payload) inside rests move setting within there now b.found b.says
+      (ends_so old.catalog.now old.limits.depth old.limits.item (rest.used + n) old.start old.context (open_frames old) old.notes b.content payload b.is) does
+
+-- beside the scanner nothing counts
+abbrev pub with_beside : TextReader → TokenReader → TextReader
+with_beside r b = record { alloc = r.alloc; catalog = r.catalog; limits = r.limits; scanner = r.scanner; beside = b; start = r.start; context = r.context; frames = r.frames; notes = r.notes; stage = r.stage; given = r.given; awaited = r.awaited; failed = r.failed }
+
+pub inside_beside : (r : TextReader) (b : TokenReader) (octets : List ℕ) → Inside r octets → Inside (with_beside r b) octets
+inside_beside r b octets h = record { some = h.some; inner = h.inner; fits = h.fits; room = h.room; fine = h.fine }

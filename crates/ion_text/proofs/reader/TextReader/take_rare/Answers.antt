@@ -1,0 +1,31 @@
+use Rattle.std.proofs.Common.{◌≡◌, Some, subst}
+use Rattle.std.specs.Prelude.{IfSome}
+use Rattle.ion_tokens.specs.Bodies.{content}
+use Rattle.ion_tokens.specs.Views.{octets_in}
+use Rattle.ion_text.specs.FrontTokens.{held_of, value_of, Pays}
+use Rattle.ion_text.proofs.Symbols.{inside_beside}
+use Rattle.ion_text.proofs.reader.TextReader.take_rare.Goals as goal
+
+pub take_symbol-requires-clause-inside : goal.take_symbol-requires-clause-inside
+take_symbol-requires-clause-inside c = inside_beside c.args.self.now c.body.new.self c.args.octets.now c.requires.inside
+
+pub take_symbol-requires-clause-token : goal.take_symbol-requires-clause-token
+take_symbol-requires-clause-token c = record {
+  kept = octets_in c.token.new.self;
+  content = content c.in-Ok.body;
+  found = c.in-Some.ensures;
+  says = c.in-Ok.ensures.says;
+  pays = subst (λ v. IfSome v (λ p. Pays (held_of (content c.in-Ok.body)) p)) c.in-Some-2.is c.in_ok-payload.ensures.pays;
+}
+
+pub take_whole-requires-clause-inside : goal.take_whole-requires-clause-inside
+take_whole-requires-clause-inside c = inside_beside c.args.self.now c.body.new.self c.args.octets.now c.requires.inside
+
+pub take_whole-requires-clause-token : goal.take_whole-requires-clause-token
+take_whole-requires-clause-token c = record {
+  kept = octets_in c.token.new.self;
+  content = content c.in-Ok.body;
+  found = c.in-Some.ensures;
+  says = c.in-Ok.ensures.says;
+  is = subst (λ v. IfSome v (λ p. value_of (content c.in-Ok.body) ≡ Some p)) c.in-Some-3.is c.in_ok-payload-2.ensures.value;
+}

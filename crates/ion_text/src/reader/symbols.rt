@@ -1,0 +1,357 @@
+//! Symbols, annotations and names of fields that lie whole in a piece, where a container is open.
+ghost use Rattle.std.specs.Prelude.{◌≡◌, ◌≢◌, ◌+◌, ◌-◌, ◌<◌, [], length, get_or, take, drop, true, Some, Ok, IfOk, IfErr, IfSome, IsUtf8};
+ghost use Rattle.ion_model.specs.declared.refusal.Reason.TheVariants.{Memory};
+ghost use Rattle.ion_tokens.specs.Rests.{resting, IsPassed};
+ghost use Rattle.ion_tokens.specs.Views.{scanned};
+ghost use Rattle.ion_tokens.specs.declared.mode.Place.{Place};
+ghost use Rattle.ion_tokens.specs.declared.whole.Rest.{Rest};
+ghost use Rattle.ion_text.specs.declared.state.Now.TheVariants as nows;
+ghost use Rattle.ion_text.specs.FrontTokens.{ends_symbol, BeginsSymbol, BeginsName};
+ghost use Rattle.ion_text.specs.Machine.{place, held_word, held_payload};
+ghost use Rattle.ion_text.specs.Passing.{Inside, Strides};
+ghost use Rattle.ion_text.specs.Views.{reading_of, SameReader};
+
+use super::TextReader;
+use crate::state::{Effect, Held, Now};
+use crate::words::{held_word, is_keyword};
+use ion_model::{Payload, Reason, Symbol};
+use ion_tokens::{
+    FoundToken, Mark, Place, Rest, TokenKind, blanks, quoted_symbol, short_string, word,
+};
+use std::alloc::Global;
+
+// Whether an octet shows that no `::` follows a symbol: it is no blank, and begins no colon and no comment.
+fn ends_symbol(octet: u8) -> bool
+    ensures { result ≡ ends_symbol octet }
+{
+    b' ' < octet && !(octet == b':' || octet == b'/')
+}
+
+// How many octets of a blank stand behind a symbol of so many, if the octet behind them shows that no `::` follows.
+fn behind_symbol(octets: &[u8], count: usize) -> Option<usize>
+    ensures passed { IfSome result (λ between. IsPassed (drop count octets.now) between) }
+    ensures within { IfSome result (λ between. count + between < length octets.now) }
+    ensures ends { IfSome result (λ between. ends_symbol (get_or octets.now (count + between) 0) ≡ true) }
+{
+    if count >= octets.len() {
+        return None;
+    }
+    let between = blanks(&octets[count..]);
+    let total = count + between;
+    if total >= octets.len() || !ends_symbol(octets[total]) {
+        return None;
+    }
+    Some(between)
+}
+
+// How many octets of a blank stand behind a field's name of so many, if one colon alone stands behind them.
+fn behind_name(octets: &[u8], count: usize) -> Option<usize>
+    ensures passed { IfSome result (λ between. IsPassed (drop count octets.now) between) }
+    ensures within { IfSome result (λ between. count + between + 1 < length octets.now) }
+    ensures colon { IfSome result (λ between. get_or octets.now (count + between) 0 ≡ 58) }
+    ensures one { IfSome result (λ between. get_or octets.now (count + between + 1) 0 ≢ 58) }
+{
+    if count >= octets.len() {
+        return None;
+    }
+    let between = blanks(&octets[count..]);
+    let colon = count + between;
+    if octets.len() - colon < 2 || octets[colon] != b':' || octets[colon + 1] == b':' {
+        return None;
+    }
+    Some(between)
+}
+
+// How many octets of a blank stand behind an annotation of so many, if `::` and one octet more stand behind them.
+fn behind_annotation(octets: &[u8], count: usize) -> Option<usize>
+    ensures passed { IfSome result (λ between. IsPassed (drop count octets.now) between) }
+    ensures within { IfSome result (λ between. count + between + 2 < length octets.now) }
+    ensures one { IfSome result (λ between. get_or octets.now (count + between) 0 ≡ 58) }
+    ensures two { IfSome result (λ between. get_or octets.now (count + between + 1) 0 ≡ 58) }
+{
+    if count >= octets.len() {
+        return None;
+    }
+    let between = blanks(&octets[count..]);
+    let colon = count + between;
+    if octets.len() - colon < 3 || octets[colon] != b':' || octets[colon + 1] != b':' {
+        return None;
+    }
+    Some(between)
+}
+
+// A text in quotes that may be a field's name, if its characters are ASCII and stand as they are.
+fn plain_text(octets: &[u8]) -> Option<FoundToken>
+    ensures name { IfSome result (λ token. (place : Place) (rest : Rest) →
+        BeginsName place rest octets.now token (Some (take (token.count - 2) (drop 1 octets.now)))) }
+    ensures text { IfSome result (λ token. IsUtf8 (take (token.count - 2) (drop 1 octets.now))) }
+{
+    if let Some(count) = short_string(octets) {
+        return Some(FoundToken {
+            kind: TokenKind::ShortString,
+            count,
+            left: false,
+        });
+    }
+    let count = quoted_symbol(octets)?;
+    Some(FoundToken {
+        kind: TokenKind::QuotedSymbol,
+        count,
+        left: false,
+    })
+}
+
+// The value that a word is, but for `nan`.
+fn word_payload(alloc: Global, word: &str) -> Result<Option<Payload>, Reason>
+    ensures pays { IfOk result (λ value. IfSome value (λ payload. held_payload (held_word word.now) ≡ Ok payload)) }
+    ensures memory { IfErr result (λ reason. reason ≡ Memory) }
+{
+    match held_word(alloc, word)? {
+        Held::Symbol(symbol) => Ok(Some(Payload::Symbol(symbol))),
+        Held::Version(_, symbol) => Ok(Some(Payload::Symbol(symbol))),
+        Held::Null(kind) => Ok(Some(Payload::Null(kind))),
+        Held::Truth(truth) => Ok(Some(Payload::Truth(truth))),
+        Held::Nan => Ok(None),
+    }
+}
+
+impl TextReader<'_> {
+    /// Takes up a word that is a value or an annotation.
+    #[inline(never)]
+    pub(super) fn take_word(
+        &mut self,
+        here: Place,
+        rest: Rest,
+        octets: &[u8],
+    ) -> Result<usize, Reason>
+        requires inside { Inside self.old octets.now }
+        requires rests { scanned self.old.scanner ≡ resting rest }
+        requires stage { self.old.stage ≡ nows.Ready }
+        requires here { here ≡ place (reading_of self.old) }
+        ensures strides { IfOk result (λ count. Strides self.old self.new octets.now count) }
+        ensures memory { IfErr result (λ reason. reason ≡ Memory) }
+        ensures same { SameReader self.old self.new }
+    {
+        let Some(count) = word(octets) else {
+            return self.take_rare(here, rest, octets);
+        };
+        if octets[0] == b'$' || count >= octets.len() {
+            return Ok(0);
+        }
+        let spelled = unsafe { str::from_utf8_unchecked(&octets[..count]) };
+        let Some(payload) = word_payload(self.alloc, spelled)? else {
+            return Ok(0);
+        };
+        let token = FoundToken {
+            kind: TokenKind::Word,
+            count,
+            left: true,
+        };
+        self.take_symbol(here, rest, octets, token, payload)
+    }
+
+    /// Takes up a quoted symbol that is a value or an annotation.
+    #[inline(never)]
+    pub(super) fn take_quoted(
+        &mut self,
+        here: Place,
+        rest: Rest,
+        octets: &[u8],
+    ) -> Result<usize, Reason>
+        requires inside { Inside self.old octets.now }
+        requires rests { scanned self.old.scanner ≡ resting rest }
+        requires stage { self.old.stage ≡ nows.Ready }
+        requires here { here ≡ place (reading_of self.old) }
+        ensures strides { IfOk result (λ count. Strides self.old self.new octets.now count) }
+        ensures memory { IfErr result (λ reason. reason ≡ Memory) }
+        ensures same { SameReader self.old self.new }
+    {
+        let Some(count) = quoted_symbol(octets) else {
+            return self.take_rare(here, rest, octets);
+        };
+        if count >= octets.len() || count < 2 {
+            return Ok(0);
+        }
+        let content = &octets[1..][..count - 2];
+        let symbol = Symbol::known(self.alloc, unsafe { str::from_utf8_unchecked(content) })?;
+        let token = FoundToken {
+            kind: TokenKind::QuotedSymbol,
+            count,
+            left: false,
+        };
+        self.take_symbol(here, rest, octets, token, Payload::Symbol(symbol))
+    }
+
+    /// Takes up what is an annotation if `::` follows, and else a value, where the octets show which.
+    pub(super) fn take_symbol(
+        &mut self,
+        here: Place,
+        rest: Rest,
+        octets: &[u8],
+        token: FoundToken,
+        payload: Payload,
+    ) -> Result<usize, Reason>
+        requires inside { Inside self.old octets.now }
+        requires rests { scanned self.old.scanner ≡ resting rest }
+        requires stage { self.old.stage ≡ nows.Ready }
+        requires here { here ≡ place (reading_of self.old) }
+        requires token { BeginsSymbol here rest octets.now token payload }
+        ensures strides { IfOk result (λ count. Strides self.old self.new octets.now count) }
+        ensures memory { IfErr result (λ reason. reason ≡ Memory) }
+        ensures same { SameReader self.old self.new }
+    {
+        let Some(between) = behind_symbol(octets, token.count) else {
+            return self.take_annotation(here, rest, octets, token, payload);
+        };
+        let end = rest.used + token.count as u64;
+        let behind = rest
+            .past_token(here, token.kind, token.count)
+            .past_blank(between);
+        self.scanner.move_to(behind);
+        match self.whole(payload, end) {
+            Ok(Effect::Goes) => Ok(token.count + between),
+            _ => Err(Reason::Memory),
+        }
+    }
+
+    /// Takes up a symbol that is an annotation, and `::` behind it.
+    fn take_annotation(
+        &mut self,
+        here: Place,
+        rest: Rest,
+        octets: &[u8],
+        token: FoundToken,
+        payload: Payload,
+    ) -> Result<usize, Reason>
+        requires inside { Inside self.old octets.now }
+        requires rests { scanned self.old.scanner ≡ resting rest }
+        requires stage { self.old.stage ≡ nows.Ready }
+        requires here { here ≡ place (reading_of self.old) }
+        requires token { BeginsSymbol here rest octets.now token payload }
+        ensures strides { IfOk result (λ count. Strides self.old self.new octets.now count) }
+        ensures memory { IfErr result (λ reason. reason ≡ Memory) }
+        ensures same { SameReader self.old self.new }
+    {
+        let Payload::Symbol(symbol) = payload else {
+            return Ok(0);
+        };
+        let Some(between) = behind_annotation(octets, token.count) else {
+            return Ok(0);
+        };
+        let behind = rest
+            .past_token(here, token.kind, token.count)
+            .past_blank(between)
+            .past_token(here, TokenKind::Mark(Mark::Colons), 2);
+        self.scanner.move_to(behind);
+        self.notes.push(symbol)?;
+        Ok(token.count + between + 2)
+    }
+
+    /// Takes up a field's name, and the colon behind it.
+    pub(super) fn take_name(&mut self, rest: Rest, octets: &[u8]) -> Result<usize, Reason>
+        requires inside { Inside self.old octets.now }
+        requires rests { scanned self.old.scanner ≡ resting rest }
+        requires stage { self.old.stage ≡ nows.Name }
+        ensures strides { IfOk result (λ count. Strides self.old self.new octets.now count) }
+        ensures memory { IfErr result (λ reason. reason ≡ Memory) }
+        ensures same { SameReader self.old self.new }
+    {
+        if self.has_notes() {
+            return Ok(0);
+        }
+        let here = self.place();
+        match octets[0] {
+            b'"' | b'\'' => self.take_text_name(here, rest, octets),
+            _ => self.take_word_name(here, rest, octets),
+        }
+    }
+
+    /// Takes up a field's name that is a word.
+    #[inline(never)]
+    #[tactic(auto, using(crate::proofs::Symbols::word_name))]
+    fn take_word_name(&mut self, here: Place, rest: Rest, octets: &[u8]) -> Result<usize, Reason>
+        requires inside { Inside self.old octets.now }
+        requires rests { scanned self.old.scanner ≡ resting rest }
+        requires stage { self.old.stage ≡ nows.Name }
+        requires notes { self.old.notes ≡ [] }
+        requires here { here ≡ place (reading_of self.old) }
+        ensures strides { IfOk result (λ count. Strides self.old self.new octets.now count) }
+        ensures memory { IfErr result (λ reason. reason ≡ Memory) }
+        ensures same { SameReader self.old self.new }
+    {
+        let Some(count) = word(octets) else {
+            return Ok(0);
+        };
+        if octets[0] == b'$' || count >= octets.len() {
+            return Ok(0);
+        }
+        let spelled = unsafe { str::from_utf8_unchecked(&octets[..count]) };
+        if is_keyword(spelled) {
+            return Ok(0);
+        }
+        let name = Symbol::known(self.alloc, spelled)?;
+        let token = FoundToken {
+            kind: TokenKind::Word,
+            count,
+            left: true,
+        };
+        self.take_key(here, rest, octets, token, name)
+    }
+
+    /// Takes up a field's name in quotes.
+    #[inline(never)]
+    fn take_text_name(&mut self, here: Place, rest: Rest, octets: &[u8]) -> Result<usize, Reason>
+        requires inside { Inside self.old octets.now }
+        requires rests { scanned self.old.scanner ≡ resting rest }
+        requires stage { self.old.stage ≡ nows.Name }
+        requires notes { self.old.notes ≡ [] }
+        requires here { here ≡ place (reading_of self.old) }
+        ensures strides { IfOk result (λ count. Strides self.old self.new octets.now count) }
+        ensures memory { IfErr result (λ reason. reason ≡ Memory) }
+        ensures same { SameReader self.old self.new }
+    {
+        let Some(token) = plain_text(octets) else {
+            return self.take_rare_name(here, rest, octets);
+        };
+        if token.count >= octets.len() || token.count < 2 {
+            return Ok(0);
+        }
+        let content = &octets[1..][..token.count - 2];
+        let name = Symbol::known(self.alloc, unsafe { str::from_utf8_unchecked(content) })?;
+        self.take_key(here, rest, octets, token, name)
+    }
+
+    /// Takes up a token that is a field's name, and the colon behind it.
+    pub(super) fn take_key(
+        &mut self,
+        here: Place,
+        rest: Rest,
+        octets: &[u8],
+        token: FoundToken,
+        name: Symbol,
+    ) -> Result<usize, Reason>
+        requires inside { Inside self.old octets.now }
+        requires rests { scanned self.old.scanner ≡ resting rest }
+        requires stage { self.old.stage ≡ nows.Name }
+        requires notes { self.old.notes ≡ [] }
+        requires here { here ≡ place (reading_of self.old) }
+        requires token { BeginsName here rest octets.now token name }
+        ensures strides { IfOk result (λ count. Strides self.old self.new octets.now count) }
+        ensures memory { IfErr result (λ reason. reason ≡ Memory) }
+        ensures same { SameReader self.old self.new }
+    {
+        let Some(between) = behind_name(octets, token.count) else {
+            return Ok(0);
+        };
+        let behind = rest
+            .past_token(here, token.kind, token.count)
+            .past_blank(between)
+            .past_token(here, TokenKind::Mark(Mark::Colon), 1);
+        self.scanner.move_to(behind);
+        self.stage = Now::Ready;
+        match self.named(name) {
+            Ok(Effect::Goes) => Ok(token.count + between + 1),
+            _ => Err(Reason::Memory),
+        }
+    }
+}
