@@ -1,9 +1,11 @@
 -- A call handed on to the reader that was chosen.
-use Rattle.std.proofs.Common.{◌≡◌, ℕ, ◌+◌, ◌*◌, ◌<◌, zero, suc, Bool, true, false, List, [], ◌∷◌, ◌++◌, length, take, ap, ◌∙◌, sym, refl, subst, arith, eq-eqb, ne_eqb, Result, Ok, Err, Option, Some, None, IfOk, IsSome, slice_get}
+use Rattle.std.proofs.Common.{◌≡◌, ℕ, ◌+◌, ◌*◌, ◌<◌, zero, suc, Bool, true, false, List, [], ◌∷◌, ◌++◌, length, take, ap, ◌∙◌, sym, refl, subst, arith, eq-eqb, ne_eqb, Result, Ok, Err, Option, Some, None, IfOk, IfErr, IsSome, slice_get}
 use Rattle.ion_model.specs.declared.value.Value.{Value}
 use Rattle.ion_model.specs.declared.refusal.Refusal.{Refusal}
 use Rattle.ion_symtab.specs.Trace.{Trace, Answers, Finishes, UsesAll, given_at}
 use Rattle.ion_symtab.specs.declared.items.Step.{Step}
+use Rattle.ion_symtab.specs.declared.items.Passed.{Passed}
+use Rattle.std.specs.Option.{is_some}
 use Rattle.ion_symtab.specs.declared.catalog.Catalog.{Catalog}
 use Rattle.ion_symtab.specs.declared.limits.Limits.{Limits}
 use Rattle.ion_docs.specs.declared.doc_reader.Format.{Format}
@@ -49,6 +51,24 @@ module _ (d : DocReader) (b : Bool) (limits : Limits) (catalog : Catalog) (Old :
       let h = stood u s stands in
       answers_in b d.catalog.now d.limits u s piece result (begins_on b u piece h.1)
       (let P : (List ℕ → Trace) → Type 0 = λ t. Answers t u s piece result in subst P (same_trace b catalog d.catalog.now limits d.limits h.3 h.2) (answers u s h.0))
+
+  -- the same of a step that doesn't hand out its value
+  pub forward_passed : (more : Limits) (other : Catalog) (New : List ℕ → List (Value × ℕ) → Type 0) (piece : List ℕ) (result : Result Passed Refusal) →
+      IfOk result (λ passed. (u : List ℕ) (s : List (Value × ℕ)) → Old u s → (value : Option Value) × (is_some value ≡ passed.some) × New (u ++ take passed.used piece) (s ++ given_at value (length u + passed.used))) →
+      more ≡ limits → other ≡ catalog →
+      IfOk result (λ passed. (u : List ℕ) (s : List (Value × ℕ)) → DocStands d u s →
+      (value : Option Value) × (is_some value ≡ passed.some) × Handed d b more other (New (u ++ take passed.used piece) (s ++ given_at value (length u + passed.used))) (u ++ take passed.used piece))
+  forward_passed more other New piece (Ok passed) onward within under = λ u s stands.
+      let h = stood u s stands in
+      let on = onward u s h.0 in
+      (on.0, on.1, (on.2, begins_on b u (take passed.used piece) h.1, within ∙ h.2, under ∙ h.3))
+  forward_passed more other New piece (Err refusal) onward within under = tt
+
+  pub forward_refuses : (piece : List ℕ) (result : Result Passed Refusal) →
+      IfErr result (λ refusal. (u : List ℕ) (s : List (Value × ℕ)) → Old u s → Answers (trace_in b catalog limits) u s piece (Err refusal)) →
+      IfErr result (λ refusal. (u : List ℕ) (s : List (Value × ℕ)) → DocStands d u s → Answers (chosen d.catalog.now d.limits) u s piece (Err refusal))
+  forward_refuses piece (Ok passed) refuses = tt
+  forward_refuses piece (Err refusal) refuses = forward_answers piece (Err refusal) refuses
 
   pub forward_ends : (result : Result (Option Value) Refusal) →
       ((u : List ℕ) (s : List (Value × ℕ)) → Old u s → Finishes (trace_in b catalog limits) u result) →

@@ -1,6 +1,7 @@
 pub mod Pieces
 pub mod Endings
 pub mod Steps
+pub mod Passes
 pub mod Courses
 pub mod Chosen
 pub mod Fronts

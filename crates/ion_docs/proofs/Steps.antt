@@ -24,17 +24,15 @@ pub on_err : {A E : Type 0} (result : Result A E) (P : Type 0) → P → OnErr r
 on_err (Ok a) P p = tt
 on_err (Err e) P p = p
 
-plain_more : (given : List (Value × ℕ)) (found : Option (Value × ℕ)) → plain (given ++ option_to_list found) ≡ plain given ++ option_to_list (option_map (λ (x : Value × ℕ). x.0) found)
+pub plain_more : (given : List (Value × ℕ)) (found : Option (Value × ℕ)) → plain (given ++ option_to_list found) ≡ plain given ++ option_to_list (option_map (λ (x : Value × ℕ). x.0) found)
 plain_more given None = map-append (λ (x : Value × ℕ). x.0) given []
 plain_more given (Some x) = map-append (λ (x : Value × ℕ). x.0) given (x ∷ [])
 
 module _ {S X : Type 0} (R : Inlet S) (I : Items X) (g : Catalog) (l : Limits) where
   -- some octets were used
-  pub reads_went : (first now : S) (source after : Source X) (given : List (Value × ℕ)) (value : Option Value) → ReadsEach R I g l first now source given →
-      ((u : List ℕ) (given : List (Value × ℕ)) → I.stands source.items u given → Went I u given (left_of source) after value) →
+  pub reads_by : (first now : S) (source after : Source X) (given : List (Value × ℕ)) (value : Option Value) (h : ReadsEach R I g l first now source given) → Went I h.u given (left_of source) after value →
       I.catalog after.items ≡ I.catalog source.items → I.limits after.items ≡ I.limits source.items → ReadsEach R I g l first now after (given ++ given_at value after.used)
-  reads_went first now source after given value h go under within =
-      let w = go h.u given h.stood in
+  reads_by first now source after given value h w under within =
       record {
         u = w.to;
         heard = subst (λ (x : List ℕ). Heard R first now x false) (sym w.octets) h.heard;
@@ -42,6 +40,11 @@ module _ {S X : Type 0} (R : Inlet S) (I : Items X) (g : Catalog) (l : Limits) w
         under = under ∙ h.under;
         within = within ∙ h.within;
       }
+
+  pub reads_went : (first now : S) (source after : Source X) (given : List (Value × ℕ)) (value : Option Value) → ReadsEach R I g l first now source given →
+      ((u : List ℕ) (given : List (Value × ℕ)) → I.stands source.items u given → Went I u given (left_of source) after value) →
+      I.catalog after.items ≡ I.catalog source.items → I.limits after.items ≡ I.limits source.items → ReadsEach R I g l first now after (given ++ given_at value after.used)
+  reads_went first now source after given value h go under within = reads_by first now source after given value h (go h.u given h.stood) under within
 
   -- nothing was left, and the device was asked again
   reads_filled : (first now new : S) (source after : Source X) (more : List ℕ) (ended : Bool) (given : List (Value × ℕ)) → ReadsEach R I g l first now source given → left_of source ≡ [] → Heard R now new more ended →
@@ -101,7 +104,7 @@ module _ {S X : Type 0} (R : Inlet S) (I : Items X) (g : Catalog) (l : Limits) w
       reads_filled first now new mid after more ended given w empty heard rest same
 
   -- the end of a document whose octets were all used
-  last_gives : (first now : S) (source : Source X) (given : List (Value × ℕ)) (place : Place X) (last : Option (Value × ℕ)) → left_of source ≡ [] →
+  pub last_gives : (first now : S) (source : Source X) (given : List (Value × ℕ)) (place : Place X) (last : Option (Value × ℕ)) → left_of source ≡ [] →
       ((u : List ℕ) (given : List (Value × ℕ)) → I.stands source.items u given → MatchClosed place (EndsWell (format_of I (I.catalog source.items) (I.limits source.items)) u (given ++ option_to_list last))
       (λ r. (last ≡ None) × EndsRefused (format_of I (I.catalog source.items) (I.limits source.items)) u given r)) →
       GaveEach R I g l first now source.items (left_of source) true given → StoodEach R I g l first now place (given ++ option_to_list last)
@@ -116,7 +119,7 @@ module _ {S X : Type 0} (R : Inlet S) (I : Items X) (g : Catalog) (l : Limits) w
       (reads_stopped first now source.items (left_of source) given r h empty (λ u stood. (ended u given stood).1))
 
   -- the values alone, wherever the document stands
-  stood_plain : (first now : S) (place : Place X) (given : List (Value × ℕ)) → StoodEach R I g l first now place given → Stood R I g l first now place (plain given)
+  pub stood_plain : (first now : S) (place : Place X) (given : List (Value × ℕ)) → StoodEach R I g l first now place given → Stood R I g l first now place (plain given)
   stood_plain first now (ThePlace.Open source) given h = record { given = given; each = h; values = refl }
   stood_plain first now ThePlace.Ended given h = record { octets = h.octets; told = h.told; heard = h.heard; denoted = h.ends.denoted }
   stood_plain first now (ThePlace.Refused refusal) given h = record { octets = h.octets; ended = h.ended; heard = h.heard; refused = λ more may. (h.ends more may).refused }

@@ -1,12 +1,12 @@
 //! How many values a document has.
-ghost use Rattle.std.specs.Prelude.{◌≡◌, ℕ, ◌+◌, ◌^◌, ◌<◌, ◌≤◌, length, IfOk, IfErr, Option, option_to_list};
+ghost use Rattle.std.specs.Prelude.{◌^◌, ◌≤◌, IfOk, IfErr};
 ghost use Rattle.ion_symtab.specs.Cause.{IsReadCause};
 ghost use Rattle.ion_docs.specs.Formats.{format_of};
 ghost use Rattle.ion_docs.specs.Reading.{IsFresh};
 ghost use Rattle.ion_docs.specs.Checked.{IsChecked};
 
-use crate::source::{Place, Source, next_value};
-use ion_model::{Refusal, Value};
+use crate::source::{Source, pass_all};
+use ion_model::Refusal;
 use ion_symtab::{Fault, Inlet, Items};
 use std::alloc::Global;
 
@@ -26,26 +26,6 @@ pub fn check_items<I: Items + Drop, R: Inlet>(
         (format_of I.Items (I.catalog items) (I.limits items)) reader.old reader.new) }
     ensures cause { IfErr result (IsReadCause R.Inlet reads reader.old reader.new) }
 {
-    let mut source = Source::new(alloc, items, reads)?;
-    let mut values: u64 = 0;
-    loop {
-        let (place, value) = next_value(source, reader)?;
-        values = counted(values, value);
-        match place {
-            Place::Open(after) => source = after,
-            Place::Ended => return Ok(Ok(values)),
-            Place::Refused(refusal) => return Ok(Err(refusal)),
-        }
-    }
-}
-
-/// One more, if there is a value.
-fn counted(values: u64, value: Option<Value>) -> u64
-    requires { values + 1 < 2 ^ 64 }
-    ensures { result ≡ values + length (option_to_list value) }
-{
-    match value {
-        Some(_) => values + 1,
-        None => values,
-    }
+    let source = Source::new(alloc, items, reads)?;
+    pass_all(source, reader)
 }

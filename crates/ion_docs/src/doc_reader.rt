@@ -8,7 +8,7 @@ ghost use Rattle.ion_model.specs.declared.value.Value.{Value as AnyValue};
 
 use ion_binary::BinaryReader;
 use ion_model::{Reason, Refusal, Value};
-use ion_symtab::{Catalog, Items, Limits, Step};
+use ion_symtab::{Catalog, Items, Limits, Passed, Step};
 use ion_text::TextReader;
 use std::alloc::Global;
 
@@ -192,6 +192,20 @@ impl Items for DocReader<'_> {
             Format::Binary(reader) => reader.step(piece),
             Format::Text(reader) => reader.step(piece),
             Format::Unbegun => self.begin(piece),
+        }
+    }
+
+    fn pass(&mut self, piece: &[u8]) -> Result<Passed, Refusal> {
+        match &mut self.format {
+            Format::Binary(reader) => reader.pass(piece),
+            Format::Text(reader) => reader.pass(piece),
+            _ => match self.step(piece) {
+                Err(refusal) => Err(refusal),
+                Ok(Step { used, value }) => Ok(Passed {
+                    used,
+                    some: value.is_some(),
+                }),
+            },
         }
     }
 

@@ -15,6 +15,10 @@ use ion_model::{Reason, Refusal, Value};
 use ion_symtab::{Fault, Inlet, Items, Step};
 use std::alloc::Global;
 
+mod passing;
+
+pub(crate) use passing::pass_all;
+
 /// At most so many octets are read from a device in one call.
 const PIECE: usize = 4096;
 

@@ -1,4 +1,7 @@
-use Rattle.std.proofs.Common.{rules, ◌≡◌, IfOk}
+use Rattle.std.proofs.Common.{rules, [], ◌≡◌, IfOk}
+use Rattle.ion_symtab.specs.TookLaws.{Front-none}
+use Rattle.ion_docs.specs.Converted.{at_start}
+use Rattle.ion_docs.proofs.Steps.{on_err}
 use Rattle.ion_docs.specs.Encodings.{encoding_of}
 use Rattle.ion_docs.specs.Formats.{documents}
 use Rattle.ion_docs.specs.Conversion.{WritesKept}
@@ -18,6 +21,10 @@ returns-in_ok-encoder-in-Binary-clause-converted g c =
     let under : c.in_ok-items.items.catalog.now ≡ c.args.catalog.now = search rules in
     let within : c.in_ok-items.items.limits ≡ c.args.limits = search rules in
     rw (c.in-Binary.is, ← under, ← within) c.convert_items.ensures.converted
+
+pub returns-in_err-encoder-in-Binary-clause-so_far : goal.returns-in_err-encoder-in-Binary-clause-so_far
+returns-in_err-encoder-in-Binary-clause-so_far g c =
+    on_err c.from_residual-in_err-encoder-in-Binary.result _ (at_start (Front-none g.W.Outlet.took g.W.Outlet.written c.args.writer.now []))
 
 pub returns-in-Text-clause-same : goal.returns-in-Text-clause-same
 returns-in-Text-clause-same g c =

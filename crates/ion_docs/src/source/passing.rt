@@ -1,0 +1,105 @@
+//! Documents of which nobody asks for the values.
+ghost use Rattle.std.specs.Prelude.{◌≡◌, ◌≢◌, ℕ, ◌+◌, ◌*◌, ◌^◌, ◌<◌, ◌≤◌, true, false, List, [], ◌++◌, IfOk, IfErr, Option, is_some};
+ghost use Rattle.ion_model.specs.declared.value.Value.{Value};
+ghost use Rattle.ion_model.specs.declared.refusal.Reason.TheVariants as reasons;
+ghost use Rattle.ion_symtab.specs.declared.catalog.Catalog.{Catalog};
+ghost use Rattle.ion_symtab.specs.declared.limits.Limits.{Limits};
+ghost use Rattle.ion_symtab.specs.Cause.{IsReadCause};
+ghost use Rattle.ion_docs.specs.Formats.{format_of};
+ghost use Rattle.ion_docs.specs.Reading.{left_of, Begins, IsReady, IsWithin, work, Went, ReadsEach};
+ghost use Rattle.ion_docs.specs.Outcomes.{EndsRefused};
+ghost use Rattle.ion_docs.specs.Checked.{IsChecked, counted};
+
+use super::{Place, Source, last};
+use ion_model::{Reason, Refusal};
+use ion_symtab::{Fault, Inlet, Items, Passed};
+
+impl<I: Items + Drop> Source<I> {
+    /// Takes up octets of the piece as `take` does: whether there was a value.
+    fn pass(&mut self) -> Result<bool, Refusal>
+        requires { IsReady I.Items self.old }
+        ensures gives { IfOk result (λ some. (u : List ℕ) (given : List (Value × ℕ)) →
+            I.stands self.old.items u given → (value : Option Value) × (is_some value ≡ some)
+            × Went I.Items u given (left_of self.old) self.new value) }
+        ensures refuses { IfErr result (λ refusal. refusal.reason ≢ reasons.Memory →
+            (u : List ℕ) (given : List (Value × ℕ)) → I.stands self.old.items u given → (more : List ℕ) →
+            EndsRefused (format_of I.Items (I.catalog self.old.items) (I.limits self.old.items))
+            ((u ++ left_of self.old) ++ more) given refusal) }
+        ensures within { IfOk result (λ some. (self.old.at ≤ self.new.at) × (self.new.at ≤ self.new.end)) }
+        ensures all { IfOk result (λ some. some ≡ false → self.new.at ≡ self.new.end) }
+        ensures taken { IfOk result (λ some.
+            I.taken self.new.items + self.old.at ≡ I.taken self.old.items + self.new.at) }
+        ensures counted { IfOk result (λ some. I.taken self.new.items ≡ self.new.used) }
+        ensures pending { IfOk result (λ some. work I.Items self.new ≤ work I.Items self.old) }
+        ensures less { IfOk result (λ some. some ≡ true →
+            work I.Items self.new < work I.Items self.old) }
+        ensures begins { IfOk result (λ some. Begins (I.awaits self.new.items) (left_of self.new)) }
+        ensures catalog { I.catalog self.new.items ≡ I.catalog self.old.items }
+        ensures limits { I.limits self.new.items ≡ I.limits self.old.items }
+        ensures piece { self.new.piece.items ≡ self.old.piece.items }
+        ensures end { self.new.end ≡ self.old.end }
+        ensures reads { self.new.reads ≡ self.old.reads }
+    {
+        match self.items.pass(&self.piece[self.at..self.end]) {
+            Err(refusal) => Err(refusal),
+            Ok(Passed { used, some }) => {
+                self.at += used;
+                self.used += used as u64;
+                Ok(some)
+            }
+        }
+    }
+}
+
+/// Reads a document to its end: how many values it has, or the refusal of octets that are no document.
+///
+/// Faults are `Memory`, `Read` and `TooManyReads`.
+pub(crate) fn pass_all<I: Items + Drop, R: Inlet>(
+    mut source: Source<I>,
+    reader: &mut R,
+) -> Result<Result<u64, Refusal>, Fault>
+    requires ready { IsReady I.Items source }
+    requires few { work I.Items source ≤ 8193 * 2 ^ 32 }
+    ensures verdict { IfOk result (λ verdict. (g : Catalog) (l : Limits) (first : R) →
+        ReadsEach R.Inlet I.Items g l first reader.old source [] →
+        IsChecked R.Inlet (format_of I.Items g l) first reader.new verdict) }
+    ensures cause { IfErr result (λ fault. (first : R) (reads : ℕ) →
+        IsWithin R.Inlet reads first reader.old source →
+        IsReadCause R.Inlet reads first reader.new fault) }
+{
+    let mut values: u64 = 0;
+    loop {
+        match source.pass() {
+            Err(
+                Refusal {
+                    reason: Reason::Memory,
+                    ..
+                },
+            ) => return Err(Fault::Memory),
+            Err(refusal) => return Ok(Err(refusal)),
+            Ok(true) => {
+                values += 1;
+                continue;
+            }
+            Ok(false) => {}
+        }
+        if source.reads == 0 {
+            return Err(Fault::TooManyReads);
+        }
+        if !source.fill(reader)? {
+            let (place, found) = last(source)?;
+            return Ok(counted(values, place, found.is_some()));
+        }
+    }
+}
+
+/// How many values there are, with one that the end may have shown, or the refusal of the end.
+fn counted<I: Drop>(values: u64, place: Place<I>, some: bool) -> Result<u64, Refusal>
+    requires { values + 1 < 2 ^ 64 }
+    ensures { result ≡ counted values some place }
+{
+    match place {
+        Place::Refused(refusal) => Err(refusal),
+        _ => Ok(if some { values + 1 } else { values }),
+    }
+}
