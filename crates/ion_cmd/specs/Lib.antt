@@ -1,5 +1,6 @@
 pub mod Lines
 pub mod Endings
+pub mod Named
 pub mod Names
 pub mod Arguments
 pub mod Owed

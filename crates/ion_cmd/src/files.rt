@@ -44,12 +44,15 @@ impl<'r> FileSystem<'r> {
 
 impl Sources for FileSystem<'_> {
     ghost use Rattle.std.specs.Prelude.{◌≡◌, ◌≢◌, [], codes};
+    ghost use Rattle.ion_symtab.specs.FromRead.{reader_of};
+    ghost use Rattle.ion_cmd.specs.Named.{IsNamed};
 
     type Input = FromRead<Source>;
 
-    /// What a file holds isn't known; its reader has handed nothing over yet.
-    ghost gives = { λ _ _ input.
-        (⟦<FromRead<Source> as Inlet>⟧.handed input ≡ []) × (⟦<FromRead<Source> as Inlet>⟧.ends input ≡ []) };
+    /// The standard input by the name `-`, a file by any other. What it holds isn't known; its reader
+    /// has handed nothing over yet.
+    ghost gives = { λ _ name input. IsNamed name (reader_of input)
+        × (⟦<FromRead<Source> as Inlet>⟧.handed input ≡ []) × (⟦<FromRead<Source> as Inlet>⟧.ends input ≡ []) };
 
     /// Any name of a file may be refused, since nothing is known of what can be opened; the standard
     /// input never is.

@@ -5,7 +5,8 @@ mod documents;
 mod words;
 
 use crate::run::run;
-use devices::{FrailShelf, Shelf, Slow};
+use devices::{FrailShelf, Shelf};
+use ion_devices::FrailWriter;
 use ion_symtab::ToWrite;
 use std::alloc::{AllocError, Global};
 use std::io;
@@ -454,7 +455,7 @@ fn each_write_fails(rt: HostRuntime) -> Result<(), Fail> {
                 alloc,
                 row.words,
                 &mut shelf,
-                &mut ToWrite::new(Slow {
+                &mut ToWrite::new(FrailWriter {
                     taken: &mut out,
                     takes: 1,
                     calls: 0,
@@ -494,13 +495,13 @@ fn nothing_is_taken(rt: HostRuntime) -> Result<(), Fail> {
             alloc,
             row.words,
             &mut shelf,
-            &mut ToWrite::new(Slow {
+            &mut ToWrite::new(FrailWriter {
                 taken: &mut out,
                 takes: 0,
                 calls: 0,
                 fails_at: u64::MAX,
             }),
-            &mut ToWrite::new(Slow {
+            &mut ToWrite::new(FrailWriter {
                 taken: &mut err,
                 takes: 1,
                 calls: 0,

@@ -1,0 +1,216 @@
+//! Documents that are refused before a value.
+
+/// A document that is refused before a value, the words behind its name, and the line that says so.
+pub(super) type Refused = (&'static [u8], &'static [&'static str], &'static str);
+
+pub(super) static REFUSED: [Refused; 69] = [
+    (b"\xE0\x01\x00\xEA\x71\x0A", &[], "refused 6 SymbolRange\n"),
+    (
+        b"170141183460469231731687303715884105728",
+        &[],
+        "refused 39 TooLarge\n",
+    ),
+    (
+        b"\xE0\x01\x00\xEA\x2E\x90\x80\x00\x00\x00\x00\x00\x00\x00\x00\x00\x00\x00\x00\x00\x00\x00",
+        &[],
+        "refused 22 TooLarge\n",
+    ),
+    (
+        b"$ion_symbol_table::{imports:[{name:\"t\",version:1,max_id:2}]} $10",
+        &[],
+        "refused 60 MissingImport\n",
+    ),
+    (
+        b"$ion_symbol_table::{imports:[{name:\"t\",version:1,max_id:2}]} $11",
+        &["--catalog", "t"],
+        "refused 64 ImportGap\n",
+    ),
+    (
+        b"\xE0\x01\x00\xEA\x83\x61\x62",
+        &[],
+        "refused 7 Incomplete\n",
+    ),
+    (b"[1,", &[], "refused 3 Incomplete\n"),
+    (b"1e0", &[], "refused 3 Float\n"),
+    (b"+inf", &[], "refused 4 Float\n"),
+    (b"\xE0\x01\x00\xEA\x40", &[], "refused 5 Float\n"),
+    (b"nan", &[], "refused 3 Float\n"),
+    (b"(a--1)", &[], "refused 5 Ambiguous\n"),
+    (b"(1+2)", &[], "refused 5 Malformed\n"),
+    (b"[[[1]]]", &["--depth", "2"], "refused 3 Depth\n"),
+    (b"{{aGVsbG9=}}", &[], "refused 11 BadBase64\n"),
+    (b"\"\\ud83d\"", &[], "refused 8 BadEscape\n"),
+    (b"{{\"\\u0041\"}}", &[], "refused 5 BadEscape\n"),
+    (b"\"\xC3(\"", &[], "refused 3 BadUtf8\n"),
+    (b"\xE0\x01\x00\xEA\x82\xC3\x28", &[], "refused 7 BadUtf8\n"),
+    (b"9999-12-31T23:30-00:30", &[], "refused 22 Malformed\n"),
+    (b"2007-02-29", &[], "refused 10 Malformed\n"),
+    (
+        b"\xE0\x01\x00\xEA\x66\x80\x0F\xD0\x81\x81\x80",
+        &[],
+        "refused 11 Malformed\n",
+    ),
+    (b"{null:1}", &[], "refused 6 KeywordAsName\n"),
+    (b"true::1", &[], "refused 6 KeywordAsName\n"),
+    (b"[1,,2]", &[], "refused 4 Unexpected\n"),
+    (b"{a::1}", &[], "refused 4 Unexpected\n"),
+    (b"[a b]", &[], "refused 4 Unexpected\n"),
+    (b"+1", &[], "refused 2 Unexpected\n"),
+    (
+        b"\xE0\x01\x00\xEA\xE0\x01\x01\xEA",
+        &[],
+        "refused 8 Version\n",
+    ),
+    (
+        b"$ion_symbol_table::{symbols:[\"a\"],symbols:[\"b\"]}",
+        &[],
+        "refused 48 RepeatedField\n",
+    ),
+    (
+        b"$ion_symbol_table::null.struct",
+        &[],
+        "refused 30 NullTable\n",
+    ),
+    (
+        b"$ion_symbol_table::{imports:[{name:\"t\",max_id:2147483647}]}",
+        &[],
+        "refused 59 MissingImport\n",
+    ),
+    (
+        b"$ion_symbol_table::{imports:[{name:\"t\",max_id:2147483647}]}",
+        &["--catalog", "t"],
+        "refused 59 TableTooLarge\n",
+    ),
+    (b"\xE0\x01\x00\xEA\x30", &[], "refused 5 Malformed\n"),
+    (b"\xE0\x01\x00\xEA\x31\x00", &[], "refused 6 Malformed\n"),
+    (b"\xE0\x01\x00\xEA\x13", &[], "refused 5 Malformed\n"),
+    (
+        b"\xE0\x01\x00\xEA\xE3\x81\x84\x00",
+        &[],
+        "refused 8 Malformed\n",
+    ),
+    (b"\xE0\x01\x00\xEA\xB1\x21", &[], "refused 6 Malformed\n"),
+    (b"\xE0\x01\x00\xEA\xD1\x80", &[], "refused 6 Malformed\n"),
+    (b"1__0", &[], "refused 4 Malformed\n"),
+    (b"007", &[], "refused 3 Malformed\n"),
+    (b"1/", &[], "refused 2 Malformed\n"),
+    (b"\"ab\"", &["--item", "3"], "refused 4 ItemTooLong\n"),
+    (
+        b"\xE0\x01\x00\xEA\x83\x61\x62\x63",
+        &["--item", "3"],
+        "refused 5 ItemTooLong\n",
+    ),
+    (
+        b"\xE0\x01\x00\xEA\xE4\x81\x8A\x21\x01",
+        &[],
+        "refused 7 SymbolRange\n",
+    ),
+    (
+        b"\xE0\x01\x00\xEA\xD3\x8A\x21\x01",
+        &[],
+        "refused 7 SymbolRange\n",
+    ),
+    (b"'''a''' '' ", &[], "refused 11 Unexpected\n"),
+    (b"'''a''' ''", &[], "refused 10 Incomplete\n"),
+    (
+        b"$ion_symbol_table::{symbols:[\"a\"]} $ion_1_0 $10",
+        &[],
+        "refused 47 SymbolRange\n",
+    ),
+    (
+        b"$ion_symbol_table::{imports:[{name:\"t\",max_id:2147483638}]} $2147483647",
+        &["--catalog", "t"],
+        "refused 71 ImportGap\n",
+    ),
+    (
+        b"$ion_symbol_table::{imports:[{name:\"t\",max_id:2147483638}]} $2147483648",
+        &["--catalog", "t"],
+        "refused 71 SymbolRange\n",
+    ),
+    (
+        b"$ion_symbol_table::{imports:[{name:\"t\",max_id:2147483638}],symbols:[\"a\"]}",
+        &["--catalog", "t"],
+        "refused 73 TableTooLarge\n",
+    ),
+    (
+        b"\xE0\x01\x00\xEA\x8E\x01\x00\x00\x00\x00\x00\x00\x00\x00\x80",
+        &[],
+        "refused 15 TooLarge\n",
+    ),
+    (
+        b"\xE0\x01\x00\xEA\x0E\x7F\x7F\x7F\x7F\x7F\x7F\x7F\x7F\xFF",
+        &[],
+        "refused 14 Incomplete\n",
+    ),
+    (
+        b"\xE0\x01\x00\xEA\xBE\x00\x00\x00\x81",
+        &["--item", "3"],
+        "refused 8 ItemTooLong\n",
+    ),
+    (
+        b"\xE0\x01\x00\xEA\xB2\x0E\x85",
+        &[],
+        "refused 7 Malformed\n",
+    ),
+    (
+        b"\xE0\x01\x00\xEA\xB2\x0E\x00",
+        &[],
+        "refused 7 Malformed\n",
+    ),
+    (
+        b"\xE0\x01\x00\xEA\xB3\xB2\xB1\x20",
+        &["--depth", "2"],
+        "refused 7 Depth\n",
+    ),
+    (
+        b"$ion_symbol_table::{symbols:[\"a\"]}",
+        &["--depth", "1"],
+        "refused 29 Depth\n",
+    ),
+    (b"[{}]", &["--depth", "1"], "refused 3 Depth\n"),
+    (
+        b"[[[[[[[[[[[[[[[[[[[[[[[[[[[[[[[[[[[[[[[[[[[[[[[[[[[[[[[[[[[[[[[[[[[[[[[[[[[[[[[[[[[[[[[[[[[[[[[[[[[[[[[[[[[[[[[[[[[[[[[[[[[[[[[[[",
+        &["--depth", "128"],
+        "refused 129 Depth\n",
+    ),
+    (
+        b"$ion_symbol_table::{imports:[{name:\"t\",version:2,max_id:2}]} $12",
+        &["--catalog", "tables"],
+        "refused 64 SymbolRange\n",
+    ),
+    (
+        b"$ion_symbol_table::{imports:[{name:\"t\",version:1,max_id:2}]} $11",
+        &["--catalog", "tables"],
+        "refused 64 ImportGap\n",
+    ),
+    (
+        b"$ion_symbol_table::{imports:[{name:\"t\",version:9,max_id:4}]} $13",
+        &["--catalog", "tables"],
+        "refused 64 ImportGap\n",
+    ),
+    (
+        b"$ion_symbol_table::{imports:[{name:\"t\",version:2,max_id:0}]} $10",
+        &["--catalog", "tables"],
+        "refused 64 SymbolRange\n",
+    ),
+    (
+        b"$ion_symbol_table::{imports:[{name:\"t\",version:2}]} $10",
+        &["--catalog", "tables"],
+        "refused 51 MissingImport\n",
+    ),
+    (
+        b"$ion_symbol_table::{imports:[{name:\"t\",version:2,max_id:-1}]} $10",
+        &["--catalog", "tables"],
+        "refused 61 MissingImport\n",
+    ),
+    (
+        b"$ion_symbol_table::{imports:[{name:\"u\",version:2,max_id:2}]} $10",
+        &["--catalog", "tables"],
+        "refused 60 MissingImport\n",
+    ),
+    (
+        b"$ion_symbol_table::{imports:[{name:\"t\",version:2,max_id:2147483647}]} $10",
+        &["--catalog", "tables"],
+        "refused 69 TableTooLarge\n",
+    ),
+];
