@@ -6,60 +6,36 @@ mod text;
 mod whole;
 
 use crate::text::read;
+use ion_devices::{FrailReader, FrailWriter, NEVER};
 use ion_docs::{DocReader, Side, check, show};
 use ion_model::{Reason, Refusal};
 use ion_symtab::{Catalog, Fault, FromRead, Inlet, Limits, ToWrite};
 use std::alloc::Global;
 use std::io;
-use std::io::{Read, Write};
+use std::io::{ErrorKind, Read};
 use std::test::Fail;
 
-/// A reader that gives at most `first` octets in its first call and at most `then` in each other,
-/// and fails at one call, once.
-#[derive(Drop)]
-pub(crate) struct Cut<'a> {
-    octets: &'a [u8],
-    first: usize,
-    then: usize,
-    calls: u64,
-    fails_at: u64,
-}
-
-/// No call fails.
-pub(crate) const NEVER: u64 = u64::MAX;
-
-impl Read for Cut<'_> {
-    fn read(&mut self, buf: &mut [u8]) -> io::Result<usize> {
-        let now = self.calls;
-        self.calls = self.calls.saturating_add(1);
-        if now == self.fails_at {
-            return Err(io::Error::from(io::ErrorKind::Interrupted));
-        }
-        let most = if now == 0 { self.first } else { self.then };
-        let count = buf.len().min(most);
-        self.octets.read(&mut buf[..count])
-    }
-}
-
 /// The octets in two pieces, cut behind the first `first`, or in one.
-pub(crate) fn in_two(octets: &[u8], first: usize) -> FromRead<Cut<'_>> {
-    FromRead::new(Cut {
+pub(crate) fn in_two(octets: &[u8], first: usize) -> FromRead<FrailReader<'_>> {
+    FromRead::new(FrailReader {
         octets,
         first,
         then: 4096,
         calls: 0,
         fails_at: NEVER,
+        kind: ErrorKind::Interrupted,
     })
 }
 
 /// The octets one by one; the call with this index fails.
-fn one_by_one(octets: &[u8], fails_at: u64) -> FromRead<Cut<'_>> {
-    FromRead::new(Cut {
+fn one_by_one(octets: &[u8], fails_at: u64) -> FromRead<FrailReader<'_>> {
+    FromRead::new(FrailReader {
         octets,
         first: 1,
         then: 1,
         calls: 0,
         fails_at,
+        kind: ErrorKind::Interrupted,
     })
 }
 
@@ -85,39 +61,6 @@ impl Read for Endless {
                 Ok(1)
             }
         }
-    }
-}
-
-/// A writer that takes at most `takes` octets a call, and fails at one call, once.
-#[derive(Drop)]
-pub(crate) struct Slow<'v> {
-    pub(crate) taken: &'v mut Vec<u8>,
-    pub(crate) calls: u64,
-    pub(crate) fails_at: u64,
-    pub(crate) takes: usize,
-}
-
-impl Slow<'_> {
-    /// Counts a call, and fails where it is the one.
-    fn called(&mut self) -> io::Result<()> {
-        let now = self.calls;
-        self.calls = self.calls.saturating_add(1);
-        if now == self.fails_at {
-            return Err(io::Error::from(io::ErrorKind::Interrupted));
-        }
-        Ok(())
-    }
-}
-
-impl Write for Slow<'_> {
-    fn write(&mut self, buf: &[u8]) -> io::Result<usize> {
-        self.called()?;
-        let count = buf.len().min(self.takes);
-        self.taken.write(&buf[..count])
-    }
-
-    fn flush(&mut self) -> io::Result<()> {
-        self.called()
     }
 }
 
@@ -609,7 +552,7 @@ fn shows(rt: HostRuntime) -> Result<(), Fail> {
     for row in &SHOWN {
         for first in 1..=row.octets.len() + 1 {
             let mut taken = Vec::new(alloc);
-            let mut writer = ToWrite::new(Slow {
+            let mut writer = ToWrite::new(FrailWriter {
                 taken: &mut taken,
                 calls: 0,
                 fails_at: NEVER,
@@ -644,7 +587,7 @@ fn a_write_fails(rt: HostRuntime) -> Result<(), Fail> {
         let writes = row.text.len() as u64;
         for fails_at in 0..=writes + 1 {
             let mut taken = Vec::new(alloc);
-            let mut writer = ToWrite::new(Slow {
+            let mut writer = ToWrite::new(FrailWriter {
                 taken: &mut taken,
                 calls: 0,
                 fails_at,

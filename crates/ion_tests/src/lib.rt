@@ -7,4 +7,6 @@ mod binary;
 #[cfg(test)]
 mod docs;
 #[cfg(test)]
+mod starved;
+#[cfg(test)]
 mod text;

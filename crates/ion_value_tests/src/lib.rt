@@ -7,6 +7,8 @@ mod model;
 #[cfg(test)]
 mod scalar;
 #[cfg(test)]
+mod starved;
+#[cfg(test)]
 mod symtab;
 #[cfg(test)]
 mod tokens;

@@ -1,70 +1,18 @@
-//! Devices that fail once and then would go on, and the messages of faults.
-mod tables;
+//! Devices over readers and writers that fail, and the messages of faults.
+pub(crate) mod tables;
 
+use ion_devices::{FrailReader, FrailWriter};
 use ion_symtab::{Failed, Fault, FromRead, Inlet, Limits, Outlet, ToWrite, flushed, write_whole};
 use std::io;
-use std::io::{Read, Write};
 use std::test::Fail;
-
-/// A reader that gives one octet a call, and fails at one call, once.
-#[derive(Drop)]
-struct Frail<'a> {
-    octets: &'a [u8],
-    calls: u64,
-    fails_at: u64,
-    kind: io::ErrorKind,
-}
-
-impl Read for Frail<'_> {
-    fn read(&mut self, buf: &mut [u8]) -> io::Result<usize> {
-        let now = self.calls;
-        self.calls = self.calls.saturating_add(1);
-        if now == self.fails_at {
-            return Err(io::Error::from(self.kind));
-        }
-        let count = buf.len().min(1);
-        self.octets.read(&mut buf[..count])
-    }
-}
-
-/// A writer that takes at most `takes` octets a call, and fails at one call, once.
-#[derive(Drop)]
-struct Slow<'v> {
-    taken: &'v mut Vec<u8>,
-    calls: u64,
-    fails_at: u64,
-    takes: usize,
-}
-
-impl Slow<'_> {
-    /// Counts a call, and fails where it is the one.
-    fn called(&mut self) -> io::Result<()> {
-        let now = self.calls;
-        self.calls = self.calls.saturating_add(1);
-        if now == self.fails_at {
-            return Err(io::Error::from(io::ErrorKind::Interrupted));
-        }
-        Ok(())
-    }
-}
-
-impl Write for Slow<'_> {
-    fn write(&mut self, buf: &[u8]) -> io::Result<usize> {
-        self.called()?;
-        let count = buf.len().min(self.takes);
-        self.taken.write(&buf[..count])
-    }
-
-    fn flush(&mut self) -> io::Result<()> {
-        self.called()
-    }
-}
 
 #[test]
 fn read_fails_once(rt: HostRuntime) {
     for kind in [io::ErrorKind::Interrupted, io::ErrorKind::Other] {
-        let mut reader = FromRead::new(Frail {
+        let mut reader = FromRead::new(FrailReader {
             octets: b"abc",
+            first: 1,
+            then: 1,
             calls: 0,
             fails_at: 2,
             kind,
@@ -101,7 +49,7 @@ fn write_fails_once(rt: HostRuntime) {
     let alloc = rt.alloc();
     for fails_at in 0..5 {
         let mut taken = Vec::new(alloc);
-        let mut writer = ToWrite::new(Slow {
+        let mut writer = ToWrite::new(FrailWriter {
             taken: &mut taken,
             calls: 0,
             fails_at,
@@ -135,7 +83,7 @@ fn write_fails_once(rt: HostRuntime) {
 #[test]
 fn write_takes_nothing(rt: HostRuntime) {
     let mut taken = Vec::new(rt.alloc());
-    let mut writer = ToWrite::new(Slow {
+    let mut writer = ToWrite::new(FrailWriter {
         taken: &mut taken,
         calls: 0,
         fails_at: 99,

@@ -1,5 +1,6 @@
 //! Documents and their conversions, worked out by hand from the encodings, and devices that fail once.
-use super::{NEVER, Slow, in_two};
+use super::in_two;
+use ion_devices::{FrailWriter, NEVER};
 use ion_docs::{Target, convert};
 use ion_model::{Reason, Refusal};
 use ion_symtab::{Catalog, Fault, Limits, ToWrite};
@@ -110,7 +111,7 @@ fn converts(rt: HostRuntime) -> Result<(), Fail> {
         ] {
             for first in 1..=row.octets.len() + 1 {
                 let mut taken = Vec::new(alloc);
-                let mut writer = ToWrite::new(Slow {
+                let mut writer = ToWrite::new(FrailWriter {
                     taken: &mut taken,
                     calls: 0,
                     fails_at: NEVER,
@@ -154,7 +155,7 @@ fn one_two(
     fails_at: u64,
 ) -> (Vec<u8>, Result<Result<u64, Refusal>, Fault>) {
     let mut taken = Vec::new(alloc);
-    let mut writer = ToWrite::new(Slow {
+    let mut writer = ToWrite::new(FrailWriter {
         taken: &mut taken,
         calls: 0,
         fails_at,

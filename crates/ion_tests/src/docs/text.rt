@@ -1,6 +1,7 @@
 //! Documents in text, by themselves and against binary ones; `M` in a comment stands for the version marker
 //! `E0 01 00 EA`.
-use super::{NEVER, Slow, Verdict, compare, in_two, one_by_one};
+use super::{Verdict, compare, in_two, one_by_one};
+use ion_devices::{FrailWriter, NEVER};
 use ion_docs::{Side, Target, check, convert, load_catalog, path_text, read_all, show};
 use ion_model::{Reason, Refusal};
 use ion_symtab::{Catalog, FromRead, Limits, ToWrite};
@@ -462,7 +463,7 @@ fn converted(
 ) -> Result<(Vec<u8>, Result<u64, (u64, Reason)>), Fail> {
     let catalog = Catalog::new(alloc);
     let mut taken = Vec::new(alloc);
-    let mut writer = ToWrite::new(Slow {
+    let mut writer = ToWrite::new(FrailWriter {
         taken: &mut taken,
         calls: 0,
         fails_at: NEVER,

@@ -249,9 +249,9 @@ fn reads_all(rt: HostRuntime) -> Result<(), Fail> {
 }
 
 /// Where a growth is refused, each call gives its own answer or want of memory. Here none is, but by
-/// `rt try --test --fail-alloc N`.
+/// `tests/starved.py`.
 #[test]
-fn growths(rt: HostRuntime) {
+fn starved_documents(rt: HostRuntime) {
     let alloc = rt.alloc();
     let catalog = Catalog::new(alloc);
     let (left, right, at, _) = PARTED[0];

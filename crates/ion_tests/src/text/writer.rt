@@ -1,5 +1,6 @@
 //! Worked values and their spellings, and devices that fail once and then would go on.
 
+use ion_devices::FrailWriter;
 use ion_model::{
     Bytes, Decimal, Field, Kind, Local, Payload, Precision, Sequence, Symbol, Text, Timestamp,
     Value, Whole,
@@ -7,42 +8,7 @@ use ion_model::{
 use ion_symtab::{Fault, ToWrite};
 use ion_text::{TextWriter, symbol_text};
 use std::alloc::{AllocError, Global};
-use std::io;
-use std::io::Write;
 use std::test::Fail;
-
-/// A writer that takes at most `takes` octets a call, and fails at one call, once.
-#[derive(Drop)]
-struct Slow<'v> {
-    taken: &'v mut Vec<u8>,
-    calls: u64,
-    fails_at: u64,
-    takes: usize,
-}
-
-impl Slow<'_> {
-    /// Counts a call, and fails where it is the one.
-    fn called(&mut self) -> io::Result<()> {
-        let now = self.calls;
-        self.calls = self.calls.saturating_add(1);
-        if now == self.fails_at {
-            return Err(io::Error::from(io::ErrorKind::Interrupted));
-        }
-        Ok(())
-    }
-}
-
-impl Write for Slow<'_> {
-    fn write(&mut self, buf: &[u8]) -> io::Result<usize> {
-        self.called()?;
-        let count = buf.len().min(self.takes);
-        self.taken.write(&buf[..count])
-    }
-
-    fn flush(&mut self) -> io::Result<()> {
-        self.called()
-    }
-}
 
 /// A value without annotations.
 fn bare(alloc: Global, payload: Payload) -> Value {
@@ -274,7 +240,7 @@ fn a_write_fails(rt: HostRuntime) -> Result<(), Fail> {
     let text = b"1\n2\n".as_slice();
     for fails_at in 0..6 {
         let mut taken = Vec::new(alloc);
-        let mut out = ToWrite::new(Slow {
+        let mut out = ToWrite::new(FrailWriter {
             taken: &mut taken,
             calls: 0,
             fails_at,
@@ -304,7 +270,7 @@ fn a_write_fails(rt: HostRuntime) -> Result<(), Fail> {
 fn nothing_is_taken(rt: HostRuntime) {
     let alloc = rt.alloc();
     let mut taken = Vec::new(alloc);
-    let mut out = ToWrite::new(Slow {
+    let mut out = ToWrite::new(FrailWriter {
         taken: &mut taken,
         calls: 0,
         fails_at: u64::MAX,

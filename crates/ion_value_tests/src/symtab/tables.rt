@@ -78,7 +78,7 @@ fn of_symbols(alloc: Global, texts: &[&str]) -> Result<Value, Reason> {
 }
 
 /// `$ion_symbol_table::{imports:$ion_symbol_table,symbols:[..]}`.
-fn appending(alloc: Global, texts: &[&str]) -> Result<Value, Reason> {
+pub(crate) fn appending(alloc: Global, texts: &[&str]) -> Result<Value, Reason> {
     let mut of = Vec::new(alloc);
     put(
         alloc,
@@ -123,7 +123,7 @@ fn import(
 }
 
 /// `$ion_symbol_table::{imports:[I]}`, `I` with this name, version and `max_id`.
-fn importing(
+pub(crate) fn importing(
     alloc: Global,
     name: &str,
     version: Option<i128>,
@@ -144,7 +144,12 @@ fn behind(alloc: Global, tables: &Catalog, of: &[Value]) -> Result<Context, Reas
 }
 
 /// The table of this name and version.
-fn table(alloc: Global, name: &str, version: u32, texts: &[&str]) -> Result<SharedTable, Reason> {
+pub(crate) fn table(
+    alloc: Global,
+    name: &str,
+    version: u32,
+    texts: &[&str],
+) -> Result<SharedTable, Reason> {
     let mut symbols = Vec::new(alloc);
     for text in texts {
         symbols.push(Some(String::from_str(alloc, text)?))?;
@@ -153,7 +158,7 @@ fn table(alloc: Global, name: &str, version: u32, texts: &[&str]) -> Result<Shar
 }
 
 /// Adds a table.
-fn add(catalog: &mut Catalog, table: SharedTable) -> Result<(), Reason> {
+pub(crate) fn add(catalog: &mut Catalog, table: SharedTable) -> Result<(), Reason> {
     match catalog.add(table) {
         Ok(()) => Ok(()),
         Err((_, reason)) => Err(reason),
@@ -161,7 +166,7 @@ fn add(catalog: &mut Catalog, table: SharedTable) -> Result<(), Reason> {
 }
 
 /// The catalog t 1 of `["x"]`.
-fn small(alloc: Global) -> Result<Catalog, Reason> {
+pub(crate) fn small(alloc: Global) -> Result<Catalog, Reason> {
     let mut catalog = Catalog::new(alloc);
     add(&mut catalog, table(alloc, "t", 1, &["x"])?)?;
     Ok(catalog)
@@ -453,30 +458,4 @@ fn catalog_documents(rt: HostRuntime) -> Result<(), Fail> {
     let refused = SharedTable::from_value(alloc, &int(alloc, 1)).err();
     assert_eq!(rt; refused, Some(Reason::BadTable));
     Ok(())
-}
-
-/// How far the greatest id is from where it should be behind `["a"]` and then, appended, `["b","c"]`,
-/// where memory may be refused on the way.
-fn off_by(alloc: Global) -> Result<u32, Reason> {
-    let of = appended(alloc)?;
-    let tables = Catalog::new(alloc);
-    let mut context = Context::system(alloc)?;
-    let mut wanted = 9u32;
-    for (table, greatest) in of.iter().zip([10, 12]) {
-        if table.is_table() && context.apply(table, &tables).is_ok() {
-            wanted = greatest;
-        } else {
-            return Ok(wanted.abs_diff(context.max_id()));
-        }
-    }
-    Ok(wanted.abs_diff(context.max_id()))
-}
-
-/// For `rt try --test --fail-alloc`: a refused table changes nothing.
-#[test]
-fn memory_refused(rt: HostRuntime) {
-    match off_by(rt.alloc()) {
-        Ok(off) => assert_eq!(rt; off, 0),
-        Err(reason) => assert_eq!(rt; reason, Reason::Memory),
-    }
 }
