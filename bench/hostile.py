@@ -197,7 +197,7 @@ MULTIPLIER = 0x9E3779B97F4A7C15
 
 
 def colliding(count):
-    """A list of symbols whose texts have one hash under the maps' hasher of the fixed seed: the third eight octets are the state
+    """A list of symbols whose texts have one hash under std's hasher of the fixed seed: the third eight octets are the state
     behind the first sixteen, so a factor is 0 whatever the last eight octets are."""
     begun = folded(0x243F6A8885A308D3 ^ 1, MULTIPLIER ^ 16)
     letters = "abcdefghijklmnopqrstuvwxyz"
@@ -242,7 +242,7 @@ CASES = [
     ("many names, compared", "compare A B", [many_names, many_names], MILLION, LARGE),
     ("many names, the other way round", "compare A B", [many_names, backward_names], MILLION, LARGE),
     ("symbols, to binary", "convert A --to binary", [symbols], MILLION, LARGE),
-    ("colliding symbols, to binary", "convert A --to binary", [colliding], MILLION // 4, LARGE),
+    ("colliding symbols, to binary", "convert A --to binary", [colliding], MILLION, LARGE),
     ("appended tables", "check A", [tables], MILLION, LARGE),
     ("appended tables, to binary", "convert A --to binary", [tables], MILLION, LARGE),
     ("appended tables in text", "check A", [tables_in_text], MILLION // 4, LARGE),
