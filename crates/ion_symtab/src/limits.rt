@@ -47,6 +47,34 @@ impl Limits {
         }
     }
 
+    /// These limits with another depth. `None` exactly where it isn't in 1 to 128.
+    pub fn with_depth(self, depth: u32) -> Option<Limits>
+        ensures some { IfSome result (λ limits.
+            (limits.depth ≡ depth) × (limits.item ≡ self.item) × (limits.reads ≡ self.reads)) }
+        ensures none { IsSome result ↔ IsDepth depth }
+    {
+        Limits::new(depth, self.item, self.reads)
+    }
+
+    /// These limits with another greatest number of octets of an item. `None` exactly where it isn't in 1
+    /// to 2^30.
+    pub fn with_item(self, item: u64) -> Option<Limits>
+        ensures some { IfSome result (λ limits.
+            (limits.depth ≡ self.depth) × (limits.item ≡ item) × (limits.reads ≡ self.reads)) }
+        ensures none { IsSome result ↔ IsItem item }
+    {
+        Limits::new(self.depth, item, self.reads)
+    }
+
+    /// These limits with another greatest number of reads. `None` exactly where it isn't in 1 to 2^32.
+    pub fn with_reads(self, reads: u64) -> Option<Limits>
+        ensures some { IfSome result (λ limits.
+            (limits.depth ≡ self.depth) × (limits.item ≡ self.item) × (limits.reads ≡ reads)) }
+        ensures none { IsSome result ↔ IsReads reads }
+    {
+        Limits::new(self.depth, self.item, reads)
+    }
+
     /// The greatest depth, in levels of lists, s-expressions and structs.
     pub fn depth(self) -> u32
         ensures { result ≡ self.depth }

@@ -123,6 +123,13 @@ fn limits(rt: HostRuntime) {
     ] {
         assert_eq!(rt; Limits::new(depth, item, reads), None);
     }
+    assert_eq!(rt;
+        usual.with_depth(128),
+        Limits::new(128, 16777216, 4294967296)
+    );
+    assert_eq!(rt; usual.with_item(7), Limits::new(64, 7, 4294967296));
+    assert_eq!(rt; usual.with_reads(2), Limits::new(64, 16777216, 2));
+    assert_eq!(rt; usual.with_depth(129), None);
 }
 
 #[test]
