@@ -2,49 +2,111 @@
 """Tries wrong bodies that the prover has to refuse: tests/wrong_bodies.py CRATE [NAME..].
 
 The gate tries those of crates/CRATE/must-fail. Those of crates/CRATE/wrong-bodies were refused too when they were
-written; the gate would take hours more with them, so they are tried here: all, or those named. Each is put into the crate's
-sources, which have to be as they were committed, `rt check` is to refuse it, and it is taken out again.
+written; the gate would take hours more with them, so they are tried here: all, or those named. A check is mostly
+loading, so wrong bodies of different functions share one: each whose function is said not to be proved is refused, and
+the others are tried by a check of their own. The crate's sources have to be as they were committed, and are put back.
 """
 import os
+import re
 import subprocess
 import sys
 
-
-def edits_of(text):
-    """The file, the text and the text in its place, for each pair of the edit."""
-    path = old = ""
-    for line in text.splitlines():
-        if line.startswith("file: "):
-            path = line[len("file: ") :]
-        elif line.startswith("old: "):
-            old = line[len("old: ") :]
-        elif line.startswith("new:"):
-            yield path, old, line[len("new:") :].removeprefix(" ")
+TOGETHER = 12
 
 
-def is_refused(edit):
-    kept = {}
-    try:
-        with open(edit, encoding="utf-8") as file:
-            pairs = list(edits_of(file.read()))
-        for path, old, new in pairs:
-            with open(path, encoding="utf-8") as file:
-                text = file.read()
-            kept.setdefault(path, text)
-            if text.count(old) != 1:
-                return f"doesn't fit: {old!r} stands {text.count(old)} times in {path}"
-            with open(path, "w", encoding="utf-8") as file:
-                file.write(text.replace(old, new))
-        checked = subprocess.run(["rt", "check", "--jobs", "1"], stdout=subprocess.PIPE, stderr=subprocess.STDOUT, text=True)
-        if checked.returncode == 0:
-            return "NOT REFUSED"
-        if "logic=not-proved" not in checked.stdout:
-            return "did not reach the prover"
+class Edit:
+    """A wrong body: where its texts stand, and what stands there in their place."""
+
+    def __init__(self, path):
+        self.name = os.path.basename(path).removesuffix(".edit")
+        self.pairs = []
+        with open(path, encoding="utf-8") as file:
+            for line in file.read().splitlines():
+                if line.startswith("file: "):
+                    source = line[len("file: ") :]
+                elif line.startswith("old: "):
+                    old = line[len("old: ") :]
+                elif line.startswith("new:"):
+                    self.pairs.append((source, old, line[len("new:") :].removeprefix(" ")))
+
+    def misfit(self):
+        """What doesn't fit the sources any more, else an empty text."""
+        for source, old, _ in self.pairs:
+            count = read(source).count(old)
+            if count != 1:
+                return f"doesn't fit: {old!r} stands {count} times in {source}"
         return ""
+
+    def functions(self):
+        """The functions changed: each by its file and the lines from its first to its last."""
+        found = set()
+        for source, old, _ in self.pairs:
+            text = read(source)
+            line = text[: text.index(old)].count("\n") + 1
+            starts = [at for at, row in enumerate(text.splitlines(), 1) if re.match(r"\s*(pub(\(.*?\))? )?fn ", row)]
+            first = max((at for at in starts if at <= line), default=1)
+            last = min((at - 1 for at in starts if at > line), default=len(text))
+            found.add((source, first, last))
+        return found
+
+
+def read(path):
+    with open(path, encoding="utf-8") as file:
+        return file.read()
+
+
+def write(path, text):
+    with open(path, "w", encoding="utf-8") as file:
+        file.write(text)
+
+
+def unproved(edits):
+    """With the edits in the sources: the places (file, line) not proved, None where the prover isn't reached."""
+    kept = {source: read(source) for edit in edits for source, _, _ in edit.pairs}
+    try:
+        for edit in edits:
+            for source, old, new in edit.pairs:
+                write(source, read(source).replace(old, new))
+        checked = subprocess.run(["rt", "check", "--jobs", "1"], stdout=subprocess.PIPE, stderr=subprocess.STDOUT, text=True)
     finally:
-        for path, text in kept.items():
-            with open(path, "w", encoding="utf-8") as file:
-                file.write(text)
+        for source, text in kept.items():
+            write(source, text)
+    if checked.returncode == 0:
+        return set()
+    if "logic=not-proved" not in checked.stdout:
+        return None
+    places = re.findall(r"^note: (src/\S+?):(\d+):\d+: it is not proved", checked.stdout, re.M)
+    return {(source, int(line)) for source, line in places} or {("", 0)}
+
+
+def by_itself(edit):
+    """Why the edit isn't refused, else an empty text."""
+    places = unproved([edit])
+    if places is None:
+        return "did not reach the prover"
+    return "" if places else "NOT REFUSED"
+
+
+def together(edits):
+    """The first of the edits, and those behind it that change other functions than it and each other."""
+    group, taken = [], set()
+    for edit in edits:
+        changed = edit.functions()
+        if len(group) < TOGETHER and not changed & taken:
+            group.append(edit)
+            taken |= changed
+    return group
+
+
+def judged(group):
+    """Each edit of the group with why it isn't refused."""
+    ranges = {edit.name: edit.functions() for edit in group}
+    places = unproved(group) if len(group) > 1 else None
+    for edit in group:
+        is_refused = any(
+            source == file and first <= line <= last for file, first, last in ranges[edit.name] for source, line in places or ()
+        )
+        yield edit, "" if is_refused else by_itself(edit)
 
 
 def main():
@@ -52,16 +114,28 @@ def main():
     os.chdir(os.path.join(os.path.dirname(os.path.abspath(__file__)), "..", "crates", crate))
     if subprocess.run(["git", "status", "--porcelain", "src"], stdout=subprocess.PIPE, check=True).stdout:
         sys.exit("the sources aren't as they were committed")
+    edits = [
+        Edit(f"{folder}/{file}")
+        for folder in ["must-fail", "wrong-bodies"]
+        if os.path.isdir(folder)
+        for file in sorted(os.listdir(folder))
+        if file.removesuffix(".edit") in names or not names and folder == "wrong-bodies"
+    ]
     failed = 0
-    for folder in ["must-fail", "wrong-bodies"]:
-        if not os.path.isdir(folder):
-            continue
-        for edit in sorted(os.listdir(folder)):
-            name = edit.removesuffix(".edit")
-            if name in names or not names and folder == "wrong-bodies":
-                why = is_refused(f"{folder}/{edit}")
-                failed += bool(why)
-                print(f"{crate}/{name}: {why or 'refused'}", flush=True)
+    waiting = []
+    for edit in edits:
+        why = edit.misfit()
+        if why:
+            failed += 1
+            print(f"{crate}/{edit.name}: {why}", flush=True)
+        else:
+            waiting.append(edit)
+    while waiting:
+        group = together(waiting)
+        waiting = [edit for edit in waiting if edit not in group]
+        for edit, why in judged(group):
+            failed += bool(why)
+            print(f"{crate}/{edit.name}: {why or 'refused'}", flush=True)
     sys.exit(1 if failed else 0)
 
 
