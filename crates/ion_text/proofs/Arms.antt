@@ -88,7 +88,7 @@ module _ (g : Catalog) (l : Limits) (r : Reading) (inner : is_top r.frames ≡ f
   pub left_passes : IsFound (place r) rest octets kind kept n true → Quiet g l r (place r) (resting rest) (take n octets) → Passes g l (with_scan (resting rest) r) octets n (with_scan (resting (past_token (place r) rest kind n)) q)
   left_passes f quiet =
       let shown = f.shown in
-      passes_left g l r inner still (resting rest) f.known (resting (past_token (place r) rest kind n)) octets n (lexeme_at rest kind kept n) c q shown quiet f.ran (omega arith) says turns refl refl f.ends
+      passes_left g l r still (resting rest) f.known (resting (past_token (place r) rest kind n)) octets n (lexeme_at rest kind kept n) c q shown quiet f.ran says turns refl refl f.ends
 
   pub given_leads : IsFound (place r) rest octets kind kept n false → Quiet g l r (place r) (resting rest) (take (n - 1) octets) → is_top q.frames ≡ false → q.start ≡ r.start → Passes g l (with_scan (resting rest) r) octets n (with_scan (resting (past_token (place r) rest kind n)) q)
   given_leads f quiet inside same =
@@ -97,7 +97,7 @@ module _ (g : Catalog) (l : Limits) (r : Reading) (inner : is_top r.frames ≡ f
       let last : n - 1 + 1 ≡ n = omega arith in
       let used : rest.used + n ≡ rest.used + (n - 1) + 1 = omega arith in
       subst (λ k. Passes g l (with_scan (resting rest) r) octets k (with_scan (resting (past_token (place r) rest kind n)) q)) last
-      (passes_given g l r inner still (resting rest) f.known (resting (past_token (place r) rest kind n)) octets (n - 1) (lexeme_at rest kind kept n) c q shown quiet f.ran (omega arith) says turns refl used inside same f.ends)
+      (passes_given g l r still (resting rest) f.known (resting (past_token (place r) rest kind n)) octets (n - 1) (lexeme_at rest kind kept n) c q shown quiet f.ran says turns refl used (omega arith) inside same f.ends)
 
   pub given_passes : IsFound (place r) rest octets kind kept n false → Quiet g l r (place r) (resting rest) (take (n - 1) octets) → StaysIn r.start q → Passes g l (with_scan (resting rest) r) octets n (with_scan (resting (past_token (place r) rest kind n)) q)
   given_passes f quiet stays = given_leads f quiet stays.0 stays.1
@@ -124,7 +124,7 @@ module _ (old new : TextReader) (moved : Scanner) (rest behind : Rest) (octets :
         (subst (λ s. Passes old.catalog.now old.limits (with_scan (resting rest) (reading_of old)) octets n (with_scan s (reading_of new))) (sym here) passes);
     used = ap (λ (s : Known). s.used) here ∙ (counted ∙ ap (λ (s : Known). s.used + n) (sym rests));
     inner = stays.0;
-    start = stays.1;
+    start = λ _. stays.1;
     rests = λ _. (stays.2, ap (λ (s : Known). s.mode) here);
     fine = subst (λ s. IsNone s) (sym (ap failure setting.scanner ∙ move.failure)) inside.fine;
     steady = λ h. subst (λ s. IsSteady (scanned s) (looks s)) (sym setting.scanner) (move.steady h);

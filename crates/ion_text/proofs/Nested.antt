@@ -1,12 +1,13 @@
 -- What an open and a close do where the scanner rests and a container is open.
-use Rattle.std.proofs.Common.{◌≡◌, ℕ, ◌+◌, ◌<◌, Bool, true, false, List, [], ◌∷◌, length, refl, ap, sym, ◌∙◌, subst, arith, inl, inr}
-use Rattle.std.specs.Prelude.{if◌then◌else◌, nat_lt, slice_index}
+use Rattle.std.proofs.Common.{◌≡◌, ℕ, ◌+◌, ◌<◌, ◌≤◌, take, Bool, true, false, List, [], ◌∷◌, length, refl, ap, sym, ◌∙◌, subst, arith, inl, inr}
+use Rattle.std.specs.Prelude.{if◌then◌else◌, nat_lt, slice_index, IsNone}
 use Rattle.ion_model.specs.declared.value.Payload.TheVariants as payloads
 use Rattle.ion_model.specs.Measures.{annotated}
 use Rattle.ion_symtab.specs.declared.limits.Limits.{Limits}
 use Rattle.ion_symtab.specs.declared.catalog.Catalog.{Catalog}
 use Rattle.ion_symtab.specs.Slots.{Slot}
 use Rattle.ion_tokens.specs.declared.mode.Place.{Place}
+use Rattle.ion_tokens.specs.declared.mode.Place.TheVariants as places
 use Rattle.ion_tokens.specs.declared.mode.Mark.{Mark}
 use Rattle.ion_tokens.specs.declared.mode.Mark.TheVariants as marks
 use Rattle.ion_tokens.specs.declared.mode.TokenKind.TheVariants as kinds
@@ -14,7 +15,9 @@ use Rattle.ion_tokens.specs.declared.scanner.Scanner.{Scanner}
 use Rattle.ion_tokens.specs.declared.whole.Rest.{Rest}
 use Rattle.ion_tokens.specs.Bodies.{Mark'}
 use Rattle.ion_tokens.specs.Places.{is_name}
-use Rattle.ion_tokens.specs.Views.{scanned}
+use Rattle.ion_tokens.specs.Bounds.{IsSteady}
+use Rattle.ion_tokens.specs.Scanning.{Known, Left, feed}
+use Rattle.ion_tokens.specs.Views.{scanned, looks, failure}
 use Rattle.ion_tokens.specs.Rests.{resting, past_token, lexeme_at, IsFound}
 use Rattle.ion_tokens.proofs.WholeTokens.{list_open_found, list_close_found, sexp_open_found, sexp_close_found, fields_open_found, fields_close_found}
 use Rattle.ion_text.specs.declared.state.Frame.{Frame}
@@ -22,10 +25,14 @@ use Rattle.ion_text.specs.declared.state.Frame.TheVariants as frames
 use Rattle.ion_text.specs.declared.state.Now.{Now}
 use Rattle.ion_text.specs.declared.state.Now.TheVariants as nows
 use Rattle.ion_text.specs.declared.reader.TextReader.{TextReader}
-use Rattle.ion_text.specs.Machine.{Reading, Turn, Symbols, goes, place, place_in, turn_now, on_ready}
-use Rattle.ion_text.specs.Nested.{Opens, Closes, closes, close_octet, closed}
-use Rattle.ion_text.specs.Views.{reading_of, open_frames, IsCalm, SameSetting}
-use Rattle.ion_text.specs.Passing.{IsStill, Inside, Strides}
+use Rattle.ion_text.specs.Machine.{Reading, Turn, Symbols, goes, place, place_in, settle, turn, turn_now, begun_at, on_ready}
+use Rattle.ion_text.specs.Run.{is_top, with_scan, token_of}
+use Rattle.ion_text.specs.Runs.{Quiet}
+use Rattle.ion_text.specs.Nested.{Opens, OpensStruct, Closes, closes, close_octet, closed}
+use Rattle.ion_text.specs.Views.{reading_of, state_of, open_frames, IsCalm, SameSetting, SameReader}
+use Rattle.ion_text.specs.Passing.{Passes, IsStill, Inside, Strides}
+use Rattle.ion_text.proofs.Passing.{passes_left, top_quiet}
+use Rattle.ion_text.proofs.Striding.{still_settles}
 use Rattle.ion_text.proofs.Arms.{StaysIn, Moved, with_scanner, went, ready_turns, ended_stays, mark_says, token_strides}
 
 -- An open. That of a struct shows its end by the octet behind it.
@@ -69,6 +76,65 @@ open_strides old new moved rest behind octets m inside rests move setting within
     (open_found m (place (reading_of old)) rest octets opens within name) (mark_says m)
     (ready_turns old.catalog.now old.limits (reading_of old) (lexeme_at rest (kinds.Mark m) [] 1) (Mark' m) now inside.inner ∙ does)
     (open_stays old.catalog.now old.limits.depth old.limits.item (rest.used + 1) old.start old.context (open_frames old) old.notes m octets (reading_of new) opens does)
+
+-- An open where no item is open: the struct's item begins with it.
+module _ (old new : TextReader) (moved : Scanner) (rest behind : Rest) (octets : List ℕ) (item : 1 ≤ old.limits.item) (h : OpensStruct old octets rest) (move : Moved old.scanner moved behind) (setting : new.scanner ≡ moved) (same : SameReader old new)
+    (there : behind ≡ past_token places.Top rest (kinds.Mark marks.FieldsOpen) 1)
+    (does : on_ready old.catalog.now old.limits.depth old.limits.item (rest.used + 1) rest.used old.context (open_frames old) old.notes (Mark' marks.FieldsOpen) ≡ goes (reading_of new)) where
+  abbrev g : Catalog
+  g = old.catalog.now
+
+  abbrev l : Limits
+  l = old.limits
+
+  abbrev r : Reading
+  r = reading_of old
+
+  here : scanned new.scanner ≡ resting behind
+  here = ap scanned setting ∙ move.rests
+
+  top : place r ≡ places.Top
+  top = ap (λ fs. place_in fs old.stage) h.top
+
+  still : settle g l r ≡ goes r
+  still = still_settles g l r (subst IsStill (sym h.ready) tt)
+
+  found : IsFound (place r) rest octets (kinds.Mark marks.FieldsOpen) [] 1 true
+  found = fields_open_found (place r) rest octets (ap is_name top) h.more h.opens.0 h.opens.1
+
+  quiet : Quiet g l r (place r) (resting rest) (take 1 octets)
+  quiet = let more = h.more in top_quiet g l r item (subst IsCalm (sym h.ready) tt) h.top h.bare (resting rest) refl octets (omega arith)
+
+  begun : begun_at r.start rest.used r.frames r.notes ≡ rest.used
+  begun = ap (λ fs. begun_at r.start rest.used fs r.notes) h.top ∙ ap (λ ss. begun_at r.start rest.used [] ss) h.bare
+
+  turns : turn g l r (token_of (lexeme_at rest (kinds.Mark marks.FieldsOpen) [] 1) (Mark' marks.FieldsOpen)) ≡ goes (reading_of new)
+  turns =
+      ap (turn_now g l rest.used (rest.used + 1) r.start r.context r.frames r.notes (Mark' marks.FieldsOpen)) h.ready
+      ∙ (ap (λ s. on_ready g l.depth l.item (rest.used + 1) s r.context r.frames r.notes (Mark' marks.FieldsOpen)) begun ∙ does)
+
+  stays : StaysIn rest.used (reading_of new)
+  stays = open_stays g l.depth l.item (rest.used + 1) rest.used old.context (open_frames old) old.notes marks.FieldsOpen octets (reading_of new) h.opens does
+
+  ends : feed (place r) found.known (slice_index octets 1) ≡ Left (lexeme_at rest (kinds.Mark marks.FieldsOpen) [] 1) (resting behind)
+  ends = found.ends ∙ ap (λ (k : Rest). Left (lexeme_at rest (kinds.Mark marks.FieldsOpen) [] 1) (resting k)) (ap (λ p. past_token p rest (kinds.Mark marks.FieldsOpen) 1) top ∙ sym there)
+
+  pub struct_strides : Strides old new octets 1
+  struct_strides = record {
+    within = h.more;
+    passes =
+        subst (λ s. Passes g l (with_scan s r) octets 1 (state_of new)) (sym h.rests)
+        (subst (λ s. Passes g l (with_scan (resting rest) r) octets 1 (with_scan s (reading_of new))) (sym here)
+        (passes_left g l r still (resting rest) found.known (resting behind) octets 1 (lexeme_at rest (kinds.Mark marks.FieldsOpen) [] 1) (Mark' marks.FieldsOpen) (reading_of new) h.more quiet found.ran (mark_says marks.FieldsOpen) turns refl
+        (ap (λ (k : Rest). k.used) there) ends));
+    used = ap (λ (s : Known). s.used) here ∙ (ap (λ (k : Rest). k.used) there ∙ ap (λ (s : Known). s.used + 1) (sym h.rests));
+    inner = stays.0;
+    start = λ inner. absurd (let never : true ≡ false = ap is_top (sym h.top) ∙ inner in cc);
+    rests = λ _. (stays.2, ap (λ (s : Known). s.mode) here);
+    fine = subst (λ s. IsNone s) (sym (ap failure setting ∙ move.failure)) h.fine;
+    steady = λ k. subst (λ s. IsSteady (scanned s) (looks s)) (sym setting) (move.steady k);
+    same = same;
+  }
 
 -- A close.
 

@@ -162,6 +162,14 @@ idle_first p os s t sane idle e = by (is_idle s.mode) refl
     by true h = h
     by false h = absurd (let n : true ≡ false = sym idle ∙ stays_begun p os s t sane h e in cc)
 
+-- where no item is open, one octet is within each limit
+pub top_quiet : (g : Catalog) (l : Limits) (r : Reading) → 1 ≤ l.item → IsCalm r.now → r.frames ≡ [] → r.notes ≡ [] → (s : Known) → s.mode ≡ modes.Blank → (octets : List ℕ) → 1 ≤ length octets → Quiet g l r (place r) s (take 1 octets)
+top_quiet g l r item calm top bare s rests octets some =
+    let size = length-take-le 1 octets some in
+    let floor_is : floor s ≡ s.used = ap (λ m. scanning.start_of m s.start s.used) rests in
+    let counts : base r.frames r.notes r.start (floor s) ≡ floor s = ap (λ fs. base fs r.notes r.start (floor s)) top ∙ ap (λ ss. base [] ss r.start (floor s)) bare in
+    quiet_within g l r (floor s) calm (place r) (take 1 octets) s (omega arith) (omega arith) (omega arith)
+
 module _ (g : Catalog) (l : Limits) (r : Reading) (inner : is_top r.frames ≡ false) where
   pub blank_quiet : (p : Place) (os : List ℕ) (s t : Known) → is_sane s.mode ≡ true → is_idle t.mode ≡ true → scanning.run p os s ≡ Next t → s.used + length os ≤ l.item + r.start → Quiet g l r p s os
   blank_quiet p [] s t sane idle e room = tt
@@ -205,9 +213,10 @@ module _ (g : Catalog) (l : Limits) (r : Reading) (inner : is_top r.frames ≡ f
       let counts = base_open r.frames r.notes r.start (floor s) inner in
       quiet_within g l r (floor s) calm (place r) (take n octets) s (omega arith) (omega arith) (omega arith)
 
-  -- a token whose end the octet behind it shows, or its last
+-- a token whose end the octet behind it shows, or its last
+module _ (g : Catalog) (l : Limits) (r : Reading) where
   module _ (still : settle g l r ≡ goes r) (s k b : Known) (octets : List ℕ) (n : ℕ) (x : Lexeme) (c : Content) (q : Reading)
-      (shown : n < length octets) (quiet : Quiet g l r (place r) s (take n octets)) (e : scanning.run (place r) (take n octets) s ≡ Next k) (room : s.used + n < l.item + r.start)
+      (shown : n < length octets) (quiet : Quiet g l r (place r) s (take n octets)) (e : scanning.run (place r) (take n octets) s ≡ Next k)
       (says : said x.kind x.octets ≡ Ok c) (turns : turn g l r (token_of x c) ≡ goes q) where
     abbrev pub octet : ℕ
     octet = get_or octets n 0
@@ -237,8 +246,8 @@ module _ (g : Catalog) (l : Limits) (r : Reading) (inner : is_top r.frames ≡ f
         ∙ (ap (λ a. on_said a (λ c. behind_left again b (turn g l r (token_of x c)))) says
         ∙ (ap (behind_left again b) turns ∙ twice_fuel g l (with_scan b q) octet (blank_twice b octet blank)))) before
 
-    pub passes_given : is_idle b.mode ≡ true → b.used ≡ s.used + n + 1 → is_top q.frames ≡ false → q.start ≡ r.start → feed (place r) k octet ≡ Given x b → Passes g l (with_scan s r) octets (n + 1) (with_scan b q)
-    passes_given idle used inside same f =
+    pub passes_given : is_idle b.mode ≡ true → b.used ≡ s.used + n + 1 → s.used + n < l.item + r.start → is_top q.frames ≡ false → q.start ≡ r.start → feed (place r) k octet ≡ Given x b → Passes g l (with_scan s r) octets (n + 1) (with_scan b q)
+    passes_given idle used room inside same f =
         passes_on g l (with_scan s r) (with_scan k r) (with_scan b q) octets n 1 before
         (passes_octet (drop n octets) (let i = length_drop n octets in omega arith) octet (get_drop n octets shown)
         (scans (Given x b) f
@@ -256,6 +265,7 @@ module _ (g : Catalog) (l : Limits) (r : Reading) (inner : is_top r.frames ≡ f
         get_drop zero (y ∷ os) h = refl
         get_drop (suc n) (y ∷ os) h = get_drop n os (omega arith)
 
+module _ (g : Catalog) (l : Limits) (r : Reading) (inner : is_top r.frames ≡ false) where
   -- `::` behind what may be a symbol: its last octet, where the scanner knows this before it
   pub passes_colons : (h : Held) (end : ℕ) → r.now ≡ nows.Pending h end → (k b : Known) (octets : List ℕ) (x : Lexeme) (c : Content) (q : Reading) → 0 < length octets → feed (place r) k (get_or octets 0 0) ≡ Given x b → is_colons x.kind ≡ true → said x.kind x.octets ≡ Ok c → turn g l r (token_of x c) ≡ goes q
       → is_idle b.mode ≡ true → b.used ≡ k.used + 1 → is_top q.frames ≡ false → b.used ≤ l.item + q.start → Passes g l (with_scan k r) octets 1 (with_scan b q)

@@ -39,7 +39,7 @@ strides_none r octets h = record {
   passes = passes_none r.catalog.now r.limits (state_of r) octets;
   used = let i : (scanned r.scanner).used ≡ (scanned r.scanner).used + 0 = omega arith in i;
   inner = h.inner;
-  start = refl;
+  start = λ k. refl;
   rests = λ k. k;
   fine = h.fine;
   steady = λ k. k;
@@ -62,7 +62,7 @@ strides_on a b c octets rest i j is h k =
           (subst (λ x. Passes b.catalog.now x (state_of b) rest j (state_of c)) h.same.limits k.passes)));
       used = let p = h.used in let q = k.used in omega arith;
       inner = k.inner;
-      start = k.start ∙ h.start;
+      start = λ inner. k.start h.inner ∙ h.start inner;
       rests = λ r. k.rests (h.rests r);
       fine = k.fine;
       steady = λ r. k.steady (h.steady r);
@@ -77,7 +77,7 @@ inside_on a b octets rest i is h k =
     let used = k.used in
     let fits = h.fits in
     let room = h.room in
-    let start = k.start in
+    let start = k.start h.inner in
     record {
       some = omega arith;
       inner = k.inner;

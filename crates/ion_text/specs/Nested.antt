@@ -1,5 +1,10 @@
 -- The marks that open a container and those that close one.
 use Rattle.std.specs.Prelude.{◌≡◌, ◌≢◌, ◌<◌, ℕ, Bool, true, false, List, [], ◌∷◌, length, slice_index}
+use Rattle.ion_tokens.specs.declared.whole.Rest.{Rest}
+use Rattle.ion_tokens.specs.Rests.{resting}
+use Rattle.ion_tokens.specs.Views.{scanned}
+use Rattle.ion_text.specs.declared.reader.TextReader.{TextReader}
+use Rattle.ion_text.specs.Views.{open_frames, IsFine}
 use Rattle.ion_symtab.specs.declared.catalog.Catalog.{Catalog}
 use Rattle.ion_symtab.specs.Slots.{Slot}
 use Rattle.ion_tokens.specs.declared.mode.Mark.{Mark}
@@ -16,6 +21,16 @@ Opens octets marks.ListOpen = slice_index octets 0 ≡ 91
 Opens octets marks.SexpOpen = slice_index octets 0 ≡ 40
 Opens octets marks.FieldsOpen = (slice_index octets 0 ≡ 123) × (slice_index octets 1 ≢ 123)
 Opens octets _ = ⊥
+
+-- no item is open, the scanner rests there, and the octets begin with the open of a struct
+pub record OpensStruct (r : TextReader) (octets : List ℕ) (rest : Rest) : Type 0 where
+  pub rests : scanned r.scanner ≡ resting rest
+  pub fine : IsFine r
+  pub top : open_frames r ≡ []
+  pub bare : r.notes ≡ []
+  pub ready : r.stage ≡ nows.Ready
+  pub more : 1 < length octets
+  pub opens : Opens octets marks.FieldsOpen
 
 -- the octet of a close
 abbrev pub close_octet : Mark → ℕ

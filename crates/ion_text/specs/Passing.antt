@@ -41,7 +41,7 @@ pub record Strides (old new : TextReader) (octets : List ℕ) (count : ℕ) : Ty
   pub passes : Passes old.catalog.now old.limits (state_of old) octets count (state_of new)
   pub used : (scanned new.scanner).used ≡ (scanned old.scanner).used + count
   pub inner : is_top (open_frames new) ≡ false
-  pub start : new.start ≡ old.start
+  pub start : is_top (open_frames old) ≡ false → new.start ≡ old.start
   pub rests : IsResting old → IsResting new
   pub fine : IsFine new
   pub steady : StaysSteady old new

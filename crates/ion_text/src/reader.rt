@@ -21,6 +21,7 @@ mod nested;
 mod octets;
 mod steps;
 mod stretches;
+mod structs;
 mod symbols;
 mod turns;
 mod waiting;

@@ -45,8 +45,11 @@ impl TextReader<'_> {
                 Ok(count) => return self.take_behind(piece, count),
             }
         }
-        let stride = self.stride(piece.len());
-        if stride > 1 {
+        if let Some(rest) = self.struct_begins(piece) {
+            return self.take_struct(rest, piece);
+        }
+        let stride = self.stride(piece);
+        if stride > 0 {
             return self.take_stretch(&piece[..stride]);
         }
         let lull = self.lull(piece);

@@ -9,6 +9,7 @@ use super::TextReader;
 use super::octets::worse;
 use crate::state::{Met, Now, Taken};
 use ion_model::Refusal;
+use ion_tokens::blanks;
 
 impl TextReader<'_> {
     /// Where the octets of the open item are counted from.
@@ -21,10 +22,26 @@ impl TextReader<'_> {
         }
     }
 
-    /// How many of so many octets may be handed to the scanner at once: none where something waits or
-    /// no token may begin, and no more than the limit on items leaves.
-    pub(super) fn stride(&self, length: usize) -> usize
-        ensures within { result ≤ length }
+    /// How many octets at the front of a piece are looked at together: no more than the blank before what
+    /// may be a struct of the top level, which is taken up at once behind it.
+    fn front(&self, piece: &[u8]) -> usize
+        ensures { result ≤ length piece.now }
+    {
+        if let Some(_) = self.frames.last() {
+            return piece.len();
+        }
+        let count = blanks(piece);
+        if count > 0 && count < piece.len() && piece[count] == b'{' {
+            count
+        } else {
+            piece.len()
+        }
+    }
+
+    /// How many octets at the front of a piece may be handed to the scanner at once: none where something
+    /// waits or no token may begin, and no more than the limit on items leaves.
+    pub(super) fn stride(&self, piece: &[u8]) -> usize
+        ensures within { result ≤ length piece.now }
         ensures calm { 0 < result → IsCalm self.now.stage }
         ensures high { 0 < result → floor (scanned self.now.scanner) ≤ (scanned self.now.scanner).used }
         ensures room { 0 < result → (scanned self.now.scanner).used + result
@@ -39,6 +56,7 @@ impl TextReader<'_> {
         if self.scanner.since() > used {
             return 0;
         }
+        let length = self.front(piece);
         let last = self.base().saturating_add(self.limits.item);
         let room = last.saturating_sub(used);
         if (length as u64) < room {
