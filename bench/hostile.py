@@ -80,6 +80,10 @@ def blanks(octets):
     return filled(b" \t\n\r\n  ", octets)
 
 
+def blanks_before_a_struct(octets):
+    return b" " * (octets - 5) + b"{a:1}"
+
+
 def line_comments(octets):
     return filled(b"// a comment\n", octets)
 
@@ -105,6 +109,14 @@ def nulls(octets):
 
 def nulls_in_text(octets):
     return b"[" + b"null," * ((octets - 8) // 5) + b"]"
+
+
+def blanks_in_a_list(octets):
+    return b"[" + b" " * (octets - 2) + b"]"
+
+
+def blanks_between_items(octets):
+    return b"[" + filled(b"%4000s," % b"1", octets - 2) + b"2]"
 
 
 def nested(octets):
@@ -221,6 +233,7 @@ CASES = [
     ("pads", "check A", [pads], STREAM, SMALL),
     ("one pad", "check A", [one_pad], STREAM, SMALL),
     ("blanks", "check A", [blanks], STREAM, SMALL),
+    ("blanks before a small item", "check A --item 6", [blanks_before_a_struct], STREAM, SMALL),
     ("comments", "check A", [line_comments], STREAM, SMALL),
     ("one comment", "check A", [one_comment], STREAM, SMALL),
     ("version markers", "check A", [binary_markers], STREAM, SMALL),
@@ -228,6 +241,8 @@ CASES = [
     ("nulls", "check A", [nulls], ITEM, LARGE),
     ("nulls, to binary", "convert A --to binary", [nulls], ITEM, LARGE),
     ("nulls in text", "check A", [nulls_in_text], ITEM, LARGE),
+    ("blanks in a list", "check A", [blanks_in_a_list], ITEM, SMALL),
+    ("blanks between items", "check A", [blanks_between_items], ITEM, SMALL),
     ("nested", "check A", [nested], ITEM, LARGE),
     ("nested, to binary", "convert A --to binary", [nested], ITEM, LARGE),
     ("nested in text, to binary", "convert A --to binary", [nested_in_text], ITEM, LARGE),

@@ -60,8 +60,8 @@ def write(path, text):
         file.write(text)
 
 
-def unproved(edits):
-    """With the edits in the sources: the places (file, line) not proved, None where the prover isn't reached."""
+def complaints(edits):
+    """What the prover says with the edits in the sources: an empty text where it proves all, None where it isn't reached."""
     kept = {source: read(source) for edit in edits for source, _, _ in edit.pairs}
     try:
         for edit in edits:
@@ -72,19 +72,16 @@ def unproved(edits):
         for source, text in kept.items():
             write(source, text)
     if checked.returncode == 0:
-        return set()
-    if "logic=not-proved" not in checked.stdout:
-        return None
-    places = re.findall(r"^note: (src/\S+?):(\d+):\d+: it is not proved", checked.stdout, re.M)
-    return {(source, int(line)) for source, line in places} or {("", 0)}
+        return ""
+    return checked.stdout if "logic=not-proved" in checked.stdout else None
 
 
 def by_itself(edit):
     """Why the edit isn't refused, else an empty text."""
-    places = unproved([edit])
-    if places is None:
+    said = complaints([edit])
+    if said is None:
         return "did not reach the prover"
-    return "" if places else "NOT REFUSED"
+    return "" if said else "NOT REFUSED"
 
 
 def together(edits):
@@ -101,11 +98,10 @@ def together(edits):
 def judged(group):
     """Each edit of the group with why it isn't refused."""
     ranges = {edit.name: edit.functions() for edit in group}
-    places = unproved(group) if len(group) > 1 else None
+    said = complaints(group) if len(group) > 1 else None
+    places = re.findall(r"^note: (src/\S+?):(\d+):\d+: it is not proved", said or "", re.M)
     for edit in group:
-        is_refused = any(
-            source == file and first <= line <= last for file, first, last in ranges[edit.name] for source, line in places or ()
-        )
+        is_refused = any(source == file and first <= int(line) <= last for file, first, last in ranges[edit.name] for source, line in places)
         yield edit, "" if is_refused else by_itself(edit)
 
 

@@ -22,19 +22,19 @@ impl TextReader<'_> {
         }
     }
 
-    /// How many octets at the front of a piece are looked at together: no more than the blank before what
-    /// may be a struct of the top level, which is taken up at once behind it.
-    fn front(&self, piece: &[u8]) -> usize
-        ensures { result ≤ length piece.now }
+    /// How many octets at the front go to the scanner together: all, or the blank before what may be a
+    /// struct of the top level, which is taken up at once behind it.
+    fn up_to_struct(&self, octets: &[u8]) -> usize
+        ensures { result ≤ length octets.now }
     {
         if let Some(_) = self.frames.last() {
-            return piece.len();
+            return octets.len();
         }
-        let count = blanks(piece);
-        if count > 0 && count < piece.len() && piece[count] == b'{' {
+        let count = blanks(octets);
+        if count > 0 && count < octets.len() && octets[count] == b'{' {
             count
         } else {
-            piece.len()
+            octets.len()
         }
     }
 
@@ -56,14 +56,14 @@ impl TextReader<'_> {
         if self.scanner.since() > used {
             return 0;
         }
-        let length = self.front(piece);
         let last = self.base().saturating_add(self.limits.item);
         let room = last.saturating_sub(used);
-        if (length as u64) < room {
-            length
+        let length = if (piece.len() as u64) < room {
+            piece.len()
         } else {
             room as usize
-        }
+        };
+        self.up_to_struct(&piece[..length])
     }
 
     /// Takes up octets up to the next token, where nothing waits.

@@ -75,7 +75,8 @@ impl TextReader<'_> {
         Ok(at)
     }
 
-    /// Takes up the token or blank at the front of octets: how many octets it has, or none.
+    /// Takes up the token at the front of octets, or the blank there but for their last octet: how many
+    /// octets those are, or none.
     fn take_token(&mut self, octets: &[u8]) -> Result<usize, Reason>
         requires inside { Inside self.old octets.now }
         ensures strides { IfOk result (λ count. Strides self.old self.new octets.now count) }
@@ -85,7 +86,10 @@ impl TextReader<'_> {
         let Some(rest) = self.scanner.rest() else {
             return Ok(0);
         };
-        let count = blanks(octets);
+        if octets.len() < 2 {
+            return Ok(0);
+        }
+        let count = blanks(&octets[..octets.len() - 1]);
         if count > 0 {
             return Ok(self.take_blank(rest, count, octets));
         }
