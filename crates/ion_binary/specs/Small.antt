@@ -18,7 +18,7 @@ use Rattle.ion_binary.specs.declared.form.Scalar.{Scalar}
 use Rattle.ion_binary.specs.Grammar.{IsScalar, is_int, is_negative, is_decimal, is_timestamp, is_symbol, is_string, is_clob, is_blob, Ids, no_ids, one_id, listed, Plain, is_null, is_truth, is_scalar, is_listing, is_struct, is_ordered, Binary, unannotated, wrapped, Sequence, nothing, one_more, padded, Fields, no_fields, one_field, padded_field}
 use Rattle.ion_binary.specs.Complete.{header_some, length_VarUInt}
 
-scalar_nodes : (c : List Slot) (body : List ℕ) (t : Scalar) (p : Payload) → IsScalar c body t p → nodes (bare p) ≡ 1
+pub scalar_nodes : (c : List Slot) (body : List ℕ) (t : Scalar) (p : Payload) → IsScalar c body t p → nodes (bare p) ≡ 1
 scalar_nodes c body _ _ (is_int h) = nodes-bare (payloads.Int (pos (positional 256 body))) _ (views.outs-Int (pos (positional 256 body)))
 scalar_nodes c body _ _ (is_negative h k) = nodes-bare (payloads.Int (neg_ℤ (pos (positional 256 body)))) _ (views.outs-Int (neg_ℤ (pos (positional 256 body))))
 scalar_nodes c body _ _ (is_decimal d h k) = nodes-bare (payloads.Decimal d) _ (views.outs-Decimal d)
@@ -28,17 +28,17 @@ scalar_nodes c body _ _ (is_string h) = nodes-bare (payloads.Str body) _ (views.
 scalar_nodes c body _ _ is_clob = nodes-bare (payloads.Clob body) _ (views.outs-Clob body)
 scalar_nodes c body _ _ is_blob = nodes-bare (payloads.Blob body) _ (views.outs-Blob body)
 
-nodes-listed : (x : Listing) (vs : List Value) → nodes (bare (listed x vs)) ≡ suc (sum (map nodes vs))
+pub nodes-listed : (x : Listing) (vs : List Value) → nodes (bare (listed x vs)) ≡ suc (sum (map nodes vs))
 nodes-listed listings.List vs = nodes-bare (payloads.List vs) _ (views.outs-List vs)
 nodes-listed listings.Sexp vs = nodes-bare (payloads.Sexp vs) _ (views.outs-Sexp vs)
 
-abbrev field_nodes : Field → ℕ
+abbrev pub field_nodes : Field → ℕ
 field_nodes f = suc (nodes f.value)
 
-nodes-fields : (ms : List Field) → nodes (bare (payloads.Fields ms)) ≡ suc (sum (map field_nodes ms))
+pub nodes-fields : (ms : List Field) → nodes (bare (payloads.Fields ms)) ≡ suc (sum (map field_nodes ms))
 nodes-fields ms = nodes-bare (payloads.Fields ms) _ (views.outs-Fields ms)
 
-fields-more : (ms : List Field) (m : Field) → sum (map field_nodes (ms ++ m ∷ [])) ≡ sum (map field_nodes ms) + field_nodes m
+pub fields-more : (ms : List Field) (m : Field) → sum (map field_nodes (ms ++ m ∷ [])) ≡ sum (map field_nodes ms) + field_nodes m
 fields-more ms m =
     let all = sum-map field_nodes (ms ++ m ∷ []) in
     let front = sum-map field_nodes ms in
@@ -48,13 +48,13 @@ fields-more ms m =
     omega arith
 
 -- each annotation is a node
-nodes-annotated : (ss : List (Option (List ℕ))) (p : Payload) → nodes (annotated ss p) ≡ length ss + nodes (bare p)
+pub nodes-annotated : (ss : List (Option (List ℕ))) (p : Payload) → nodes (annotated ss p) ≡ length ss + nodes (bare p)
 nodes-annotated ss p =
     let a = nodes-out (annotated ss p) in
     let b = nodes-out (bare p) in
     omega arith
 
-ids_long : (c : List Slot) (us : List ℕ) (ss : List (Option (List ℕ))) → Ids c us ss → length ss ≤ length us
+pub ids_long : (c : List Slot) (us : List ℕ) (ss : List (Option (List ℕ))) → Ids c us ss → length ss ≤ length us
 ids_long c _ _ no_ids = omega arith
 ids_long c _ _ (one_id us w ss k s b v r) = let i = ids_long c us ss b in let j = length-append us w in let m = length-append ss (s ∷ []) in let n = length_VarUInt w k v in omega arith
 
@@ -78,12 +78,12 @@ mutual
       let e2 = length-append ids w in
       omega arith
 
-  sequence_nodes : (c : List Slot) (w : List ℕ) (vs : List Value) → Sequence c w vs → sum (map nodes vs) ≤ length w
+  pub sequence_nodes : (c : List Slot) (w : List ℕ) (vs : List Value) → Sequence c w vs → sum (map nodes vs) ≤ length w
   sequence_nodes c _ _ nothing = omega arith
   sequence_nodes c _ _ (one_more us w vs v q b) = let a = sequence_nodes c us vs q in let e = binary_nodes c w v b in let l = length-append us w in let n = nodes-more vs v in omega arith
   sequence_nodes c _ _ (padded us w vs q b) = let a = sequence_nodes c us vs q in let l = length-append us w in omega arith
 
-  fields_nodes : (c : List Slot) (w : List ℕ) (ms : List Field) → Fields c w ms → sum (map field_nodes ms) ≤ length w
+  pub fields_nodes : (c : List Slot) (w : List ℕ) (ms : List Field) → Fields c w ms → sum (map field_nodes ms) ≤ length w
   fields_nodes c _ _ no_fields = omega arith
   fields_nodes c _ _ (one_field us id w ms k s v q n r b) =
       let a = fields_nodes c us ms q in

@@ -1,6 +1,6 @@
 //! What a descriptor octet opens.
 ghost use Rattle.std.specs.Prelude.{◌≡◌};
-ghost use Rattle.ion_binary.specs.Opening.{opening_of, body_of, with_octets};
+ghost use Rattle.ion_binary.specs.Opening.{opening_of, body_of, with_octets, kind_of_form};
 
 use ion_model::{Kind, Reason};
 use ion_scalar::{Descriptor, Size};
@@ -95,5 +95,25 @@ fn with_octets(scalar: Scalar, size: Size) -> Opening
     match size {
         Size::Known(0) => Opening::Refused(Reason::Malformed),
         _ => Opening::Sized(Form::Scalar(scalar), size),
+    }
+}
+
+/// The kind of the values of this form; pads and wrappers have none of their own.
+#[inline(always)]
+pub fn kind_of(form: Form) -> Kind
+    ensures { result ≡ kind_of_form form }
+{
+    match form {
+        Form::Scalar(Scalar::Int | Scalar::NegativeInt) => Kind::Int,
+        Form::Scalar(Scalar::Decimal) => Kind::Decimal,
+        Form::Scalar(Scalar::Timestamp) => Kind::Timestamp,
+        Form::Scalar(Scalar::Symbol) => Kind::Symbol,
+        Form::Scalar(Scalar::Str) => Kind::Str,
+        Form::Scalar(Scalar::Clob) => Kind::Clob,
+        Form::Scalar(Scalar::Blob) => Kind::Blob,
+        Form::Listing(Listing::List) => Kind::List,
+        Form::Listing(Listing::Sexp) => Kind::Sexp,
+        Form::Struct | Form::OrderedStruct => Kind::Fields,
+        Form::Pad | Form::Wrapper => Kind::Null,
     }
 }

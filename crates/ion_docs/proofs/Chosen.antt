@@ -1,11 +1,11 @@
 -- A call handed on to the reader that was chosen.
-use Rattle.std.proofs.Common.{◌≡◌, ℕ, ◌+◌, ◌*◌, ◌<◌, zero, suc, Bool, true, false, List, [], ◌∷◌, ◌++◌, length, take, ap, ◌∙◌, sym, refl, subst, arith, eq-eqb, ne_eqb, Result, Ok, Err, Option, Some, None, IfOk, IfErr, IsSome, slice_get}
+use Rattle.std.proofs.Common.{◌≡◌, ℕ, ◌+◌, ◌*◌, ◌<◌, zero, suc, Bool, true, false, List, [], ◌∷◌, ◌++◌, length, take, ap, ◌∙◌, sym, refl, subst, arith, eq-eqb, ne_eqb, Result, Ok, Err, Option, Some, None, option_map, IfOk, IfErr, IsSome, slice_get}
 use Rattle.ion_model.specs.declared.value.Value.{Value}
 use Rattle.ion_model.specs.declared.refusal.Refusal.{Refusal}
 use Rattle.ion_symtab.specs.Trace.{Trace, Answers, Finishes, UsesAll, given_at}
 use Rattle.ion_symtab.specs.declared.items.Step.{Step}
 use Rattle.ion_symtab.specs.declared.items.Passed.{Passed}
-use Rattle.std.specs.Option.{is_some}
+use Rattle.ion_model.specs.Outlines.{outline_of}
 use Rattle.ion_symtab.specs.declared.catalog.Catalog.{Catalog}
 use Rattle.ion_symtab.specs.declared.limits.Limits.{Limits}
 use Rattle.ion_docs.specs.declared.doc_reader.Format.{Format}
@@ -54,10 +54,10 @@ module _ (d : DocReader) (b : Bool) (limits : Limits) (catalog : Catalog) (Old :
 
   -- the same of a step that doesn't hand out its value
   pub forward_passed : (more : Limits) (other : Catalog) (New : List ℕ → List (Value × ℕ) → Type 0) (piece : List ℕ) (result : Result Passed Refusal) →
-      IfOk result (λ passed. (u : List ℕ) (s : List (Value × ℕ)) → Old u s → (value : Option Value) × (is_some value ≡ passed.some) × New (u ++ take passed.used piece) (s ++ given_at value (length u + passed.used))) →
+      IfOk result (λ passed. (u : List ℕ) (s : List (Value × ℕ)) → Old u s → (value : Option Value) × (option_map outline_of value ≡ passed.outline) × New (u ++ take passed.used piece) (s ++ given_at value (length u + passed.used))) →
       more ≡ limits → other ≡ catalog →
       IfOk result (λ passed. (u : List ℕ) (s : List (Value × ℕ)) → DocStands d u s →
-      (value : Option Value) × (is_some value ≡ passed.some) × Handed d b more other (New (u ++ take passed.used piece) (s ++ given_at value (length u + passed.used))) (u ++ take passed.used piece))
+      (value : Option Value) × (option_map outline_of value ≡ passed.outline) × Handed d b more other (New (u ++ take passed.used piece) (s ++ given_at value (length u + passed.used))) (u ++ take passed.used piece))
   forward_passed more other New piece (Ok passed) onward within under = λ u s stands.
       let h = stood u s stands in
       let on = onward u s h.0 in

@@ -1,6 +1,8 @@
 -- What a writer took, one line after another.
-use Rattle.std.proofs.Common.{◌≡◌, ℕ, ◌+◌, List, [], ◌∷◌, ◌++◌, length, false, ap, sym, subst, ◌∙◌, arith, append_assoc}
+use Rattle.std.proofs.Common.{◌≡◌, ℕ, ◌+◌, List, [], ◌∷◌, ◌++◌, length, false, ap, sym, subst, ◌∙◌, arith, append-nil, append_assoc}
 use Rattle.ion_model.specs.declared.value.Value.{Value}
+use Rattle.ion_model.specs.Outlines.{outline_of}
+use Rattle.ion_model.specs.declared.outline.Outline.{Outline}
 use Rattle.ion_symtab.specs.Took.{Took, TookFront}
 use Rattle.ion_symtab.specs.TookLaws.{Took-trans, Front-behind, Front-more}
 use Rattle.ion_symtab.specs.declared.catalog.Catalog.{Catalog}
@@ -16,12 +18,16 @@ use Rattle.ion_docs.specs.declared.source.Place.TheVariants as ThePlace
 
 pub lines_more : (index : ℕ) (s t : List Value) → lines_from index (s ++ t) ≡ lines_from index s ++ lines_from (index + length s) t
 lines_more index [] t = ap (λ n. lines_from n t) (omega arith)
-lines_more index (v ∷ s) t = ap (λ x. line_of index v ++ x) (lines_more (index + 1) s t) ∙ (sym (append_assoc (line_of index v) (lines_from (index + 1) s) (lines_from (index + 1 + length s) t))
-    ∙ ap (λ n. (line_of index v ++ lines_from (index + 1) s) ++ lines_from n t) (omega arith))
+lines_more index (v ∷ s) t = ap (λ x. line_of index (outline_of v) ++ x) (lines_more (index + 1) s t) ∙ (sym (append_assoc (line_of index (outline_of v)) (lines_from (index + 1) s) (lines_from (index + 1 + length s) t))
+    ∙ ap (λ n. (line_of index (outline_of v) ++ lines_from (index + 1) s) ++ lines_from n t) (omega arith))
 
 -- the lines of what a document gave, and of one value more, if there is one
 pub lines_next : (s t : List Value) (n : ℕ) → length s ≡ n → lines_of s ++ lines_from (n + 1) t ≡ lines_of (s ++ t)
 lines_next s t n e = ap (λ k. lines_of s ++ lines_from k t) (let k : n + 1 ≡ 1 + length s = omega arith in k) ∙ sym (lines_more 1 s t)
+
+-- the lines of one value
+pub line_alone : (index : ℕ) (v : Value) (o : Outline) → outline_of v ≡ o → line_of index o ≡ lines_from index (v ∷ [])
+line_alone index v o e = ap (line_of index) (sym e) ∙ sym (append-nil (line_of index (outline_of v)))
 
 module _ {T : Type 0} (W : Outlet T) where
   pub wrote_next : (old mid new : T) (s t : List Value) (n : ℕ) → length s ≡ n → Took W.took W.written old mid (lines_of s) → Took W.took W.written mid new (lines_from (n + 1) t) → Took W.took W.written old new (lines_of (s ++ t))

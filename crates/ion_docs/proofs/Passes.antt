@@ -1,7 +1,10 @@
 -- A document that is read without its values.
-use Rattle.std.proofs.Common.{◌≡◌, ℕ, List, [], ◌∷◌, ◌++◌, ap, ◌∙◌, arith, Bool, true, false, ◌+◌, length, if◌then◌else◌, Result, Ok, Err, IfOk, IfErr, Option, Some, None, option_to_list, length-append}
+use Rattle.std.proofs.Common.{◌≡◌, ℕ, List, [], ◌∷◌, ◌++◌, ap, ◌∙◌, arith, Bool, true, false, ◌+◌, length, if◌then◌else◌, Result, Ok, Err, IfOk, IfErr, Option, Some, None, option_map, option_to_list, length-append}
 use Rattle.std.proofs.lemmas.List.{length-map}
 use Rattle.std.specs.Option.{is_some}
+use Rattle.std.proofs.lemmas.Option.{same_Some}
+use Rattle.ion_model.specs.Outlines.{outline_of}
+use Rattle.ion_model.specs.declared.outline.Outline.{Outline}
 use Rattle.ion_model.specs.declared.value.Value.{Value}
 use Rattle.ion_model.specs.declared.refusal.Refusal.{Refusal}
 use Rattle.ion_symtab.specs.declared.catalog.Catalog.{Catalog}
@@ -14,38 +17,40 @@ use Rattle.ion_docs.specs.Reading.{left_of, Went, GaveEach, ReadsEach}
 use Rattle.ion_docs.specs.Outcomes.{EndsWell, EndsRefused, ToldRefusedEach}
 use Rattle.ion_docs.specs.Place.{IfOpen, MatchClosed, Stood}
 use Rattle.ion_docs.specs.Checked.{IsChecked, counted}
+use Rattle.ion_docs.specs.Reached.{Reaches}
+use Rattle.ion_docs.specs.declared.source.passing.Reached.TheVariants.{Value as AValue}
 use Rattle.ion_docs.specs.declared.source.Source.{Source}
 use Rattle.ion_docs.specs.declared.source.Place.{Place}
 use Rattle.ion_docs.specs.declared.source.Place.TheVariants as ThePlace
 use Rattle.ion_docs.proofs.Steps.{reads_by, last_gives, stood_plain}
-
-length_given : (given : List (Value × ℕ)) (value : Option Value) (at values : ℕ) → is_some value ≡ true → length given ≡ values → length (given ++ given_at value at) ≡ values + 1
-length_given given None at values e h = absurd cc
-length_given given (Some v) at values e h = omega (arith, length-append given ((v, at) ∷ []), h)
 
 length_found : (given : List (Value × ℕ)) (found : Option (Value × ℕ)) (values : ℕ) (some : Bool) → length given ≡ values → some ≡ is_some found → length (given ++ option_to_list found) ≡ values + (if some then 1 else 0)
 length_found given None values some h e = omega (arith, length-append given [], h, ap {B = ℕ} (λ (b : Bool). if b then 1 else 0) e)
 length_found given (Some x) values some h e = omega (arith, length-append given (x ∷ []), h, ap {B = ℕ} (λ (b : Bool). if b then 1 else 0) e)
 
 module _ {X : Type 0} (I : Items X) (source after : Source X) where
-  without : (u : List ℕ) (given : List (Value × ℕ)) (value : Option Value) → is_some value ≡ false → Went I u given (left_of source) after value → Went I u given (left_of source) after None
+  without : (u : List ℕ) (given : List (Value × ℕ)) (value : Option Value) → option_map outline_of value ≡ None → Went I u given (left_of source) after value → Went I u given (left_of source) after None
   without u given None e h = h
   without u given (Some v) e h = absurd cc
 
   -- where there was no value
-  pub none_went : (some : Bool) → some ≡ false → ((u : List ℕ) (given : List (Value × ℕ)) → I.stands source.items u given → (value : Option Value) × (is_some value ≡ some) × Went I u given (left_of source) after value) →
+  pub none_went : (outline : Option Outline) → outline ≡ None → ((u : List ℕ) (given : List (Value × ℕ)) → I.stands source.items u given → (value : Option Value) × (option_map outline_of value ≡ outline) × Went I u given (left_of source) after value) →
       (u : List ℕ) (given : List (Value × ℕ)) → I.stands source.items u given → Went I u given (left_of source) after None
-  none_went some e go u given h = let w = go u given h in without u given w.0 (w.1 ∙ e) w.2
+  none_went outline e go u given h = let w = go u given h in without u given w.0 (w.1 ∙ e) w.2
 
 module _ {S X : Type 0} (R : Inlet S) (I : Items X) (g : Catalog) (l : Limits) where
+  one_more : (first now : S) (after : Source X) (given : List (Value × ℕ)) (outline : Outline) (value : Option Value) → option_map outline_of value ≡ Some outline → ReadsEach R I g l first now after (given ++ given_at value after.used) →
+      Reaches R I g l first now after given (AValue outline)
+  one_more first now after given outline None e h = absurd cc
+  one_more first now after given outline (Some v) e h = (v, same_Some _ _ e, h)
+
   -- a value was passed over
-  pub passes_on : (first now : S) (source after : Source X) (given : List (Value × ℕ)) (values : ℕ) → ReadsEach R I g l first now source given → length given ≡ values →
-      ((u : List ℕ) (given : List (Value × ℕ)) → I.stands source.items u given → (value : Option Value) × (is_some value ≡ true) × Went I u given (left_of source) after value) →
-      I.catalog after.items ≡ I.catalog source.items → I.limits after.items ≡ I.limits source.items →
-      (more : List (Value × ℕ)) × ReadsEach R I g l first now after more × (length more ≡ values + 1)
-  passes_on first now source after given values h count go under within =
+  pub passes_on : (first now : S) (source after : Source X) (given : List (Value × ℕ)) (outline : Outline) → ReadsEach R I g l first now source given →
+      ((u : List ℕ) (given : List (Value × ℕ)) → I.stands source.items u given → (value : Option Value) × (option_map outline_of value ≡ Some outline) × Went I u given (left_of source) after value) →
+      I.catalog after.items ≡ I.catalog source.items → I.limits after.items ≡ I.limits source.items → Reaches R I g l first now after given (AValue outline)
+  passes_on first now source after given outline h go under within =
       let w = go h.u given h.stood in
-      (given ++ given_at w.0 after.used, reads_by R I g l first now source after given w.0 h w.2 under within, length_given given w.0 after.used values w.1 count)
+      one_more first now after given outline w.0 w.1 (reads_by R I g l first now source after given w.0 h w.2 under within)
 
   -- the document is none
   pub passes_refused : (first now : S) (given : List (Value × ℕ)) (r : Refusal) → ToldRefusedEach R (format_of I g l) first now given r → IsChecked R (format_of I g l) first now (Err r)

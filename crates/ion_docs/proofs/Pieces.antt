@@ -1,5 +1,5 @@
 -- Pieces of octets that are used from the front.
-use Rattle.std.proofs.Common.{◌≡◌, ℕ, ◌+◌, ◌-◌, ◌≤◌, List, [], ◌++◌, take, drop, ap, sym, subst, ◌∙◌, arith, Option, Some, None, append_assoc}
+use Rattle.std.proofs.Common.{◌≡◌, ℕ, ◌+◌, ◌-◌, ◌≤◌, List, [], ◌++◌, take, drop, refl, ap, sym, subst, ◌∙◌, arith, Option, Some, None, IsNone, append_assoc}
 use Rattle.std.proofs.lemmas.List.{take-append-drop, drop-take, drop-drop}
 use Rattle.ion_model.specs.declared.value.Value.{Value}
 use Rattle.ion_symtab.specs.Trace.{given_at}
@@ -35,3 +35,8 @@ pub begins_any : (a b : Option ℕ) (rest more : List ℕ) → b ≡ a → rest 
 begins_any None None rest more e h k = k
 begins_any None (Some c) rest more e h k = absurd cc
 begins_any (Some a) b rest more e h k = let l = sym h ∙ k.1 in absurd cc
+
+-- where nothing is left, nothing is awaited
+pub none_awaited : (awaits : Option ℕ) (rest : List ℕ) → rest ≡ [] → Begins awaits rest → IsNone awaits
+none_awaited None rest e h = refl
+none_awaited (Some b) rest e h = let l = sym h.1 ∙ e in absurd cc

@@ -2,6 +2,8 @@
 use Rattle.std.proofs.Common.{◌≡◌, ℕ, ◌+◌, ◌^◌, ◌≤◌, List, [], ◌∷◌, ◌++◌, length, refl, ap, sym, subst, ◌∙◌, arith, Bool, true, false, Option, Some, None, option_map, option_to_list, append-nil, length-append, Result, Ok, Err, IfOk, OnErr}
 use Rattle.std.proofs.lemmas.List.{map-append}
 use Rattle.ion_model.specs.declared.value.Value.{Value}
+use Rattle.ion_model.specs.declared.outline.Outline.{Outline}
+use Rattle.ion_model.specs.Outlines.{outline_of}
 use Rattle.ion_model.specs.declared.refusal.Refusal.{Refusal}
 use Rattle.ion_symtab.specs.declared.catalog.Catalog.{Catalog}
 use Rattle.ion_symtab.specs.declared.limits.Limits.{Limits}
@@ -12,10 +14,12 @@ use Rattle.ion_symtab.specs.Heard.{Heard}
 use Rattle.ion_symtab.specs.HeardLaws.{Heard-nil, Heard-trans, Heard-end}
 use Rattle.ion_symtab.specs.CauseLaws.{WereMade-nil}
 use Rattle.ion_docs.specs.Formats.{format_of}
-use Rattle.ion_docs.specs.Reading.{left_of, Begins, IsReady, IsWithin, Went, GaveEach, Reads, ReadsEach}
-use Rattle.ion_docs.specs.Outcomes.{EndsWell, EndsRefused, ToldEach, ToldRefusedEach}
-use Rattle.ion_docs.specs.Place.{MatchClosed, Stood, StoodEach}
+use Rattle.ion_docs.specs.Reading.{left_of, Begins, IsReady, IsWithin, Went, GaveEach, GaveSoFar, Reads, ReadsEach}
+use Rattle.ion_docs.specs.Outcomes.{EndsWell, EndsRefused, ToldDocument, ToldRefused, ToldEach, ToldRefusedEach}
+use Rattle.ion_docs.specs.Place.{IfOpen, MatchClosed, Stood, StoodEach}
+use Rattle.ion_docs.specs.Reached.{Reaches}
 use Rattle.ion_docs.specs.declared.source.Source.{Source}
+use Rattle.ion_docs.specs.declared.source.passing.Reached.TheVariants.{Value as AValue}
 use Rattle.ion_docs.specs.declared.source.Place.{Place}
 use Rattle.ion_docs.specs.declared.source.Place.TheVariants as ThePlace
 use Rattle.ion_symtab.specs.declared.fault.Fault.{Fault}
@@ -24,9 +28,13 @@ pub on_err : {A E : Type 0} (result : Result A E) (P : Type 0) → P → OnErr r
 on_err (Ok a) P p = tt
 on_err (Err e) P p = p
 
-pub plain_more : (given : List (Value × ℕ)) (found : Option (Value × ℕ)) → plain (given ++ option_to_list found) ≡ plain given ++ option_to_list (option_map (λ (x : Value × ℕ). x.0) found)
+plain_more : (given : List (Value × ℕ)) (found : Option (Value × ℕ)) → plain (given ++ option_to_list found) ≡ plain given ++ option_to_list (option_map (λ (x : Value × ℕ). x.0) found)
 plain_more given None = map-append (λ (x : Value × ℕ). x.0) given []
 plain_more given (Some x) = map-append (λ (x : Value × ℕ). x.0) given (x ∷ [])
+
+pub plain_next : (given : List (Value × ℕ)) (found : Option (Value × ℕ)) (value : Option Value) (s : List Value) → plain given ≡ s → option_map (λ (x : Value × ℕ). x.0) found ≡ value → plain (given ++ option_to_list found) ≡ s ++ option_to_list value
+plain_next given found value s values same =
+    plain_more given found ∙ (ap (λ x. x ++ option_to_list (option_map (λ (x : Value × ℕ). x.0) found)) values ∙ ap (λ (x : Option Value). s ++ option_to_list x) same)
 
 module _ {S X : Type 0} (R : Inlet S) (I : Items X) (g : Catalog) (l : Limits) where
   -- some octets were used
@@ -69,6 +77,10 @@ module _ {S X : Type 0} (R : Inlet S) (I : Items X) (g : Catalog) (l : Limits) w
         under = h.under;
         within = h.within;
       }
+
+  -- the values alone, as far as they were read
+  pub gave_so_far : (first now : S) (items : X) (left : List ℕ) (ended : Bool) (given : List (Value × ℕ)) (s : List Value) → plain given ≡ s → GaveEach R I g l first now items left ended given → GaveSoFar R I g l first now s
+  gave_so_far first now items left ended given s values each = record { items = items; left = left; ended = ended; gave = record { given = given; each = each; values = values } }
 
   -- a step refused
   pub reads_failed : (first now : S) (source : Source X) (given : List (Value × ℕ)) (r : Refusal) → ReadsEach R I g l first now source given →
@@ -129,9 +141,31 @@ module _ {S X : Type 0} (R : Inlet S) (I : Items X) (g : Catalog) (l : Limits) w
       ((given : List (Value × ℕ)) → ReadsEach R I g l first old source given → StoodEach R I g l first now place (given ++ option_to_list found)) →
       Reads R I g l first old source s → Stood R I g l first now place (s ++ option_to_list value)
   stood_next first old now source place found value s same go h =
-      let values : plain (h.given ++ option_to_list found) ≡ s ++ option_to_list value =
-      plain_more h.given found ∙ (ap (λ x. x ++ option_to_list (option_map (λ (x : Value × ℕ). x.0) found)) h.values ∙ ap (λ (x : Option Value). s ++ option_to_list x) same) in
-      subst (λ (x : List Value). Stood R I g l first now place x) values (stood_plain first now place (h.given ++ option_to_list found) (go h.given h.each))
+      subst (λ (x : List Value). Stood R I g l first now place x) (plain_next h.given found value s h.values same) (stood_plain first now place (h.given ++ option_to_list found) (go h.given h.each))
+
+  -- a document that can't be read on and isn't refused was one
+  pub stood_ended : (first now : S) (place : Place X) (s : List Value) → IfOpen place (λ source. ⊥) → ((r : Refusal) → place ≡ ThePlace.Refused r → ⊥) → Stood R I g l first now place s → ToldDocument R (format_of I g l) first now s
+  stood_ended first now (ThePlace.Open source) s closed other h = absurd closed
+  stood_ended first now ThePlace.Ended s closed other h = h
+  stood_ended first now (ThePlace.Refused r) s closed other h = absurd (other r refl)
+
+  -- the values alone before a refusal
+  pub refused_plain : (first now : S) (refusal : Refusal) (given : List (Value × ℕ)) (s : List Value) → plain given ≡ s → ToldRefusedEach R (format_of I g l) first now given refusal → ToldRefused R (format_of I g l) first now s refusal
+  refused_plain first now refusal given s values h = subst (λ (x : List Value). ToldRefused R (format_of I g l) first now x refusal) values (stood_plain first now (ThePlace.Refused refusal) given h)
+
+  -- the values alone, also of one more that was passed over
+  pub reads_more : (first old now : S) (source after : Source X) (s : List Value) (outline : Outline) (h : Reads R I g l first old source s) → Reaches R I g l first now after h.given (AValue outline) →
+      (v : Value) × (outline_of v ≡ outline) × Reads R I g l first now after (s ++ v ∷ [])
+  reads_more first old now source after s outline h w =
+      (w.0, w.1, record { given = h.given ++ (w.0, after.used) ∷ []; each = w.2; values = plain_next h.given (Some (w.0, after.used)) (Some w.0) s h.values refl })
+
+  -- the values alone, also of one that the end showed
+  pub stood_last : (first now : S) (source : Source X) (place : Place X) (found : Option (Value × ℕ)) (value : Option Value) (given : List (Value × ℕ)) (s : List Value) → option_map (λ (x : Value × ℕ). x.0) found ≡ value → plain given ≡ s → left_of source ≡ [] →
+      ((u : List ℕ) (given : List (Value × ℕ)) → I.stands source.items u given → MatchClosed place (EndsWell (format_of I (I.catalog source.items) (I.limits source.items)) u (given ++ option_to_list found))
+      (λ r. (found ≡ None) × EndsRefused (format_of I (I.catalog source.items) (I.limits source.items)) u given r)) →
+      GaveEach R I g l first now source.items (left_of source) true given → Stood R I g l first now place (s ++ option_to_list value)
+  stood_last first now source place found value given s same values empty ends h =
+      subst (λ (x : List Value). Stood R I g l first now place x) (plain_next given found value s values same) (stood_plain first now place (given ++ option_to_list found) (last_gives first now source given place found empty ends h))
 
 pub last_for : {S X : Type 0} (R : Inlet S) (I : Items X) (now : S) (source : Source X) (result : Result (Place X × Option (Value × ℕ)) Fault) → left_of source ≡ [] →
     IfOk result (λ next. (u : List ℕ) (given : List (Value × ℕ)) → I.stands source.items u given → MatchClosed next.0 (EndsWell (format_of I (I.catalog source.items) (I.limits source.items)) u (given ++ option_to_list next.1))

@@ -8,6 +8,7 @@ pub mod Paths
 pub mod Listing
 pub mod Reading
 pub mod Place
+pub mod Reached
 pub mod Courses
 pub mod Chosen
 pub mod Alike

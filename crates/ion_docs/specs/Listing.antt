@@ -1,9 +1,10 @@
 -- What showing a document writes.
-use Rattle.std.specs.Prelude.{◌≡◌, ℕ, ◌+◌, ◌-◌, ◌^◌, min, codes, List, [], ◌++◌, ◌∷◌, length, Result, Ok, Err, true, ⊤}
+use Rattle.std.specs.Prelude.{◌≡◌, ℕ, ◌+◌, codes, List, [], ◌++◌, ◌∷◌, length, Result, Ok, Err, true, ⊤}
 use Rattle.std.specs.Fmt.{decimal}
 use Rattle.ion_model.specs.declared.value.Value.{Value}
-use Rattle.ion_model.specs.Kinds.{kind_name, kind_of}
-use Rattle.ion_model.specs.Measures.{depth, nodes}
+use Rattle.ion_model.specs.Kinds.{kind_name}
+use Rattle.ion_model.specs.Outlines.{outline_of}
+use Rattle.ion_model.specs.declared.outline.Outline.{Outline}
 use Rattle.ion_model.specs.declared.refusal.Refusal.{Refusal}
 use Rattle.ion_symtab.specs.declared.fault.Fault.{Fault}
 use Rattle.ion_symtab.specs.declared.fault.Fault.TheVariants.{Memory, Read, Write, TooManyReads, TooLarge, Open}
@@ -17,18 +18,15 @@ use Rattle.ion_docs.specs.Formats.{Format, format_of}
 use Rattle.ion_docs.specs.Reading.{GaveSoFar}
 use Rattle.ion_docs.specs.Outcomes.{ToldDocument, ToldRefused}
 
--- the decimal digits of a number that stops at 2^64-1
-abbrev pub digits_of : ℕ → List ℕ
-digits_of n = decimal (min n (2 ^ 64 - 1))
-
--- the line of the value with this index
-unfoldable pub line_of : ℕ → Value → List ℕ
-line_of index v = decimal index ++ (codes " " ++ (kind_name (kind_of v) ++ (codes " depth " ++ (digits_of (depth v) ++ (codes " nodes " ++ (digits_of (nodes v) ++ codes "\n"))))))
+-- the line of the value with this index and outline
+unfoldable pub line_of : ℕ → Outline → List ℕ
+line_of index outline =
+    decimal index ++ (codes " " ++ (kind_name outline.kind ++ (codes " depth " ++ (decimal outline.depth ++ (codes " nodes " ++ (decimal outline.nodes ++ codes "\n"))))))
 
 -- the lines of values, the first of which has this index
 abbrev pub lines_from : ℕ → List Value → List ℕ
 lines_from index [] = []
-lines_from index (v ∷ vs) = line_of index v ++ lines_from (index + 1) vs
+lines_from index (v ∷ vs) = line_of index (outline_of v) ++ lines_from (index + 1) vs
 
 -- the lines of a stream
 abbrev pub lines_of : List Value → List ℕ

@@ -201,10 +201,7 @@ impl Items for DocReader<'_> {
             Format::Text(reader) => reader.pass(piece),
             _ => match self.step(piece) {
                 Err(refusal) => Err(refusal),
-                Ok(Step { used, value }) => Ok(Passed {
-                    used,
-                    some: value.is_some(),
-                }),
+                Ok(step) => Ok(step.passed()),
             },
         }
     }

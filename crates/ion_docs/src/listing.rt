@@ -7,20 +7,20 @@ ghost use Rattle.ion_docs.specs.Formats.{format_of};
 ghost use Rattle.ion_docs.specs.Reading.{IsFresh};
 ghost use Rattle.ion_docs.specs.Listing.{line_of, lines_from, accepted_line, IsShown, IsWriteCause, ShowsSoFar};
 
-use crate::source::{Place, Source, next_value};
-use ion_model::{Refusal, Value};
+use crate::source::{Place, Reached, Source, last, value_of};
+use ion_model::{Outline, Refusal, Value};
 use ion_symtab::{Fault, Inlet, Items, Outlet, flushed, write_whole};
 use std::alloc::{AllocError, Global};
 
 /// The line of a value: its index, kind, depth and number of nodes.
-fn line(alloc: Global, index: u64, value: &Value) -> Result<String, AllocError>
-    ensures { IfOk result (λ text. string_bytes text ≡ line_of index value.now) }
+fn line(alloc: Global, index: u64, outline: Outline) -> Result<String, AllocError>
+    ensures { IfOk result (λ text. string_bytes text ≡ line_of index outline) }
 {
     format!(in alloc;
         "{index} {} depth {} nodes {}\n",
-        value.kind().name(),
-        value.depth(),
-        value.nodes()
+        outline.kind.name(),
+        outline.depth,
+        outline.nodes
     )
 }
 
@@ -31,8 +31,24 @@ fn accepted(alloc: Global, values: u64) -> Result<String, AllocError>
     format!(in alloc; "accepted {values}\n")
 }
 
-/// Writes the line of the next value, if there is one, and counts it.
-fn write_value<W: Outlet>(
+/// Writes the line of a value.
+fn write_line<W: Outlet>(
+    alloc: Global,
+    writer: &mut W,
+    index: u64,
+    outline: Outline,
+) -> Result<(), Fault>
+    ensures wrote { OnOk result (Took W.took W.written writer.old writer.new (line_of index outline)) }
+    ensures front { OnErr result (TookFront W.took W.written writer.old writer.new
+        (line_of index outline)) }
+    ensures cause { IfErr result (IsWriteCause W.Outlet writer.new) }
+{
+    let text = line(alloc, index, outline)?;
+    write_whole(writer, text.as_bytes())
+}
+
+/// Writes the line of the value that the end showed, if there is one, and counts it.
+fn write_last<W: Outlet>(
     alloc: Global,
     writer: &mut W,
     values: u64,
@@ -49,8 +65,7 @@ fn write_value<W: Outlet>(
     match value {
         None => Ok(values),
         Some(value) => {
-            let text = line(alloc, values + 1, &value)?;
-            write_whole(writer, text.as_bytes())?;
+            write_line(alloc, writer, values + 1, value.outline())?;
             Ok(values + 1)
         }
     }
@@ -98,17 +113,24 @@ pub fn show_items<I: Items + Drop, R: Inlet, W: Outlet>(
     let mut source = Source::new(alloc, items, reads)?;
     let mut values: u64 = 0;
     loop {
-        let (place, value) = next_value(source, reader)?;
-        values = write_value(alloc, writer, values, value)?;
-        match place {
-            Place::Open(after) => source = after,
-            Place::Ended => {
-                write_accepted(alloc, writer, values)?;
-                return Ok(Ok(values));
+        match source.pass_on(reader)? {
+            Reached::Value(outline) => {
+                write_line(alloc, writer, values + 1, outline)?;
+                values += 1;
             }
-            Place::Refused(refusal) => {
+            Reached::Refused(refusal) => {
                 flushed(writer)?;
                 return Ok(Err(refusal));
+            }
+            Reached::End => {
+                let (place, found) = last(source)?;
+                values = write_last(alloc, writer, values, value_of(found))?;
+                if let Place::Refused(refusal) = place {
+                    flushed(writer)?;
+                    return Ok(Err(refusal));
+                }
+                write_accepted(alloc, writer, values)?;
+                return Ok(Ok(values));
             }
         }
     }

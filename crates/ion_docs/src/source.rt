@@ -17,7 +17,7 @@ use std::alloc::Global;
 
 mod passing;
 
-pub(crate) use passing::pass_all;
+pub(crate) use passing::{Reached, pass_all};
 
 /// At most so many octets are read from a device in one call.
 const PIECE: usize = 4096;
@@ -185,7 +185,7 @@ pub fn next_value<I: Items + Drop, R: Inlet>(
 }
 
 /// The value alone.
-fn value_of(found: Option<(Value, u64)>) -> Option<Value>
+pub(crate) fn value_of(found: Option<(Value, u64)>) -> Option<Value>
     ensures { result ≡ option_map (λ next. next.0) found }
 {
     match found {
@@ -243,7 +243,9 @@ pub fn next_placed<I: Items + Drop, R: Inlet>(
 }
 
 /// What the end of a document gives; a value comes with the number of all its octets.
-fn last<I: Items + Drop>(source: Source<I>) -> Result<(Place<I>, Option<(Value, u64)>), Fault>
+pub(crate) fn last<I: Items + Drop>(
+    source: Source<I>,
+) -> Result<(Place<I>, Option<(Value, u64)>), Fault>
     requires awaited { IsNone (I.awaits source.items) }
     requires counted { I.taken source.items ≡ source.used }
     ensures ends { IfOk result (λ next. (u : List ℕ) (given : List (Value × ℕ)) →

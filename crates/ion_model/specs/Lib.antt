@@ -8,6 +8,7 @@ pub mod Timestamps
 pub mod Symbols
 pub mod Measures
 pub mod Kinds
+pub mod Outlines
 pub mod Kept
 pub mod KeptLaws
 pub mod Same

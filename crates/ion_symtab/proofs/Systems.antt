@@ -1,13 +1,10 @@
 -- The slots of a context: the system slots that it keeps, and those behind them.
-use Rattle.std.proofs.Common.{◌≡◌, ◌≢◌, ℕ, zero, suc, ◌<◌, ◌≤◌, ◌+◌, ◌-◌, Option, None, Some, Result, Ok, Err, MatchResult, inl, List, [], ◌∷◌, ◌++◌, map, length, get_or, option_map, slice_get, refl, ap, sym, ◌∙◌, arith, length-append}
+use Rattle.std.proofs.Common.{◌≡◌, ◌≢◌, ℕ, zero, suc, ◌<◌, ◌≤◌, ◌+◌, ◌-◌, Option, None, Some, Ok, List, [], ◌∷◌, ◌++◌, map, length, get_or, option_map, slice_get, refl, ap, sym, ◌∙◌, arith, length-append}
 use Rattle.std.proofs.lemmas.Option.{slice_get-map, slice_get_read}
 use Rattle.std.proofs.lemmas.List.{length-map}
 use Rattle.std.proofs.lemmas.Bool.{cond-false, ne_eqb}
 use Rattle.ion_symtab.specs.Slots.{Slot, system_slots, nine_system_slots, slot_symbol, symbol_at, resolve}
 use Rattle.ion_symtab.specs.Next.{local_slot}
-use Rattle.ion_symtab.specs.Outcome.{Gives}
-use Rattle.ion_model.specs.declared.refusal.Reason.{Reason}
-use Rattle.ion_model.specs.declared.refusal.Reason.TheVariants as reasons
 
 pub slice_get-append_left : {X : Type 0} (xs ys : List X) (i : ℕ) → i < length xs → slice_get (xs ++ ys) i ≡ slice_get xs i
 slice_get-append_left [] ys i h = absurd (omega arith)
@@ -53,12 +50,6 @@ pub resolve_behind : (slots context : List Slot) (id : ℕ) → system_slots ++ 
 resolve_behind slots context id v h l =
     resolve_place context id h ∙ ap (λ xs. symbol_at (slice_get xs (id - 1))) (sym v)
     ∙ ap symbol_at (slice_get-append_right system_slots slots (id - 1) (id - 1 - 9) (omega (arith, nine_system_slots)))
-
--- a copy of what is wanted
-pub Gives-copy : (wanted : Result (Option (List ℕ)) Reason) (s : Option (List ℕ)) (copy : Result (Option (List ℕ)) Reason) → wanted ≡ Ok s →
-    MatchResult copy (λ x. x ≡ s) (λ r. r ≡ reasons.Memory) → Gives wanted copy
-Gives-copy wanted s (Ok x) e h = e ∙ ap Ok (sym h)
-Gives-copy wanted s (Err r) e h = inl h
 
 -- a place behind the earlier slots, among the symbols of local tables that stand there
 pub resolve_last : (first end place : ℕ) (slots : List Slot) (symbols : List (Option (List ℕ))) (s : Option (List ℕ)) → end ≡ first + length slots → end ≤ place →

@@ -72,16 +72,18 @@ impl Added {
     }
 
     /// The symbol at a place, counted with the slots that stand elsewhere.
-    pub(crate) fn symbol_at(&self, place: u32) -> Result<Symbol, Reason>
+    pub(crate) fn symbol_at(&self, place: u32) -> Result<&Symbol, Reason>
         requires from { self.now.first ≤ place }
         requires within { place < self.now.first + length self.now.slots }
-        ensures { Gives (symbol_at (slice_get self.now.slots (place - self.now.first))) result }
+        ensures { MatchResult result
+            (λ s. symbol_at (slice_get self.now.slots (place - self.now.first)) ≡ Ok s.now)
+            (λ r. symbol_at (slice_get self.now.slots (place - self.now.first)) ≡ Err r) }
     {
         let end = self.earlier.end();
         if place < end {
             return self.earlier.symbol_at(place);
         }
-        self.last[(place - end) as usize].copy()
+        Ok(&self.last[(place - end) as usize])
     }
 
     /// Drops all slots. Takes no memory.

@@ -19,12 +19,13 @@ use std::marker::Model;
 /// the first has the id 1: each is a text, unknown, or a gap.
 #[derive(Drop, Debug)]
 pub struct Context {
+    unknown: Symbol,
     system: Vec<Symbol>,
     added: Added,
 }
 
 impl Model for Context {
-    ghost use Rattle.std.specs.Prelude.{List, ◌≡◌, map, ◌++◌};
+    ghost use Rattle.std.specs.Prelude.{List, None, ◌≡◌, map, ◌++◌};
     ghost use Rattle.ion_symtab.specs.Slots.{Slot, system_slots};
 
     ghost Value = { List Slot };
@@ -33,7 +34,8 @@ impl Model for Context {
 
     ghost view = { λ c. system_slots ++ c.added.slots };
 
-    ghost invariant = { λ c. (map local_slot c.system.items ≡ system_slots) × (c.added.first ≡ 9) };
+    ghost invariant = { λ c. (map local_slot c.system.items ≡ system_slots) × (c.added.first ≡ 9)
+        × (c.unknown ≡ None) };
 }
 
 // How many system slots there are.
@@ -65,6 +67,7 @@ impl Context {
             system.push(symbol)?;
         }
         Ok(Context {
+            unknown: Symbol::unknown(),
             system,
             added: Added::new(alloc, SYSTEM_SLOTS),
         })
@@ -86,21 +89,31 @@ impl Context {
         self.added.end()
     }
 
-    /// The symbol of an id; 0 is the symbol of unknown text. `SymbolRange` where the id is above the
-    /// greatest, `ImportGap` where a gap stands there.
-    #[tactic(auto, using(crate::specs::Slots::nine_system_slots), unfolding(crate::specs::Slots::resolve))]
+    /// A copy of the symbol of an id, as `symbol` answers it, or `Memory`.
     pub fn resolve(&self, id: u64) -> Result<Symbol, Reason>
         ensures { Gives (resolve self.now id) result }
     {
+        match self.symbol(id) {
+            Ok(symbol) => symbol.copy(),
+            Err(reason) => Err(reason),
+        }
+    }
+
+    /// The symbol of an id; 0 is the symbol of unknown text. `SymbolRange` where the id is above the
+    /// greatest, `ImportGap` where a gap stands there. Takes no memory.
+    #[tactic(auto, using(crate::specs::Slots::nine_system_slots), unfolding(crate::specs::Slots::resolve))]
+    pub fn symbol(&self, id: u64) -> Result<&Symbol, Reason>
+        ensures { MatchResult result (λ s. resolve self.now id ≡ Ok s.now) (λ r. resolve self.now id ≡ Err r) }
+    {
         if id == 0 {
-            return Ok(Symbol::unknown());
+            return Ok(&self.unknown);
         }
         if id > self.max_id() as u64 {
             return Err(Reason::SymbolRange);
         }
         let place = (id - 1) as u32;
         if place < SYSTEM_SLOTS {
-            return self.system.as_slice()[place as usize].copy();
+            return Ok(&self.system.as_slice()[place as usize]);
         }
         self.added.symbol_at(place)
     }

@@ -1,11 +1,12 @@
 //! What every reader of documents promises.
-ghost use Rattle.std.specs.Prelude.{◌≡◌, ℕ, ◌+◌, ◌*◌, ◌≤◌, ◌<◌, ◌^◌, List, [], ◌∷◌, ◌++◌, length, take, drop, Option, Result, IfOk, IfErr, IfSome, IsNone, IsSome, is_some, true, false, ◌↔◌};
+ghost use Rattle.std.specs.Prelude.{◌≡◌, ℕ, ◌+◌, ◌*◌, ◌≤◌, ◌<◌, ◌^◌, List, [], ◌∷◌, ◌++◌, length, take, drop, Option, Result, IfOk, IfErr, IfSome, IsNone, IsSome, option_map, true, false, ◌↔◌};
 ghost use Rattle.ion_model.specs.declared.value.Value.{Value};
+ghost use Rattle.ion_model.specs.Outlines.{outline_of};
 ghost use Rattle.ion_model.specs.declared.refusal.Reason.TheVariants.{Memory};
 ghost use Rattle.ion_symtab.specs.Trace.{Trace, Answers, Finishes, UsesAll, Grows, Streams, IsFront, plain, given_at};
 ghost use Rattle.ion_symtab.specs.Promises.{Refuses, Shown, Shows, IsSmall, HasReasons, GivesNoTable};
 
-use ion_model::{Refusal, Value};
+use ion_model::{Outline, Refusal, Value};
 
 /// What one step used of its piece, and the value that it gave.
 #[derive(Drop, Debug)]
@@ -18,14 +19,30 @@ pub struct Step {
     pub value: Option<Value>,
 }
 
-/// What one step used of its piece, and whether there was a value.
+/// What one step used of its piece, and what is told of the value there.
 #[derive(Clone, Copy, Drop, Debug)]
 pub struct Passed {
     /// How many octets of the piece were used, from its first on: all of them where there was no
     /// value.
     pub used: usize,
-    /// Whether the next value of the document was passed over.
-    pub some: bool,
+    /// The outline of the next value of the document, if one was passed over.
+    pub outline: Option<Outline>,
+}
+
+impl Step {
+    /// What is told of the step in place of its value. Calls itself once for each level of the value.
+    pub fn passed(&self) -> Passed
+        ensures { result ≡ record { used = self.now.used; outline = option_map outline_of self.now.value } }
+    {
+        let outline = match &self.value {
+            None => None,
+            Some(value) => Some(value.outline()),
+        };
+        Passed {
+            used: self.used,
+            outline,
+        }
+    }
 }
 
 /// A reader of documents, to which the octets come in pieces of any size.
@@ -127,7 +144,7 @@ pub trait Items: Sized {
         ensures fails { IfErr result (λ refusal. failed self.new ≡ Option.Some refusal) }
         ensures again { IfSome (failed self.old) (λ refusal. result ≡ Result.Err refusal) };
 
-    /// Takes up octets as `step` does, but doesn't hand out the value: only whether there was one.
+    /// Takes up octets as `step` does, but doesn't hand out the value: only its outline.
     fn pass(&mut self, piece: &[u8]) -> Result<Passed, Refusal>
         requires room { taken self.old + length piece.now < 2 ^ 63 }
         requires begins { IfSome (awaits self.old) (λ octet.
@@ -136,15 +153,15 @@ pub trait Items: Sized {
         ensures limits { limits self.new ≡ limits self.old }
         ensures used { IfOk result (λ passed. passed.used ≤ length piece.now) }
         ensures uses_all { IfOk result (λ passed.
-            passed.some ≡ false → passed.used ≡ length piece.now) }
+            passed.outline ≡ Option.None → passed.used ≡ length piece.now) }
         ensures counts { IfOk result (λ passed. taken self.new ≡ taken self.old + passed.used) }
-        ensures progress { IfOk result (λ passed. passed.some ≡ true →
+        ensures progress { IfOk result (λ passed. IsSome passed.outline →
             pending self.new < pending self.old + 2 * passed.used) }
         ensures few_pending { IfOk result (λ passed.
             pending self.new ≤ pending self.old + 2 * passed.used) }
         ensures onward { IfOk result (λ passed. IsSome (awaits self.old) → 0 < passed.used) }
         ensures stands { IfOk result (λ passed. (u : List ℕ) (s : List (Value × ℕ)) →
-            stands self.old u s → (value : Option Value) × (is_some value ≡ passed.some)
+            stands self.old u s → (value : Option Value) × (option_map outline_of value ≡ passed.outline)
             × stands self.new (u ++ take passed.used piece.now)
             (s ++ given_at value (length u + passed.used))) }
         ensures refuses { IfErr result (λ refusal. (u : List ℕ) (s : List (Value × ℕ)) →
@@ -160,10 +177,7 @@ pub trait Items: Sized {
     {
         match self.step(piece) {
             Err(refusal) => Err(refusal),
-            Ok(Step { used, value }) => Ok(Passed {
-                used,
-                some: value.is_some(),
-            }),
+            Ok(step) => Ok(step.passed()),
         }
     }
 

@@ -59,12 +59,14 @@ impl Model for Segments {
 
 impl Part {
     // The symbol of the slot at a place. `ImportGap` where it is a gap.
-    fn symbol_at(&self, place: u32) -> Result<Symbol, Reason>
+    fn symbol_at(&self, place: u32) -> Result<&Symbol, Reason>
         requires { place < length (part_slots self.now) }
-        ensures { Gives (symbol_at (slice_get (part_slots self.now) place)) result }
+        ensures { MatchResult result
+            (λ s. symbol_at (slice_get (part_slots self.now) place) ≡ Ok s.now)
+            (λ r. symbol_at (slice_get (part_slots self.now) place) ≡ Err r) }
     {
         match self {
-            Part::Local(symbols) => symbols[place as usize].copy(),
+            Part::Local(symbols) => Ok(&symbols[place as usize]),
             Part::Import(symbols, _) => match symbols.as_slice().get(place as usize) {
                 None => Err(Reason::ImportGap),
                 Some(symbol) => imported(symbol),
@@ -74,12 +76,14 @@ impl Part {
 }
 
 // The symbol of a slot of a shared table.
-fn imported(symbol: &Symbol) -> Result<Symbol, Reason>
-    ensures { Gives (slot_symbol (shared_slot symbol.now)) result }
+fn imported(symbol: &Symbol) -> Result<&Symbol, Reason>
+    ensures { MatchResult result
+        (λ s. slot_symbol (shared_slot symbol.now) ≡ Ok s.now)
+        (λ r. slot_symbol (shared_slot symbol.now) ≡ Err r) }
 {
     match symbol.text() {
         None => Err(Reason::ImportGap),
-        Some(_) => symbol.copy(),
+        Some(_) => Ok(symbol),
     }
 }
 
@@ -139,10 +143,12 @@ impl Segments {
     }
 
     /// The symbol at a place, counted with the slots that stand elsewhere.
-    pub(crate) fn symbol_at(&self, place: u32) -> Result<Symbol, Reason>
+    pub(crate) fn symbol_at(&self, place: u32) -> Result<&Symbol, Reason>
         requires from { self.now.first ≤ place }
         requires within { place < self.now.first + length self.now.slots }
-        ensures { Gives (symbol_at (slice_get self.now.slots (place - self.now.first))) result }
+        ensures { MatchResult result
+            (λ s. symbol_at (slice_get self.now.slots (place - self.now.first)) ≡ Ok s.now)
+            (λ r. symbol_at (slice_get self.now.slots (place - self.now.first)) ≡ Err r) }
     {
         let segments = self.segments.as_slice();
         let segment = &segments[segment_of(segments, place)];

@@ -505,7 +505,7 @@ struct Shown {
     answer: Result<u64, Refusal>,
 }
 
-static SHOWN: [Shown; 5] = [
+static SHOWN: [Shown; 6] = [
     // no octet
     Shown {
         octets: &[],
@@ -532,6 +532,16 @@ static SHOWN: [Shown; 5] = [
             offset: 8,
             reason: Reason::Malformed,
         }),
+    },
+    // each kind that has a body, a null of one, and a struct around an annotated list of an empty struct and a bool
+    Shown {
+        octets: b"\xE0\x01\x00\xEA\xD7\x84\xE5\x81\x85\xB2\xD0\x11\xE4\x81\x84\x21\x01\xC2\x20\x11\
+            \x31\x01\x50\x63\xC0\x0F\xD0\x71\x04\x81a\x91a\xA1\x00\xDF",
+        text: "1 struct depth 3 nodes 6\n2 int depth 0 nodes 2\n3 sexp depth 1 nodes 3\n4 int depth 0 nodes 1\n\
+            5 decimal depth 0 nodes 1\n6 timestamp depth 0 nodes 1\n7 symbol depth 0 nodes 1\n\
+            8 string depth 0 nodes 1\n9 clob depth 0 nodes 1\n10 blob depth 0 nodes 1\n\
+            11 struct depth 0 nodes 1\naccepted 11\n",
+        answer: Ok(11),
     },
     // M `20 21`: the second int is cut off
     Shown {

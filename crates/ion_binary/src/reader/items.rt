@@ -175,15 +175,15 @@ impl Items for BinaryReader<'_> {
         if let Some(refusal) = self.failed {
             return Err(refusal);
         }
-        if let Some(used) = self.walk(piece) {
-            return Ok(Passed { used, some: true });
+        if let Some((used, outline)) = self.walk(piece) {
+            return Ok(Passed {
+                used,
+                outline: Some(outline),
+            });
         }
         match self.step(piece) {
             Err(refusal) => Err(refusal),
-            Ok(Step { used, value }) => Ok(Passed {
-                used,
-                some: value.is_some(),
-            }),
+            Ok(step) => Ok(step.passed()),
         }
     }
 

@@ -1,39 +1,54 @@
 //! Documents of which nobody asks for the values.
-ghost use Rattle.std.specs.Prelude.{◌≡◌, ◌≢◌, ℕ, ◌+◌, ◌*◌, ◌^◌, ◌<◌, ◌≤◌, true, false, List, [], ◌++◌, IfOk, IfErr, Option, is_some};
+ghost use Rattle.std.specs.Prelude.{◌≡◌, ◌≢◌, ℕ, ◌+◌, ◌*◌, ◌^◌, ◌<◌, ◌≤◌, List, [], ◌++◌, IfOk, IfErr, OnErr, Option, IsSome, option_map};
+ghost use Rattle.ion_model.specs.Outlines.{outline_of};
 ghost use Rattle.ion_model.specs.declared.value.Value.{Value};
 ghost use Rattle.ion_model.specs.declared.refusal.Reason.TheVariants as reasons;
 ghost use Rattle.ion_symtab.specs.declared.catalog.Catalog.{Catalog};
 ghost use Rattle.ion_symtab.specs.declared.limits.Limits.{Limits};
 ghost use Rattle.ion_symtab.specs.Cause.{IsReadCause};
 ghost use Rattle.ion_docs.specs.Formats.{format_of};
-ghost use Rattle.ion_docs.specs.Reading.{left_of, Begins, IsReady, IsWithin, work, Went, ReadsEach};
+ghost use Rattle.ion_docs.specs.Reading.{left_of, Begins, IsReady, IsWithin, work, Went, Reads, ReadsEach, GaveSoFar};
+ghost use Rattle.ion_docs.specs.Reached.{IfValue, IfEnd, IsSpent, Reaches};
 ghost use Rattle.ion_docs.specs.Outcomes.{EndsRefused};
 ghost use Rattle.ion_docs.specs.Checked.{IsChecked, counted};
 
 use super::{Place, Source, last};
-use ion_model::{Reason, Refusal};
+use ion_model::{Outline, Reason, Refusal};
 use ion_symtab::{Fault, Inlet, Items, Passed};
 
+/// What is reached in a document that is read without its values.
+#[derive(Clone, Copy, Drop)]
+pub(crate) enum Reached {
+    /// The next value, of which this is told.
+    Value(Outline),
+    /// The end that the device answered; all octets before it are used.
+    End,
+    /// What shows that the document is none.
+    Refused(Refusal),
+}
+
 impl<I: Items + Drop> Source<I> {
-    /// Takes up octets of the piece as `take` does: whether there was a value.
-    fn pass(&mut self) -> Result<bool, Refusal>
+    /// Takes up octets of the piece as `take` does: the outline of the next value.
+    fn pass(&mut self) -> Result<Option<Outline>, Refusal>
         requires { IsReady I.Items self.old }
-        ensures gives { IfOk result (λ some. (u : List ℕ) (given : List (Value × ℕ)) →
-            I.stands self.old.items u given → (value : Option Value) × (is_some value ≡ some)
+        ensures gives { IfOk result (λ outline. (u : List ℕ) (given : List (Value × ℕ)) →
+            I.stands self.old.items u given →
+            (value : Option Value) × (option_map outline_of value ≡ outline)
             × Went I.Items u given (left_of self.old) self.new value) }
         ensures refuses { IfErr result (λ refusal. refusal.reason ≢ reasons.Memory →
             (u : List ℕ) (given : List (Value × ℕ)) → I.stands self.old.items u given → (more : List ℕ) →
             EndsRefused (format_of I.Items (I.catalog self.old.items) (I.limits self.old.items))
             ((u ++ left_of self.old) ++ more) given refusal) }
-        ensures within { IfOk result (λ some. (self.old.at ≤ self.new.at) × (self.new.at ≤ self.new.end)) }
-        ensures all { IfOk result (λ some. some ≡ false → self.new.at ≡ self.new.end) }
-        ensures taken { IfOk result (λ some.
+        ensures within { IfOk result (λ outline.
+            (self.old.at ≤ self.new.at) × (self.new.at ≤ self.new.end)) }
+        ensures all { IfOk result (λ outline. outline ≡ Option.None → self.new.at ≡ self.new.end) }
+        ensures taken { IfOk result (λ outline.
             I.taken self.new.items + self.old.at ≡ I.taken self.old.items + self.new.at) }
-        ensures counted { IfOk result (λ some. I.taken self.new.items ≡ self.new.used) }
-        ensures pending { IfOk result (λ some. work I.Items self.new ≤ work I.Items self.old) }
-        ensures less { IfOk result (λ some. some ≡ true →
+        ensures counted { IfOk result (λ outline. I.taken self.new.items ≡ self.new.used) }
+        ensures pending { IfOk result (λ outline. work I.Items self.new ≤ work I.Items self.old) }
+        ensures less { IfOk result (λ outline. IsSome outline →
             work I.Items self.new < work I.Items self.old) }
-        ensures begins { IfOk result (λ some. Begins (I.awaits self.new.items) (left_of self.new)) }
+        ensures begins { IfOk result (λ outline. Begins (I.awaits self.new.items) (left_of self.new)) }
         ensures catalog { I.catalog self.new.items ≡ I.catalog self.old.items }
         ensures limits { I.limits self.new.items ≡ I.limits self.old.items }
         ensures piece { self.new.piece.items ≡ self.old.piece.items }
@@ -42,10 +57,54 @@ impl<I: Items + Drop> Source<I> {
     {
         match self.items.pass(&self.piece[self.at..self.end]) {
             Err(refusal) => Err(refusal),
-            Ok(Passed { used, some }) => {
+            Ok(Passed { used, outline }) => {
                 self.at += used;
                 self.used += used as u64;
-                Ok(some)
+                Ok(outline)
+            }
+        }
+    }
+
+    /// Reads on up to the next value or to the end.
+    ///
+    /// Faults are `Memory`, `Read` and `TooManyReads`.
+    pub(crate) fn pass_on<R: Inlet>(&mut self, reader: &mut R) -> Result<Reached, Fault>
+        requires { IsReady I.Items self.old }
+        ensures gives { IfOk result (λ reached.
+            (g : Catalog) (l : Limits) (first : R) (given : List (Value × ℕ)) →
+            ReadsEach R.Inlet I.Items g l first reader.old self.old given →
+            Reaches R.Inlet I.Items g l first reader.new self.new given reached) }
+        ensures ready { IfOk result (λ reached. IfValue reached (IsReady I.Items self.new)) }
+        ensures less { IfOk result (λ reached. IfValue reached
+            (work I.Items self.new < work I.Items self.old)) }
+        ensures within { IfOk result (λ reached. IfValue reached ((first : R) (reads : ℕ) →
+            IsWithin R.Inlet reads first reader.old self.old →
+            IsWithin R.Inlet reads first reader.new self.new)) }
+        ensures ended { IfOk result (λ reached. IfEnd reached (IsSpent I.Items self.new)) }
+        ensures cause { IfErr result (λ fault. (first : R) (reads : ℕ) →
+            IsWithin R.Inlet reads first reader.old self.old →
+            IsReadCause R.Inlet reads first reader.new fault) }
+        ensures kept { OnErr result ((g : Catalog) (l : Limits) (first : R) (s : List Value) →
+            Reads R.Inlet I.Items g l first reader.old self.old s →
+            GaveSoFar R.Inlet I.Items g l first reader.new s) }
+    {
+        loop {
+            match self.pass() {
+                Err(
+                    Refusal {
+                        reason: Reason::Memory,
+                        ..
+                    },
+                ) => return Err(Fault::Memory),
+                Err(refusal) => return Ok(Reached::Refused(refusal)),
+                Ok(Some(outline)) => return Ok(Reached::Value(outline)),
+                Ok(None) => {}
+            }
+            if self.reads == 0 {
+                return Err(Fault::TooManyReads);
+            }
+            if !self.fill(reader)? {
+                return Ok(Reached::End);
             }
         }
     }
@@ -69,26 +128,13 @@ pub(crate) fn pass_all<I: Items + Drop, R: Inlet>(
 {
     let mut values: u64 = 0;
     loop {
-        match source.pass() {
-            Err(
-                Refusal {
-                    reason: Reason::Memory,
-                    ..
-                },
-            ) => return Err(Fault::Memory),
-            Err(refusal) => return Ok(Err(refusal)),
-            Ok(true) => {
-                values += 1;
-                continue;
+        match source.pass_on(reader)? {
+            Reached::Value(_) => values += 1,
+            Reached::Refused(refusal) => return Ok(Err(refusal)),
+            Reached::End => {
+                let (place, found) = last(source)?;
+                return Ok(counted(values, place, found.is_some()));
             }
-            Ok(false) => {}
-        }
-        if source.reads == 0 {
-            return Err(Fault::TooManyReads);
-        }
-        if !source.fill(reader)? {
-            let (place, found) = last(source)?;
-            return Ok(counted(values, place, found.is_some()));
         }
     }
 }

@@ -3,4 +3,4 @@ use Rattle.ion_docs.proofs.listing.line.Goals as goal
 
 pub returns : goal.returns
 unfolding line_of
-returns c = rw (c.name.ensures, c.kind.ensures, c.depth.ensures, c.nodes.ensures) at c.format.ensures.ok
+returns c = rw c.name.ensures at c.format.ensures.ok

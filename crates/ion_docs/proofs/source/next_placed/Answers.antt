@@ -3,25 +3,19 @@ use Rattle.ion_model.specs.declared.value.Value.{Value}
 use Rattle.ion_model.specs.declared.refusal.Reason.TheVariants as reasons
 use Rattle.ion_symtab.specs.declared.catalog.Catalog.{Catalog}
 use Rattle.ion_symtab.specs.declared.limits.Limits.{Limits}
-use Rattle.ion_symtab.specs.Trace.{plain}
 use Rattle.ion_symtab.specs.Heard.{Heard}
 use Rattle.ion_symtab.specs.Cause.{WereMade}
 use Rattle.ion_docs.specs.Formats.{format_of}
-use Rattle.ion_docs.specs.Reading.{left_of, GaveEach, ReadsEach, GaveSoFar}
+use Rattle.ion_docs.specs.Reading.{left_of, GaveEach, ReadsEach}
 use Rattle.ion_docs.specs.Outcomes.{ToldRefusedEach}
 use Rattle.ion_docs.proofs.Pieces.{between_nil, begins_any}
-use Rattle.ion_docs.proofs.Steps.{reads_went, reads_kept, reads_failed, reads_on, last_for, on_err}
+use Rattle.ion_docs.proofs.Steps.{gave_so_far, reads_went, reads_kept, reads_failed, reads_on, last_for, on_err}
 use Rattle.ion_docs.proofs.source.next_placed.Given as Given
 use Rattle.ion_docs.proofs.source.next_placed.Goals as goal
 
--- the values alone, as far as they were read
-so_far : (g : Given.Over) (catalog : Catalog) (limits : Limits) (first now : g.row.R.Denot) (items : _) (left : List ℕ) (ended : _) (given : List (Value × ℕ)) (s : List Value) → plain given ≡ s →
-    GaveEach g.R.Inlet g.I.Items catalog limits first now items left ended given → GaveSoFar g.R.Inlet g.I.Items catalog limits first now s
-so_far g catalog limits first now items left ended given s values each = record { items = items; left = left; ended = ended; gave = record { given = given; each = each; values = values } }
-
 pub returns-in-Err-Memory-clause-kept : goal.returns-in-Err-Memory-clause-kept
 returns-in-Err-Memory-clause-kept g c = λ catalog limits first s h.
-    so_far g catalog limits first c.loop-source.reader c.loop-source.source.items (left_of c.loop-source.source) false h.given s h.values (c.loop-source.invariant.reads catalog limits first h.given h.each)
+    gave_so_far g.R.Inlet g.I.Items catalog limits first c.loop-source.reader c.loop-source.source.items (left_of c.loop-source.source) false h.given s h.values (c.loop-source.invariant.reads catalog limits first h.given h.each)
 
 pub returns-in-Err-clause-gives : goal.returns-in-Err-clause-gives
 returns-in-Err-clause-gives g c =
@@ -48,12 +42,12 @@ returns-then-source-eq0-clause-cause g c = λ first reads h.
 
 pub returns-then-source-eq0-clause-kept : goal.returns-then-source-eq0-clause-kept
 returns-then-source-eq0-clause-kept g c = λ catalog limits first s h.
-    so_far g catalog limits first c.loop-source.reader c.loop-source.source.items (left_of c.loop-source.source) false h.given s h.values (c.loop-source.invariant.reads catalog limits first h.given h.each)
+    gave_so_far g.R.Inlet g.I.Items catalog limits first c.loop-source.reader c.loop-source.source.items (left_of c.loop-source.source) false h.given s h.values (c.loop-source.invariant.reads catalog limits first h.given h.each)
 
 pub returns-in_err-fill-clause-kept : goal.returns-in_err-fill-clause-kept
 returns-in_err-fill-clause-kept g c =
     on_err c.from_residual.result _ (λ catalog limits first s h.
-    so_far g catalog limits first c.fill.new.reader c.loop-source.source.items (left_of c.loop-source.source) false h.given s h.values
+    gave_so_far g.R.Inlet g.I.Items catalog limits first c.fill.new.reader c.loop-source.source.items (left_of c.loop-source.source) false h.given s h.values
     (reads_kept g.R.Inlet g.I.Items catalog limits first c.loop-source.reader c.fill.new.reader c.loop-source.source h.given
     (c.loop-source.invariant.reads catalog limits first h.given h.each) c.in_err-fill.ensures.kept))
 
@@ -117,4 +111,4 @@ returns-then-not-branch-clause-kept g c =
     let done = f.ends (search rules) in
     let nothing = between_nil to.piece.items to.at to.end (omega (arith, f.within.0, done.1)) in
     on_err c.last.result _ (λ catalog limits first s h.
-    so_far g catalog limits first c.fill.new.reader to.items (left_of to) true h.given s h.values (at_end g c done.0 nothing catalog limits first h.given h.each))
+    gave_so_far g.R.Inlet g.I.Items catalog limits first c.fill.new.reader to.items (left_of to) true h.given s h.values (at_end g c done.0 nothing catalog limits first h.given h.each))

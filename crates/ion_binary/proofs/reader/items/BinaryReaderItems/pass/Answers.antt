@@ -1,4 +1,4 @@
-use Rattle.std.proofs.Common.{rules, ◌≡◌, Ok, Some, refl}
+use Rattle.std.proofs.Common.{rules, ◌≡◌, Ok, Some, ap}
 use Rattle.ion_binary.proofs.Further.{step_stands}
 use Rattle.ion_binary.proofs.reader.items.BinaryReaderItems.pass.Goals as goal
 
@@ -6,8 +6,8 @@ pub returns-in-Some-walk-clause-stands : goal.returns-in-Some-walk-clause-stands
 returns-in-Some-walk-clause-stands c = λ u s h.
     let found = c.in-Some-walk.ensures.gives in (
       Some found.0,
-      refl,
-      step_stands c.args.self.now c.walk.new.self c.args.piece.now (Ok (record { used = c.in-Some-walk.used; value = Some found.0 })) found.1 c.in-Some-walk.ensures.used c.in-Some-walk.ensures.setting u s h,
+      ap Some found.1,
+      step_stands c.args.self.now c.walk.new.self c.args.piece.now (Ok (record { used = c.in-Some-walk.used; value = Some found.0 })) found.2 c.in-Some-walk.ensures.used c.in-Some-walk.ensures.setting u s h,
     )
 
 pub returns-in-Err-clause-refuses : goal.returns-in-Err-clause-refuses

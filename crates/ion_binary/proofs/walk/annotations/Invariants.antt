@@ -1,7 +1,7 @@
-use Rattle.std.proofs.Common.{◌≤◌, ℕ, List, Option, length, take}
+use Rattle.std.proofs.Common.{◌≡◌, ◌≤◌, ℕ, List, Option, length, take}
 use Rattle.ion_binary.specs.Grammar.{Ids}
 use Rattle.ion_binary.specs.Walked.{NoTable}
-use Rattle.ion_binary.proofs.walk.are_annotations.Given as goal
+use Rattle.ion_binary.proofs.walk.annotations.Given as goal
 
 -- the octets before `at` are some ids
 abbrev pub invariant-loop : goal.invariant-loop
@@ -10,4 +10,5 @@ invariant-loop l = record {
   symbols : List (Option (List ℕ));
   so_far : Ids l.context (take l.at l.ids) symbols;
   given : NoTable symbols;
+  counted : length symbols ≡ l.count;
 }
