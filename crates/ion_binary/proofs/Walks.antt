@@ -1,5 +1,5 @@
 -- Values that are found and not built.
-use Rattle.std.proofs.Common.{Bool, length-take, min, max, map, sum, ◌≡◌, ℕ, suc, pos, neg_ℤ, ◌+◌, ◌-◌, ◌^◌, ◌<◌, ◌≤◌, List, [], ◌∷◌, ◌++◌, length, take, drop, Option, Some, None, IfSome, Ok, ◌&&◌, false, refl, ap, sym, subst, ◌∙◌, arith}
+use Rattle.std.proofs.Common.{Bool, length-take, min, map, sum, ◌≡◌, ℕ, pos, neg_ℤ, ◌+◌, ◌-◌, ◌^◌, ◌<◌, ◌≤◌, List, [], ◌∷◌, ◌++◌, length, take, drop, Option, Some, None, IfSome, Ok, ◌&&◌, false, refl, ap, sym, subst, ◌∙◌, arith}
 use Rattle.std.specs.Str.{IsUtf8}
 use Rattle.ion_model.specs.Decimals.{DecimalParts}
 use Rattle.ion_model.specs.Timestamps.{TimestampParts}
@@ -12,7 +12,7 @@ use Rattle.ion_model.specs.declared.kind.Kind.{Kind}
 use Rattle.ion_model.specs.declared.kind.Kind.TheVariants as kinds
 use Rattle.ion_model.specs.Kinds.{names_table, is_fields, is_table, kind_of, layer_kind}
 use Rattle.ion_model.specs.Measures.{depth, nodes, bare, annotated}
-use Rattle.ion_model.specs.MeasureLaws.{deepest-more, depth-Null, depth-Truth, nodes-more, nodes-Null, nodes-Truth}
+use Rattle.ion_model.specs.MeasureLaws.{deepest-more, depth-Null, depth-Truth, nodes-Null, nodes-Truth}
 use Rattle.ion_model.specs.Outlines.{outline_of}
 use Rattle.ion_scalar.specs.Fields.{VarUInt, positional}
 use Rattle.ion_scalar.specs.DecimalField.{decimal_of_body}

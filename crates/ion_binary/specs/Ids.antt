@@ -1,5 +1,5 @@
 -- The ids of names by an ordered map.
-use Rattle.std.proofs.Common.{if◌then◌else◌, ◌≡◌, ℕ, List, Option, None, Some, slice_get, refl, sym}
+use Rattle.std.proofs.Common.{if◌then◌else◌, ◌≡◌, ℕ, List, Option, None, Some, slice_get}
 use Rattle.std.specs.BTreeMap.{BTreeMap, get}
 use Rattle.std.specs.List.{list_any}
 use Rattle.ion_model.specs.Symbols.{symbol_same, symbol_cmp}

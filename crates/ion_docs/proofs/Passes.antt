@@ -1,5 +1,5 @@
 -- A document that is read without its values.
-use Rattle.std.proofs.Common.{◌≡◌, ℕ, List, [], ◌∷◌, ◌++◌, ap, ◌∙◌, arith, Bool, true, false, ◌+◌, length, if◌then◌else◌, Result, Ok, Err, IfOk, IfErr, Option, Some, None, option_map, option_to_list, length-append}
+use Rattle.std.proofs.Common.{◌≡◌, ℕ, List, [], ◌∷◌, ◌++◌, ap, ◌∙◌, arith, Bool, true, ◌+◌, length, if◌then◌else◌, Result, Ok, Err, IfOk, IfErr, Option, Some, None, option_map, option_to_list, length-append}
 use Rattle.std.proofs.lemmas.List.{length-map}
 use Rattle.std.specs.Option.{is_some}
 use Rattle.std.proofs.lemmas.Option.{same_Some}

@@ -1,8 +1,8 @@
-use Rattle.std.proofs.Common.{◌≡◌, ◌+◌, ◌++◌, ◌∷◌, [], length, length-append, true, false, inl, arith, refl, ap, sym, subst, ◌∙◌, ℕ, option_to_list}
+use Rattle.std.proofs.Common.{◌≡◌, ◌+◌, ◌++◌, ◌∷◌, [], length-append, true, false, inl, arith, refl, ap, sym, subst, ◌∙◌, ℕ, option_to_list}
 use Rattle.ion_symtab.specs.Took.{Took, TookFront}
 use Rattle.ion_symtab.specs.TookLaws.{Took-nil, Took-trans, Took-kept, Front-all, Front-behind}
 use Rattle.ion_docs.specs.Reading.{left_of}
-use Rattle.ion_docs.specs.Listing.{lines_from, lines_of, accepted_line, in_reading, at_refusal, at_end}
+use Rattle.ion_docs.specs.Listing.{lines_of, accepted_line, in_reading, at_refusal, at_end}
 use Rattle.std.proofs.lemmas.Result.{err_from_is_err_and}
 use Rattle.ion_docs.proofs.Pieces.{between_nil}
 use Rattle.ion_docs.proofs.Steps.{reads_begun, ready_begun, within_begun, gave_so_far, refused_plain, reads_more, stood_last, stood_ended, length_more, on_err}

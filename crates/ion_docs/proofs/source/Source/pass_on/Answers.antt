@@ -1,8 +1,5 @@
-use Rattle.std.proofs.Common.{rules, ◌≡◌, ◌≢◌, ◌∙◌, ℕ, ◌+◌, true, false, List, [], length, arith, ap, refl, subst}
-use Rattle.ion_model.specs.declared.value.Value.{Value}
+use Rattle.std.proofs.Common.{rules, ◌≡◌, ◌≢◌, ◌∙◌, ℕ, ◌+◌, true, false, [], length, arith, ap, refl, subst}
 use Rattle.ion_model.specs.declared.refusal.Reason.TheVariants as reasons
-use Rattle.ion_symtab.specs.declared.catalog.Catalog.{Catalog}
-use Rattle.ion_symtab.specs.declared.limits.Limits.{Limits}
 use Rattle.ion_symtab.specs.Cause.{WereMade}
 use Rattle.ion_docs.specs.Reading.{left_of}
 use Rattle.ion_docs.proofs.Pieces.{between_nil, begins_any, none_awaited}

@@ -1,4 +1,4 @@
-use Rattle.std.proofs.Common.{ℕ, ◌+◌, ◌∷◌, ◌++◌, [], length, length-append, ◌∙◌, arith, ap}
+use Rattle.std.proofs.Common.{ℕ, ◌+◌, ◌∷◌, ◌++◌, [], length-append, ◌∙◌, arith, ap}
 use Rattle.ion_docs.proofs.Passes.{passes_refused, passes_end}
 use Rattle.ion_docs.proofs.source.passing.pass_all.Goals as goal
 
