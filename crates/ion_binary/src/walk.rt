@@ -42,7 +42,8 @@ impl Tally {
     #[inline(always)]
     fn note(&mut self, kind: Kind)
         requires { self.old.nodes + 1 < 2 ^ 64 }
-        ensures { self.new ≡ record { kind = kind; level = self.old.level; nodes = self.old.nodes + 1 } }
+        ensures { self.new ≡
+            record { kind = kind; level = self.old.level; nodes = self.old.nodes + 1 } }
     {
         self.kind = kind;
         self.nodes += 1;
@@ -51,7 +52,11 @@ impl Tally {
     /// The outline of one value that was walked over, where there might be so many levels.
     pub fn outline(&self, level: u32) -> Outline
         requires { self.now.level ≤ level }
-        ensures { result ≡ record { kind = self.now.kind; depth = level - self.now.level; nodes = self.now.nodes } }
+        ensures { result ≡ record {
+          kind = self.now.kind;
+          depth = level - self.now.level;
+          nodes = self.now.nodes;
+        } }
     {
         Outline {
             kind: self.kind,

@@ -103,7 +103,8 @@ impl Context {
     /// greatest, `ImportGap` where a gap stands there. Takes no memory.
     #[tactic(auto, using(crate::specs::Slots::nine_system_slots), unfolding(crate::specs::Slots::resolve))]
     pub fn symbol(&self, id: u64) -> Result<&Symbol, Reason>
-        ensures { MatchResult result (λ s. resolve self.now id ≡ Ok s.now) (λ r. resolve self.now id ≡ Err r) }
+        ensures { MatchResult result (λ s. resolve self.now id ≡ Ok s.now)
+            (λ r. resolve self.now id ≡ Err r) }
     {
         if id == 0 {
             return Ok(&self.unknown);

@@ -32,7 +32,10 @@ pub struct Passed {
 impl Step {
     /// What is told of the step in place of its value. Calls itself once for each level of the value.
     pub fn passed(&self) -> Passed
-        ensures { result ≡ record { used = self.now.used; outline = option_map outline_of self.now.value } }
+        ensures { result ≡ record {
+          used = self.now.used;
+          outline = option_map outline_of self.now.value;
+        } }
     {
         let outline = match &self.value {
             None => None,
@@ -161,7 +164,8 @@ pub trait Items: Sized {
             pending self.new ≤ pending self.old + 2 * passed.used) }
         ensures onward { IfOk result (λ passed. IsSome (awaits self.old) → 0 < passed.used) }
         ensures stands { IfOk result (λ passed. (u : List ℕ) (s : List (Value × ℕ)) →
-            stands self.old u s → (value : Option Value) × (option_map outline_of value ≡ passed.outline)
+            stands self.old u s → (value : Option Value)
+            × (option_map outline_of value ≡ passed.outline)
             × stands self.new (u ++ take passed.used piece.now)
             (s ++ given_at value (length u + passed.used))) }
         ensures refuses { IfErr result (λ refusal. (u : List ℕ) (s : List (Value × ℕ)) →

@@ -12,8 +12,8 @@ use ion_model::Outline;
 
 impl BinaryReader<'_> {
     /// Takes up the octets of the value at the front of a piece without building it: how many it has, and
-    /// its outline. `None`, with nothing taken up, where a container is open, or the value isn't whole, may not stand
-    /// here or is in any way unusual.
+    /// its outline. `None`, with nothing taken up, where a container is open, or the value isn't whole,
+    /// may not stand here or is in any way unusual.
     pub(super) fn walk(&mut self, piece: &[u8]) -> Option<(usize, Outline)>
         requires room { self.old.used + length piece.now < 2 ^ 63 }
         ensures gives { IfSome result (λ found. (v : Value) × (outline_of v ≡ found.1)
