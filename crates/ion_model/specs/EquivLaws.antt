@@ -26,7 +26,7 @@ local_same-equiv =
     and_equiv (and_equiv (and_equiv (and_equiv (and_equiv (and_equiv (on_equiv (λ l. l.year) nat_eq_equiv) (on_equiv (λ l. l.month) nat_eq_equiv)) (on_equiv (λ l. l.day) nat_eq_equiv))
     (on_equiv (λ l. l.hour) nat_eq_equiv)) (on_equiv (λ l. l.minute) nat_eq_equiv)) (on_equiv (λ l. l.second) nat_eq_equiv)) (on_equiv (λ l. l.fraction) nat_eq_equiv)
 
-timestamp_same-equiv : IsEquivalence timestamp_same
+pub timestamp_same-equiv : IsEquivalence timestamp_same
 timestamp_same-equiv =
     and_equiv (and_equiv (on_equiv (λ t. precision_rank t.precision) nat_eq_equiv) (on_equiv (λ t. t.offset) (options_equiv int_eq_equiv))) (on_equiv (λ t. t.local) local_same-equiv)
 

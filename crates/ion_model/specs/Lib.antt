@@ -9,6 +9,7 @@ pub mod Symbols
 pub mod Measures
 pub mod Kinds
 pub mod Outlines
+pub mod FlatTimestamps
 pub mod Kept
 pub mod KeptLaws
 pub mod Same

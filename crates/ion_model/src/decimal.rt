@@ -2,6 +2,7 @@
 ghost use Rattle.std.specs.Prelude.{◌≡◌, ◌<◌, ◌^◌, SomeIff};
 ghost use Rattle.ion_model.specs.Decimals.{DecimalParts, IsDecimal, decimal_same, decimal_cmp};
 
+use crate::halves::Halves;
 use std::cmp::Ordering;
 use std::marker::Model;
 
@@ -10,9 +11,9 @@ use std::marker::Model;
 /// 2^31-1. Numerically equal decimals of different exponents are different values.
 #[derive(Debug, Clone, Copy, PartialEq, Eq)]
 pub struct Decimal {
-    negative: bool,
-    magnitude: u128,
+    magnitude: Halves,
     exponent: i32,
+    negative: bool,
 }
 
 impl Model for Decimal {
@@ -30,6 +31,7 @@ impl Model for Decimal {
 impl Decimal {
     /// The decimal of this sign, magnitude and exponent; `None` exactly where the magnitude is 2^127 or
     /// more. Takes no memory.
+    #[inline(always)]
     pub fn new(negative: bool, magnitude: u128, exponent: i32) -> Option<Decimal>
         ensures { let parts : DecimalParts = record { negative = negative; magnitude = magnitude; exponent = exponent } in
             SomeIff result (IsDecimal parts) parts }
@@ -38,13 +40,14 @@ impl Decimal {
             return None;
         }
         Some(Decimal {
-            negative,
-            magnitude,
+            magnitude: Halves::new(magnitude),
             exponent,
+            negative,
         })
     }
 
     /// Whether the coefficient has a minus; a zero may have one.
+    #[inline(always)]
     pub fn negative(self) -> bool
         ensures { result ≡ self.negative }
     {
@@ -52,14 +55,16 @@ impl Decimal {
     }
 
     /// The coefficient without its sign, below 2^127.
+    #[inline(always)]
     pub fn magnitude(self) -> u128
         ensures value { result ≡ self.magnitude }
         ensures kept { IsDecimal self }
     {
-        self.magnitude
+        self.magnitude.get()
     }
 
     /// The power of ten.
+    #[inline(always)]
     pub fn exponent(self) -> i32
         ensures { result ≡ self.exponent }
     {
@@ -71,7 +76,7 @@ impl Decimal {
         ensures { result ≡ decimal_same self other }
     {
         self.negative == other.negative
-            && self.magnitude == other.magnitude
+            && self.magnitude.get() == other.magnitude.get()
             && self.exponent == other.exponent
     }
 
@@ -82,6 +87,6 @@ impl Decimal {
         self.exponent
             .cmp(&other.exponent)
             .then(other.negative.cmp(&self.negative))
-            .then(self.magnitude.cmp(&other.magnitude))
+            .then(self.magnitude.get().cmp(&other.magnitude.get()))
     }
 }

@@ -7,6 +7,7 @@ mod compare;
 mod copy;
 mod decimal;
 mod equivalence;
+mod halves;
 mod kept;
 mod kind;
 pub mod laws;

@@ -9,12 +9,14 @@ ghost use Rattle.std.proofs.Common.{rules};
 ghost use Rattle.ion_model.specs.Symbols.{symbol_same, symbol_cmp};
 ghost use Rattle.ion_model.specs.Decimals.{decimal_cmp};
 ghost use Rattle.ion_model.specs.Order.{order};
-ghost use Rattle.ion_model.specs.EquivLaws.{symbol_same-equiv};
+ghost use Rattle.ion_model.specs.Timestamps.{timestamp_same};
+ghost use Rattle.ion_model.specs.EquivLaws.{symbol_same-equiv, timestamp_same-equiv};
 ghost use Rattle.ion_model.specs.OrderTotal.{symbol_ties, symbol_cmp-total, decimal_cmp-total, order-total};
 
 use crate::compare::order;
 use crate::decimal::Decimal;
 use crate::symbol::Symbol;
+use crate::timestamp::Timestamp;
 use crate::value::Value;
 use std::cmp::Ordering;
 use std::hash::{Hash, Hasher};
@@ -134,4 +136,18 @@ impl Ord for Decimal {
     fn cmp(&self, other: &Decimal) -> Ordering {
         self.order(*other)
     }
+}
+
+impl PartialEq for Timestamp {
+    ghost eq = { timestamp_same };
+
+    ghost laws = { partial_equiv_from_equiv timestamp_same-equiv };
+
+    fn eq(&self, other: &Timestamp) -> bool {
+        self.same(*other)
+    }
+}
+
+impl Eq for Timestamp {
+    ghost laws = { timestamp_same-equiv };
 }

@@ -6,6 +6,7 @@ ghost use Rattle.ion_model.specs.Calendar.{IsMinute, InYears, minute_number};
 ghost use Rattle.ion_model.specs.Timestamps.{TimestampParts, IsTimestamp, IsCut, IsOffset, HasOffset, minutes_ahead, precision_rank, local_same, timestamp_same, date_cmp, time_cmp, timestamp_cmp};
 
 use crate::calendar::{Date, Minute};
+use crate::halves::Halves;
 use std::cmp::Ordering;
 use std::marker::Model;
 
@@ -39,11 +40,18 @@ pub struct Local {
 
 /// A point in time with a precision, as a place shows it whose clock is ahead of UTC by the offset
 /// (Ion 1.0, "Timestamp").
-#[derive(Debug, Clone, Copy, PartialEq, Eq)]
+#[derive(Debug, Clone, Copy)]
 pub struct Timestamp {
-    local: Local,
-    precision: Precision,
+    // the local fields lie flat and by falling size, so that nothing is filled up between them
+    fraction: Halves,
+    year: u16,
     offset: Option<i16>,
+    precision: Precision,
+    month: u8,
+    day: u8,
+    hour: u8,
+    minute: u8,
+    second: u8,
 }
 
 impl Model for Timestamp {
@@ -51,11 +59,23 @@ impl Model for Timestamp {
 
     ghost Value = { TimestampParts };
 
-    ghost view = { λ t. record { local = t.local; precision = t.precision; offset = t.offset } };
+    ghost use Rattle.ion_model.specs.FlatTimestamps.{parts_of};
 
-    ghost invariant = { λ t. IsTimestamp (record { local = t.local; precision = t.precision; offset = t.offset }) };
+    ghost view = { parts_of };
 
-    ghost inverse = { λ t. record { local = t.local; precision = t.precision; offset = t.offset } };
+    ghost invariant = { λ t. IsTimestamp (parts_of t) };
+
+    ghost inverse = { λ t. record {
+      fraction = t.local.fraction;
+      year = t.local.year;
+      offset = t.offset;
+      precision = t.precision;
+      month = t.local.month;
+      day = t.local.day;
+      hour = t.local.hour;
+      minute = t.local.minute;
+      second = t.local.second;
+    } };
 }
 
 impl Timestamp {
@@ -85,9 +105,15 @@ impl Timestamp {
             return None;
         }
         Some(Timestamp {
-            local,
-            precision,
+            fraction: Halves::new(local.fraction),
+            year: local.year,
             offset,
+            precision,
+            month: local.month,
+            day: local.day,
+            hour: local.hour,
+            minute: local.minute,
+            second: local.second,
         })
     }
 
@@ -96,7 +122,15 @@ impl Timestamp {
         ensures value { result ≡ self.local }
         ensures kept { IsTimestamp self }
     {
-        self.local
+        Local {
+            year: self.year,
+            month: self.month,
+            day: self.day,
+            hour: self.hour,
+            minute: self.minute,
+            second: self.second,
+            fraction: self.fraction.get(),
+        }
     }
 
     /// How much of the point in time is known.
@@ -120,7 +154,7 @@ impl Timestamp {
     {
         self.precision.rank() == other.precision.rank()
             && same_offsets(self.offset, other.offset)
-            && self.local.same(other.local)
+            && self.local().same(other.local())
     }
 
     /// The order of timestamps: by precision (year first, fewer digits first), then the unknown offset
@@ -132,8 +166,8 @@ impl Timestamp {
             .rank()
             .cmp(&other.precision.rank())
             .then(order_offsets(self.offset, other.offset))
-            .then(self.local.order_date(other.local))
-            .then(self.local.order_time(other.local))
+            .then(self.local().order_date(other.local()))
+            .then(self.local().order_time(other.local()))
     }
 }
 

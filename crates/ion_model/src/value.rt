@@ -95,3 +95,10 @@ fn names_table(symbol: &Symbol) -> bool
         Some(text) => text == "$ion_symbol_table",
     }
 }
+
+// a reader makes a payload for each value, and moves it: what a variant fills up all of them carry
+const _: () = prove!(size_of::<Payload>() == 40);
+
+const _: () = prove!(size_of::<Value>() == 64);
+
+const _: () = prove!(size_of::<Field>() == 80);
