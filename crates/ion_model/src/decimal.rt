@@ -4,12 +4,13 @@ ghost use Rattle.ion_model.specs.Decimals.{DecimalParts, IsDecimal, decimal_same
 
 use crate::halves::Halves;
 use std::cmp::Ordering;
+use std::fmt::{self, Debug, Formatter};
 use std::marker::Model;
 
 /// A decimal: a coefficient of sign and magnitude, so that zero has two, and a power of ten that it
 /// is multiplied by (Ion 1.0, "Decimal"). Kept are magnitudes below 2^127 and exponents from -2^31 to
 /// 2^31-1. Numerically equal decimals of different exponents are different values.
-#[derive(Debug, Clone, Copy, PartialEq, Eq)]
+#[derive(Clone, Copy, PartialEq, Eq)]
 pub struct Decimal {
     magnitude: Halves,
     exponent: i32,
@@ -26,6 +27,16 @@ impl Model for Decimal {
     ghost invariant = { λ d. IsDecimal (record { negative = d.negative; magnitude = d.magnitude; exponent = d.exponent }) };
 
     ghost inverse = { λ d. record { negative = d.negative; magnitude = d.magnitude; exponent = d.exponent } };
+}
+
+impl Debug for Decimal {
+    fn fmt<W: fmt::Write>(&self, f: &mut Formatter<W>) -> fmt::Result {
+        f.debug_struct("Decimal")
+            .field("negative", &self.negative())
+            .field("magnitude", &self.magnitude())
+            .field("exponent", &self.exponent())
+            .finish()
+    }
 }
 
 impl Decimal {

@@ -6,7 +6,7 @@ use std::marker::Model;
 
 /// A number below 2^128, which contracts see as that number. A `u128` asks for an alignment of 16
 /// octets, which fills up what holds it; halves ask for 8.
-#[derive(Debug, Clone, Copy)]
+#[derive(Clone, Copy)]
 pub(crate) struct Halves {
     high: u64,
     low: u64,

@@ -8,6 +8,7 @@ ghost use Rattle.ion_model.specs.Timestamps.{TimestampParts, IsTimestamp, IsCut,
 use crate::calendar::{Date, Minute};
 use crate::halves::Halves;
 use std::cmp::Ordering;
+use std::fmt::{self, Debug, Formatter};
 use std::marker::Model;
 
 /// How much of a point in time is known (Ion 1.0, "Timestamp").
@@ -40,7 +41,7 @@ pub struct Local {
 
 /// A point in time with a precision, as a place shows it whose clock is ahead of UTC by the offset
 /// (Ion 1.0, "Timestamp").
-#[derive(Debug, Clone, Copy)]
+#[derive(Clone, Copy)]
 pub struct Timestamp {
     // the local fields lie flat and by falling size, so that nothing is filled up between them
     fraction: Halves,
@@ -76,6 +77,16 @@ impl Model for Timestamp {
       minute = t.local.minute;
       second = t.local.second;
     } };
+}
+
+impl Debug for Timestamp {
+    fn fmt<W: fmt::Write>(&self, f: &mut Formatter<W>) -> fmt::Result {
+        f.debug_struct("Timestamp")
+            .field("local", &self.local())
+            .field("precision", &self.precision())
+            .field("offset", &self.offset())
+            .finish()
+    }
 }
 
 impl Timestamp {
@@ -118,6 +129,7 @@ impl Timestamp {
     }
 
     /// The fields that the place's clock and calendar show.
+    #[inline(always)]
     pub fn local(self) -> Local
         ensures value { result ≡ self.local }
         ensures kept { IsTimestamp self }

@@ -5,10 +5,11 @@ ghost use Rattle.std.specs.Cmp.{int_eq_equiv, partial_equiv_from_equiv};
 ghost use Rattle.ion_model.specs.Ranges.{IsWhole};
 
 use crate::halves::Halves;
+use std::fmt::{self, Debug, Formatter};
 use std::marker::Model;
 
 /// An int of magnitude below 2^127, which contracts see as a whole number. Ion itself sets ints no bound.
-#[derive(Debug, Clone, Copy)]
+#[derive(Clone, Copy)]
 pub struct Whole {
     // the value in two's complement
     bits: Halves,
@@ -44,6 +45,12 @@ impl PartialEq for Whole {
 
 impl Eq for Whole {
     ghost laws = { int_eq_equiv };
+}
+
+impl Debug for Whole {
+    fn fmt<W: fmt::Write>(&self, f: &mut Formatter<W>) -> fmt::Result {
+        f.debug_struct("Whole").field("value", &self.get()).finish()
+    }
 }
 
 impl Whole {
