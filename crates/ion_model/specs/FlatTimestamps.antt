@@ -4,7 +4,15 @@ use Rattle.ion_model.specs.Timestamps.{TimestampParts}
 
 abbrev pub parts_of : Inside → TimestampParts
 parts_of t = record {
-  local = record { year = t.year; month = t.month; day = t.day; hour = t.hour; minute = t.minute; second = t.second; fraction = t.fraction };
+  local = record {
+    year = t.year;
+    month = t.month;
+    day = t.day;
+    hour = t.hour;
+    minute = t.minute;
+    second = t.second;
+    fraction = t.fraction;
+  };
   precision = t.precision;
   offset = t.offset;
 }

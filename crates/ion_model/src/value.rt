@@ -53,6 +53,13 @@ pub struct Field {
     pub value: Value,
 }
 
+// each value has room for the largest payload, and is moved on its way out of a reader
+const _: () = prove!(size_of::<Payload>() == 40);
+
+const _: () = prove!(size_of::<Value>() == 64);
+
+const _: () = prove!(size_of::<Field>() == 80);
+
 impl Value {
     /// The kind of the value; a null has the kind that it is the null of. Takes no memory.
     pub fn kind(&self) -> Kind
@@ -95,10 +102,3 @@ fn names_table(symbol: &Symbol) -> bool
         Some(text) => text == "$ion_symbol_table",
     }
 }
-
-// a reader makes a payload for each value, and moves it: what a variant fills up all of them carry
-const _: () = prove!(size_of::<Payload>() == 40);
-
-const _: () = prove!(size_of::<Value>() == 64);
-
-const _: () = prove!(size_of::<Field>() == 80);
