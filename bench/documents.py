@@ -1,9 +1,10 @@
 #!/usr/bin/env python3
-"""Writes two binary Ion documents to measure with: documents.py FOLDER [MEGABYTES].
+"""Writes three binary Ion documents to measure with: documents.py FOLDER [MEGABYTES].
 
 mixed.10n: structs of small values, as a log has them (a name from a local symbol table, ints, a decimal, a
-timestamp, a short string, a list of ints, an annotation here and there). blobs.10n: blobs of 1 MiB. Both are
-about MEGABYTES (usually 100) long. The octets are the same at each call.
+timestamp, a short string, a list of ints, an annotation here and there). small.10n: small values of every kind, one
+behind the other and in lists, with a local symbol table that adds a symbol behind every 600 or so. blobs.10n: blobs
+of 1 MiB. Each is about MEGABYTES (usually 100) long. The octets are the same at each call.
 """
 import random
 import sys
@@ -91,6 +92,51 @@ def entry(source, number):
     return annotated("service", value) if number % 7 == 0 else value
 
 
+def small(source, ids):
+    """A small value of some kind, that may name the ids up to this one."""
+    kind = source.randrange(12)
+    if kind == 0:
+        return bytes([source.choice([0x0F, 0x10, 0x11, 0x2F, 0x8F])])
+    if kind in (1, 2):
+        return whole(source.randrange(-(1 << source.randrange(1, 40)), 1 << source.randrange(1, 40)))
+    if kind == 3:
+        return framed(5, var_int(source.randrange(-9, 3)) + uint(source.randrange(1, 1 << 20)))
+    if kind == 4:
+        day = var_uint(1900 + source.randrange(200)) + var_uint(source.randrange(1, 13)) + var_uint(source.randrange(1, 28))
+        return framed(6, bytes([0xC0]) + day)
+    if kind in (5, 6):
+        return framed(7, uint(source.randrange(FIRST_ID, ids)))
+    if kind in (7, 8):
+        return text(source.choice(NAMES) * source.randrange(3))
+    if kind == 9:
+        return framed(source.choice([9, 10]), source.randbytes(source.randrange(9)))
+    if kind == 10:
+        return framed(source.choice([11, 12]), b"".join(small(source, ids) for _ in range(source.randrange(4))))
+    fields = (var_uint(source.randrange(FIRST_ID, ids)) + small(source, ids) for _ in range(source.randrange(4)))
+    value = framed(13, b"".join(fields))
+    names = var_uint(source.randrange(FIRST_ID, ids))
+    return value if source.randrange(2) else framed(14, var_uint(len(names)) + names + value)
+
+
+def one_more(name):
+    """A local symbol table that adds this symbol to those before."""
+    imports = var_uint(6) + bytes([0x71, 0x03])
+    ids = var_uint(3)
+    return framed(14, var_uint(len(ids)) + ids + framed(13, imports + var_uint(7) + framed(11, text(name))))
+
+
+def put_small(out, size):
+    source = random.Random(2)
+    written = out.write(MARKER + table())
+    ids, number = FIRST_ID + len(NAMES), 0
+    while written < size:
+        written += out.write(small(source, ids))
+        number += 1
+        if number % 600 == 0:
+            written += out.write(one_more(f"name_{number}"))
+            ids += 1
+
+
 def main():
     folder = sys.argv[1]
     size = int(sys.argv[2] if len(sys.argv) > 2 else "100") * 1000 * 1000
@@ -101,6 +147,8 @@ def main():
         while written < size:
             written += out.write(entry(source, number))
             number += 1
+    with open(folder + "/small.10n", "wb") as out:
+        put_small(out, size)
     with open(folder + "/blobs.10n", "wb") as out:
         written = out.write(MARKER)
         while written < size:

@@ -1,5 +1,5 @@
 -- What is so behind a step.
-use Rattle.std.proofs.Common.{◌≡◌, ℕ, ◌+◌, List, [], ◌∷◌, ◌++◌, length, take, drop, ap, sym, subst, ◌∙◌, arith, Result, Ok, Err, Option, Some, None, IfOk, length-append, append-nil, append_assoc}
+use Rattle.std.proofs.Common.{◌≡◌, ℕ, ◌+◌, List, [], ◌∷◌, ◌++◌, length, take, drop, ap, sym, subst, ◌∙◌, arith, Result, Ok, Err, Option, Some, None, IfOk, IfSome, length-append, append-nil, append_assoc}
 use Rattle.std.proofs.lemmas.Grind.{common_steps}
 use Rattle.std.proofs.lemmas.List.{length-take-le, take-append-drop}
 use Rattle.ion_model.specs.declared.value.Value.{Value}
@@ -13,7 +13,7 @@ use Rattle.ion_binary.specs.Machine.{Machine, initial}
 use Rattle.ion_binary.specs.Run.{Run, run, trace, trace_of, Advances}
 use Rattle.ion_binary.specs.Runs.{run-append, then_run}
 use Rattle.ion_binary.specs.Laws.{grows}
-use Rattle.ion_binary.specs.Views.{machine_of, Stands, SameSetting}
+use Rattle.ion_binary.specs.Views.{machine_of, run_of, Stands, SameSetting}
 
 -- behind u the values s were given, and the machine is m
 abbrev Ran : Catalog → Limits → List ℕ → List (Value × ℕ) → Machine → Type 0
@@ -83,3 +83,17 @@ step_stands old new piece (Ok step) advances counts setting = λ u s h.
           (subst (λ (l : Limits). Ran old.catalog.now l octets given (machine_of new)) (sym setting.limits)
           (ran_further old.catalog.now old.limits old.used u s (machine_of old) (machine_of new) piece step.used step.value h.counted h.ran advances));
     }
+
+-- two readers stand for the octets of a value that each took up, too
+pub both_stand : (old new other later : BinaryReader) (piece beside : List ℕ) (r : Option (ℕ × ℕ)) →
+    IfSome r (λ n. (v : Value) × Advances old.used (run_of old) piece (Ok (record { used = n.0; value = Some v })) (machine_of new)
+    × Advances other.used (run_of other) beside (Ok (record { used = n.1; value = Some v })) (machine_of later)) →
+    IfSome r (λ n. new.used ≡ old.used + n.0) → IfSome r (λ n. later.used ≡ other.used + n.1) → SameSetting old new → SameSetting other later →
+    IfSome r (λ n. (v : Value) × ((u : List ℕ) (s : List (Value × ℕ)) → Stands old u s → Stands new (u ++ take n.0 piece) (s ++ (v, length u + n.0) ∷ []))
+    × ((u : List ℕ) (s : List (Value × ℕ)) → Stands other u s → Stands later (u ++ take n.1 beside) (s ++ (v, length u + n.1) ∷ [])))
+both_stand old new other later piece beside None gives used other_used setting other_setting = tt
+both_stand old new other later piece beside (Some n) gives used other_used setting other_setting = (
+  gives.0,
+  step_stands old new piece (Ok (record { used = n.0; value = Some gives.0 })) gives.1 used setting,
+  step_stands other later beside (Ok (record { used = n.1; value = Some gives.0 })) gives.2 other_used other_setting,
+)

@@ -11,3 +11,4 @@ pub mod Fronts
 pub mod Wholes
 pub mod Slotted
 pub mod Walks
+pub mod Alikes

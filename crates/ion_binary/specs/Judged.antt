@@ -16,7 +16,7 @@ use Rattle.ion_scalar.specs.Fields.{positional, uint_field}
 use Rattle.ion_symtab.specs.Slots.{Slot, resolve}
 use Rattle.ion_binary.specs.declared.form.Scalar.{Scalar}
 use Rattle.ion_binary.specs.declared.form.Scalar.TheVariants as scalars
-use Rattle.ion_scalar.specs.Reads.{ReadsDecimal}
+use Rattle.ion_scalar.specs.Reads.{ReadsDecimalBody}
 use Rattle.ion_scalar.specs.DecimalField.{decimal_of_body}
 use Rattle.ion_scalar.specs.DecimalLaws.{decimal_read, decimal_answers}
 use Rattle.ion_scalar.specs.TimestampField.{timestamp_of_body}
@@ -51,7 +51,7 @@ uint_sound n (Ok m) k p e f h =
     (ltb-true n (2 ^ 127) q.0, ap k q.1 ∙ h)
 uint_sound n (Err x) k p e f h = let i = f x in absurd cc
 
-pub decimal_sound : (c : List Slot) (body : List ℕ) (p : Payload) (r : Result DecimalParts Reason) → ReadsDecimal body r → as_decimal r ≡ Ok p → IsScalar c body scalars.Decimal p
+pub decimal_sound : (c : List Slot) (body : List ℕ) (p : Payload) (r : Result DecimalParts Reason) → ReadsDecimalBody body r → as_decimal r ≡ Ok p → IsScalar c body scalars.Decimal p
 decimal_sound c body p (Ok d) e h = let i : payloads.Decimal d ≡ p = cc in subst (IsScalar c body scalars.Decimal) i (is_decimal d e.0 e.1)
 decimal_sound c body p (Err x) e h = absurd cc
 

@@ -20,6 +20,7 @@ pub mod StandsLaws
 pub mod Bulk
 pub mod Framed
 pub mod Walked
+pub mod Alike
 pub mod Output
 pub mod Ids
 pub mod OutputLaws

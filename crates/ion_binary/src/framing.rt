@@ -128,6 +128,20 @@ pub(crate) fn put_truth(truth: bool, out: &mut Vec<u8>) -> Result<(), Fault>
     Ok(())
 }
 
+/// Appends a magnitude behind the descriptor of a type code.
+#[inline(always)]
+fn put_magnitude(code: u8, magnitude: u128, out: &mut Vec<u8>) -> Result<(), Fault>
+    requires code { code < 16 }
+    requires magnitude { magnitude < 2 ^ 127 }
+    ensures ok { OnOk result (out.new.items ≡ out.old.items ++ framed code (uint_octets magnitude)) }
+    ensures memory { IsOkUnless result faults.Memory }
+{
+    let place = out.len();
+    out.push(0)?;
+    put_uint(magnitude, out).map_err(|_| Fault::Memory)?;
+    frame(code, place, out)
+}
+
 /// Appends an int, of which the type code has the sign.
 #[inline(never)]
 pub(crate) fn put_whole(whole: Whole, out: &mut Vec<u8>) -> Result<(), Fault>
@@ -135,10 +149,8 @@ pub(crate) fn put_whole(whole: Whole, out: &mut Vec<u8>) -> Result<(), Fault>
     ensures memory { IsOkUnless result faults.Memory }
 {
     let value = whole.get();
-    let place = out.len();
-    out.push(0)?;
-    put_uint(value.unsigned_abs(), out).map_err(|_| Fault::Memory)?;
-    frame(if value < 0 { 3 } else { 2 }, place, out)
+    let magnitude = value.unsigned_abs();
+    put_magnitude(if value < 0 { 3 } else { 2 }, magnitude, out)
 }
 
 /// Appends a decimal.
@@ -177,8 +189,5 @@ pub(crate) fn put_symbol(
     ensures memory { IsOkUnless result faults.Memory }
 {
     let id = names.id_of(guesses, symbol)?;
-    let place = out.len();
-    out.push(0)?;
-    put_uint(id as u128, out).map_err(|_| Fault::Memory)?;
-    frame(7, place, out)
+    put_magnitude(7, u128::from(id), out)
 }

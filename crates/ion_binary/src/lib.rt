@@ -1,6 +1,7 @@
 //! Binary documents of Amazon Ion 1.0 (Ion 1.0, "Ion Binary Encoding").
 #![tactic(auto)]
 
+mod alike;
 mod encoding;
 mod form;
 mod framing;

@@ -68,7 +68,7 @@ impl Tally {
 
 /// Whether a body is this scalar (Ion 1.0, "Ion Binary Encoding", typed value formats).
 #[inline(always)]
-fn is_scalar(context: &Context, scalar: Scalar, body: &[u8]) -> bool
+pub(crate) fn is_scalar(context: &Context, scalar: Scalar, body: &[u8]) -> bool
     ensures { result ≡ true → WalkedScalar context.now scalar body.now }
 {
     match scalar {
@@ -140,7 +140,7 @@ fn is_text(body: &[u8]) -> bool
 }
 
 /// Whether a symbol is the name of local symbol tables.
-fn names_table(symbol: &Symbol) -> bool
+pub(crate) fn names_table(symbol: &Symbol) -> bool
     ensures { result ≡ names_table symbol.now }
 {
     match symbol.text() {

@@ -3,6 +3,7 @@ pub mod Endings
 pub mod Steps
 pub mod Passes
 pub mod Courses
+pub mod Alongside
 pub mod Chosen
 pub mod Fronts
 pub mod Verdicts

@@ -12,6 +12,7 @@ pub mod Reached
 pub mod Courses
 pub mod Chosen
 pub mod Alike
+pub mod Alongside
 pub mod DocStands
 pub mod DocLaws
 pub mod DocReaders

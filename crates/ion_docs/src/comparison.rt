@@ -1,8 +1,10 @@
 //! Whether two documents have equivalent streams.
-ghost use Rattle.std.specs.Prelude.{◌≡◌, ℕ, ◌+◌, ◌^◌, ◌<◌, ◌≤◌, ◌⊎◌, [], IfOk, IfErr, MatchResult};
+ghost use Rattle.std.specs.Prelude.{◌≡◌, ℕ, ◌+◌, ◌^◌, ◌<◌, ◌≤◌, ◌⊎◌, [], true, false, IfOk, IfErr, MatchResult};
 ghost use Rattle.ion_symtab.specs.Cause.{IsReadCause};
+ghost use Rattle.ion_docs.specs.Alongside.{GoAlike};
 ghost use Rattle.ion_docs.specs.Formats.{format_of};
-ghost use Rattle.ion_docs.specs.Reading.{IsFresh};
+ghost use Rattle.ion_docs.specs.Place.{IfOpen};
+ghost use Rattle.ion_docs.specs.Reading.{IsFresh, IsReady};
 ghost use Rattle.ion_docs.specs.Compared.{IsCompared};
 ghost use Rattle.ion_docs.specs.Courses.{IsMet, count_of, verdict_of};
 
@@ -115,29 +117,57 @@ fn ended_first(alloc: Global, index: u64) -> Course
     }
 }
 
+/// Goes past the next value of both documents, where they are open, were the same so far, and have values
+/// there that are seen to be the same where they lie.
+fn go_alike<I: Items + Drop>(
+    course: &mut Course,
+    left: &mut Place<I>,
+    right: &mut Place<I>,
+) -> bool
+    requires left { IfOpen left.old (IsReady I.Items) }
+    requires right { IfOpen right.old (IsReady I.Items) }
+    requires room { count_of course.old + 1 < 2 ^ 64 }
+    ensures goes { result ≡ true →
+        GoAlike I.Items course.old course.new left.old left.new right.old right.new }
+    ensures stays { result ≡ false →
+        (course.new ≡ course.old) × (left.new ≡ left.old) × (right.new ≡ right.old) }
+{
+    match (course, left, right) {
+        (Course::Alike { values }, Place::Open(left), Place::Open(right)) => {
+            if !left.pass_alike(right) {
+                return false;
+            }
+            *values += 1;
+            true
+        }
+        _ => false,
+    }
+}
+
 /// Whether two documents have equivalent streams: the octets of `left` are read by `left_items`, those
 /// of `right` by `right_items`, each device in at most `reads` calls.
 ///
 /// `Equivalent` where both are documents and the streams are equivalent (Ion 1.0, "The Ion Data
 /// Model"), `Different` where both are and the streams part, with the path to where the two values
 /// there part, `Refused` for the left side where that is no document, else for the right one. One
-/// value of each is read in turn. A refused left side is
+/// value of each is read in turn; those that the readers see to be the same where they lie aren't built
+/// (`Items::pass_alike`). A refused left side is
 /// answered at once; after the streams parted, or the right side was refused, both are read to the
 /// end, since the left side may still be refused. Faults are `Memory`, `Read` and `TooManyReads`.
-pub fn compare_items<I: Items + Drop, J: Items + Drop, L: Inlet, R: Inlet>(
+pub fn compare_items<I: Items + Drop, L: Inlet, R: Inlet>(
     alloc: Global,
     reads: u64,
     left_items: I,
     left: &mut L,
-    right_items: J,
+    right_items: I,
     right: &mut R,
 ) -> Result<Verdict, Fault>
     requires left { IsFresh I.Items left_items }
-    requires right { IsFresh J.Items right_items }
+    requires right { IsFresh I.Items right_items }
     requires reads { reads ≤ 2 ^ 32 }
     ensures verdict { IfOk result (IsCompared L.Inlet R.Inlet
         (format_of I.Items (I.catalog left_items) (I.limits left_items))
-        (format_of J.Items (J.catalog right_items) (J.limits right_items))
+        (format_of I.Items (I.catalog right_items) (I.limits right_items))
         left.old left.new right.old right.new) }
     ensures cause { IfErr result (λ fault.
         IsReadCause L.Inlet reads left.old left.new fault
@@ -147,6 +177,9 @@ pub fn compare_items<I: Items + Drop, J: Items + Drop, L: Inlet, R: Inlet>(
     let mut right_place = Place::Open(Source::new(alloc, right_items, reads)?);
     let mut course = Course::Alike { values: 0 };
     loop {
+        if go_alike(&mut course, &mut left_place, &mut right_place) {
+            continue;
+        }
         let (left_now, left_value) = advance(left_place, left)?;
         if let Place::Refused(refusal) = left_now {
             return Ok(Verdict::Refused {

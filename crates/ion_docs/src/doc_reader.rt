@@ -206,6 +206,20 @@ impl Items for DocReader<'_> {
         }
     }
 
+    fn pass_alike(
+        &mut self,
+        piece: &[u8],
+        other: &mut Self,
+        beside: &[u8],
+    ) -> Option<(usize, usize)> {
+        match (&mut self.format, &mut other.format) {
+            (Format::Binary(reader), Format::Binary(other)) => {
+                reader.pass_alike(piece, other, beside)
+            }
+            _ => None,
+        }
+    }
+
     fn finish(self) -> Result<Option<Value>, Refusal> {
         match self.format {
             Format::Unbegun => Ok(None),

@@ -15,6 +15,7 @@ use ion_model::{Reason, Refusal, Value};
 use ion_symtab::{Fault, Inlet, Items, Step};
 use std::alloc::Global;
 
+mod alike;
 mod passing;
 
 pub(crate) use passing::{Reached, pass_all};

@@ -10,7 +10,7 @@ use Rattle.ion_model.specs.Timestamps.{TimestampParts, minutes_ahead}
 use Rattle.ion_scalar.specs.declared.fields.Signed.{Signed}
 use Rattle.ion_scalar.specs.declared.timestamp_body.Utc.{Utc}
 use Rattle.ion_scalar.specs.Fields.{var_uint, var_int, int_negative, int_magnitude}
-use Rattle.ion_scalar.specs.Reads.{ReadsDecimal}
+use Rattle.ion_scalar.specs.Reads.{ReadsDecimalBody}
 use Rattle.ion_scalar.specs.DecimalField.{decimal_of_body}
 use Rattle.ion_scalar.specs.DecimalLaws.{decimal_answers}
 use Rattle.ion_scalar.specs.Shifted.{day_of, moved}
@@ -127,7 +127,7 @@ pub timestamp_judges : (body : List ℕ) → JudgesBody (timestamp_of_body body)
 unfolding timestamp_of_body
 timestamp_judges body = with_offset_judges body (read_offset body) (offset_judges body)
 
-answer_judges : (body : List ℕ) (r : Result DecimalParts Reason) → ReadsDecimal body r → JudgesBody r
+answer_judges : (body : List ℕ) (r : Result DecimalParts Reason) → ReadsDecimalBody body r → JudgesBody r
 answer_judges body (Ok d) h = tt
 answer_judges body (Err reasons.TooLarge) h = tt
 answer_judges body (Err reasons.Malformed) h = tt

@@ -10,14 +10,14 @@ use Rattle.std.proofs.Math.Seq.{drop-append_seam}
 use Rattle.std.proofs.lemmas.List.{take-append-drop}
 use Rattle.std.proofs.lemmas.Int.{ints}
 use Rattle.ion_model.specs.declared.refusal.Reason.{Reason}
-use Rattle.ion_model.specs.declared.refusal.Reason.TheVariants.{TooLarge, Incomplete}
+use Rattle.ion_model.specs.declared.refusal.Reason.TheVariants.{TooLarge, Malformed, Incomplete}
 use Rattle.ion_scalar.specs.declared.fields.Signed.{Signed}
 use Rattle.ion_scalar.specs.Fields.{VarInt, short, long, var_int, int_negative, int_magnitude, signed_of}
 use Rattle.ion_model.specs.Decimals.{DecimalParts, IsDecimal}
 use Rattle.ion_scalar.specs.Decimals.{signed}
-use Rattle.ion_scalar.specs.DecimalField.{IsDecimalField, exponent_fits, decimal_with, with_coefficient, with_power, decimal_of_body}
-use Rattle.ion_scalar.specs.Reads.{ReadsDecimal, BeginsWithInt, ReadsVarInt}
-use Rattle.ion_scalar.specs.VarIntLaws.{var_int_read, var_int_answers}
+use Rattle.ion_scalar.specs.DecimalField.{IsDecimalParts, IsDecimalField, exponent_fits, decimal_with, with_coefficient, with_power, decimal_of_body}
+use Rattle.ion_scalar.specs.Reads.{ReachesInt, ReadsDecimalBody, BeginsWithInt, ReadsVarInt}
+use Rattle.ion_scalar.specs.VarIntLaws.{var_int_read, var_int_reaches, var_int_goes_on, var_int_answers}
 
 abbrev InRange : ℤ → Type 0
 InRange e = (neg_ℤ (pos (2 ^ 31)) ≤ℤ e) × (e <ℤ pos (2 ^ 31))
@@ -56,18 +56,24 @@ nothing : decimal_of_body [] ≡ Ok (decimal_with false 0 (pos 0))
 unfolding decimal_of_body
 nothing = refl
 
+-- a body with an exponent is judged by it and by the rest
+parts_judged : (body : List ℕ) (d : DecimalParts) (is : IsDecimalParts body d) → decimal_of_body body ≡ with_coefficient (signed_of is.below is.written) is.coefficient
+parts_judged body d is =
+    let whole = begins_so (is.power ++ is.coefficient) (not_empty is.power is.coefficient is.below is.written is.is_power) in
+    let power = var_int_read is.power is.coefficient is.below is.written is.is_power in
+    let judged : with_power (is.power ++ is.coefficient) (var_int (is.power ++ is.coefficient)) ≡ with_coefficient (signed_of is.below is.written) is.coefficient =
+    ap (with_power (is.power ++ is.coefficient)) power ∙ rw (drop-append_seam is.power is.coefficient) refl in
+    ap decimal_of_body is.octets ∙ (whole ∙ judged)
+
 parts_read : (body : List ℕ) (negative : Bool) (m : ℕ) (e : ℤ) → IsDecimalField body (decimal_with negative m e) → IsDecimal (decimal_with negative m e) → decimal_of_body body ≡ Ok (decimal_with negative m e)
 parts_read body negative m e (inl d) k = rw (d.0, d.1, d.2, d.3) nothing
 parts_read body negative m e (inr d) k =
-    let whole : decimal_of_body (d.power ++ d.coefficient) ≡ with_power (d.power ++ d.coefficient) (var_int (d.power ++ d.coefficient)) =
-    begins_so (d.power ++ d.coefficient) (not_empty d.power d.coefficient d.below d.written d.is_power) in
-    let power = var_int_read d.power d.coefficient d.below d.written d.is_power in
     let at_most : InRange e = (k.1, k.2) in
     let range : InRange (signed d.below d.written) = rw d.exponent at at_most in
     let few : int_magnitude d.coefficient < 2 ^ 127 = rw d.magnitude at k.0 in
     let read : with_coefficient (signed_of d.below d.written) d.coefficient ≡ Ok (decimal_with (int_negative d.coefficient) (int_magnitude d.coefficient) (signed d.below d.written)) =
     rw (fits d.below d.written range, lt-ltb (int_magnitude d.coefficient) (2 ^ 127) few) refl in
-    rw (d.octets, d.sign, d.magnitude, d.exponent) (whole ∙ (ap (with_power (d.power ++ d.coefficient)) power ∙ rw (drop-append_seam d.power d.coefficient) read))
+    rw (d.sign, d.magnitude, d.exponent) (parts_judged body _ d ∙ read)
 
 -- a body that is a decimal which is kept is read as it
 pub decimal_read : (body : List ℕ) (d : DecimalParts) → IsDecimalField body d → IsDecimal d → decimal_of_body body ≡ Ok d
@@ -87,7 +93,7 @@ module _ (body : List ℕ) (power : Signed) (used : ℕ) (b : BeginsWithInt body
     magnitude = refl;
   })
 
-  behind : ReadsDecimal body (with_coefficient power (drop used body))
+  behind : ReadsDecimalBody body (with_coefficient power (drop used body))
   behind =
       elim (tested power.negative power.magnitude) [
         | inl fit ↦ elim (cases_lt (int_magnitude (drop used body)) (2 ^ 127)) [
@@ -97,17 +103,40 @@ module _ (body : List ℕ) (power : Signed) (used : ℕ) (b : BeginsWithInt body
         | inr unfit ↦ rw unfit.0 (inl (_, parts, λ k. unfit.1 (k.1, k.2)))
       ]
 
-answers : (body : List ℕ) (r : Result (Signed × ℕ) Reason) → body ≢ [] → ReadsVarInt body r → ReadsDecimal body (with_power body r)
+answers : (body : List ℕ) (r : Result (Signed × ℕ) Reason) → body ≢ [] → ReadsVarInt body r → ReadsDecimalBody body (with_power body r)
 answers body (Ok read) some a = behind body read.0 read.1 a
 answers body (Err TooLarge) some a = inr a
 answers body (Err Incomplete) some a = (some, a)
 answers body (Err _) some a = absurd a
 
 -- each answer of reading a decimal's body says what the body is
-pub decimal_answers : (body : List ℕ) → ReadsDecimal body (decimal_of_body body)
+pub decimal_answers : (body : List ℕ) → ReadsDecimalBody body (decimal_of_body body)
 unfolding decimal_of_body
 decimal_answers [] = (inl (refl, refl, refl, refl), (omega arith, omega (arith, ints), omega (arith, ints)))
 decimal_answers (octet ∷ rest) = answers (octet ∷ rest) (var_int (octet ∷ rest)) (λ e. absurd cc) (var_int_answers (octet ∷ rest))
+
+-- and no other answer says so
+decimal_large : (body : List ℕ) (d : DecimalParts) → IsDecimalField body d → (IsDecimal d → ⊥) → decimal_of_body body ≡ Err TooLarge
+decimal_large body d (inl none) unkept = absurd (unkept (omega (arith, none.2), omega (arith, ints, none.3), omega (arith, ints, none.3)))
+decimal_large body d (inr is) unkept =
+    parts_judged body d is ∙ elim (tested is.below is.written) [
+      | inl fit ↦ elim (cases_lt (int_magnitude is.coefficient) (2 ^ 127)) [
+        | inl small ↦ absurd (unkept (rw is.magnitude small, rw is.exponent fit.1.0, rw is.exponent fit.1.1))
+        | inr large ↦ rw (fit.0, le-ltb (int_magnitude is.coefficient) (2 ^ 127) large) refl
+      ]
+      | inr unfit ↦ rw unfit.0 refl
+    ]
+
+endless : (body : List ℕ) → ReachesInt body → decimal_of_body body ≡ Err TooLarge
+endless [] r = absurd r
+endless (octet ∷ rest) r = begins_so (octet ∷ rest) (λ e. absurd cc) ∙ ap (with_power (octet ∷ rest)) (var_int_reaches (octet ∷ rest) r)
+
+pub decimal_only : (body : List ℕ) (answer : Result DecimalParts Reason) → ReadsDecimalBody body answer → decimal_of_body body ≡ answer
+decimal_only body (Ok d) (is, kept) = decimal_read body d is kept
+decimal_only body (Err TooLarge) (inl (d, is, unkept)) = decimal_large body d is unkept
+decimal_only body (Err TooLarge) (inr r) = endless body r
+decimal_only body (Err Malformed) (some, open_exponent) = begins_so body some ∙ ap (with_power body) (var_int_goes_on body open_exponent)
+decimal_only body (Err _) a = absurd a
 
 -- the sign and the magnitude of an exponent
 power_is : (e : ℤ) → signed (int_lt e (pos 0)) (unsigned_abs e) ≡ e

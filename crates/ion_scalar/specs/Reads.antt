@@ -52,9 +52,10 @@ ReadsVarInt octets (Err TooLarge) = ReachesInt octets
 ReadsVarInt octets (Err Incomplete) = GoesOnInt octets
 ReadsVarInt octets (Err _) = ⊥
 
--- of the body of a decimal: which decimal it is, and whether that is kept; else an exponent that reaches 2^63, or has no end
-abbrev pub ReadsDecimal : List ℕ → Result DecimalParts Reason → Type 0
-ReadsDecimal body (Ok d) = IsDecimalField body d × IsDecimal d
-ReadsDecimal body (Err TooLarge) = ((d : DecimalParts) × IsDecimalField body d × (IsDecimal d → ⊥)) ⊎ ReachesInt body
-ReadsDecimal body (Err Malformed) = (body ≢ []) × GoesOnInt body
-ReadsDecimal body (Err _) = ⊥
+-- of the body of a decimal: the decimal that it is, which is kept; `TooLarge` for one that is not kept, and for an exponent that reaches 2^63;
+-- `Malformed` for an exponent that has no end
+abbrev pub ReadsDecimalBody : List ℕ → Result DecimalParts Reason → Type 0
+ReadsDecimalBody body (Ok d) = IsDecimalField body d × IsDecimal d
+ReadsDecimalBody body (Err TooLarge) = ((d : DecimalParts) × IsDecimalField body d × (IsDecimal d → ⊥)) ⊎ ReachesInt body
+ReadsDecimalBody body (Err Malformed) = (body ≢ []) × GoesOnInt body
+ReadsDecimalBody body (Err _) = ⊥

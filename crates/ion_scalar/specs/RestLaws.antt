@@ -64,6 +64,18 @@ rest_reaches front used os r =
     let value : groups front (take (i + 1) whole) ≡ positional 128 (front ∷ r.digits ++ seven_bits r.octet ∷ []) = rw (cut, seven_bits_push r.digits r.octet r.small) refl in
     subst (λ (xs : List ℕ). var_rest front used xs ≡ Err TooLarge) (sym r.cut) (too_large_at front used whole i within on (rw value r.large))
 
+-- digits that stay below 2^63, and that no octet ends, are the beginning of a number
+pub rest_goes_on : (front used : ℕ) (os : List ℕ) → GoesOn front os → var_rest front used os ≡ Err Incomplete
+rest_goes_on front used os g =
+    let p = position_or_len is_last os in
+    let none_ends : length os ≤ p = elim (cases_lt p (length os)) [
+      | inl lt ↦ absurd (omega (arith, leb-true 128 _ (passes_at_first is_last os 0 lt), digits_below os g.small p lt))
+      | inr le ↦ le
+    ] in
+    let all : up_to_last os ≡ os = take_all (p + 1) os (omega arith) in
+    let small : groups front (up_to_last os) < 2 ^ 63 = rw (all, digits_seven os g.small) g.bound in
+    rw (lt-leb (2 ^ 63) (groups front (up_to_last os)) small, le-ltb p (length os) none_ends) refl
+
 go_on : (os : List ℕ) → GoOn os (position_or_len is_last os)
 go_on os k h = leb-false 128 (get_or os k 0) (fails_before_first is_last os k 0 h)
 

@@ -271,3 +271,16 @@ answer_is body (Err _) e = elim (body_err body _ e) [
 
 pub timestamp_answers : (body : List ℕ) → ReadsTimestampBody body (timestamp_of_body body)
 timestamp_answers body = answer_is body (timestamp_of_body body) refl
+
+-- and no other answer says so
+neither : (body : List ℕ) (answer : Result TimestampParts Reason) → ReadsTimestampBody body answer → ReadsTimestampBody body (Err Malformed) → answer ≡ Err Malformed
+neither body (Ok t) is none = absurd (none.0 t is)
+neither body (Err TooLarge) large none = absurd (none.1 large)
+neither body (Err Malformed) a none = refl
+neither body (Err _) a none = absurd a
+
+pub timestamp_only : (body : List ℕ) (answer : Result TimestampParts Reason) → ReadsTimestampBody body answer → timestamp_of_body body ≡ answer
+timestamp_only body (Ok t) is = timestamp_read body t is
+timestamp_only body (Err TooLarge) large = body_large body large
+timestamp_only body (Err Malformed) none = neither body (timestamp_of_body body) (timestamp_answers body) none
+timestamp_only body (Err _) a = absurd a

@@ -6,8 +6,8 @@ use Rattle.ion_model.specs.declared.refusal.Reason.{Reason}
 use Rattle.ion_model.specs.declared.refusal.Reason.TheVariants.{TooLarge, Incomplete}
 use Rattle.ion_scalar.specs.declared.fields.Signed.{Signed}
 use Rattle.ion_scalar.specs.Fields.{positional, VarInt, short, long, seven_bits, six_bits, is_negative, with_sign, signed_of, var_rest, var_int}
-use Rattle.ion_scalar.specs.Reads.{BeginsWithInt, ReachesInt, ReadsVarInt}
-use Rattle.ion_scalar.specs.RestLaws.{Ended, ReadsRest, rest_read, rest_reaches, rest_answers}
+use Rattle.ion_scalar.specs.Reads.{BeginsWithInt, ReachesInt, GoesOnInt, ReadsVarInt}
+use Rattle.ion_scalar.specs.RestLaws.{Ended, ReadsRest, rest_read, rest_reaches, rest_goes_on, rest_answers}
 
 module _ (octet : ℕ) (rest : List ℕ) where
   pick : Bool → Result (Signed × ℕ) Reason
@@ -61,3 +61,7 @@ var_int_answers (octet ∷ rest) =
 pub var_int_reaches : (os : List ℕ) → ReachesInt os → var_int os ≡ Err TooLarge
 var_int_reaches [] r = absurd r
 var_int_reaches (octet ∷ rest) (low, r) = goes_on octet rest low ∙ ap (with_sign (is_negative octet)) (rest_reaches (six_bits octet) 1 rest r)
+
+pub var_int_goes_on : (os : List ℕ) → GoesOnInt os → var_int os ≡ Err Incomplete
+var_int_goes_on [] g = refl
+var_int_goes_on (octet ∷ rest) (low, g) = goes_on octet rest low ∙ ap (with_sign (is_negative octet)) (rest_goes_on (six_bits octet) 1 rest g)

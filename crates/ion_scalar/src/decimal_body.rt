@@ -1,5 +1,7 @@
 //! The bodies of decimals in binary (Ion 1.0, "Ion Binary Encoding", decimal).
-ghost use Rattle.std.specs.Prelude.{◌≡◌, ◌<◌, ◌^◌, IsTrue, SomeIff};
+ghost use Rattle.std.specs.Prelude.{Result, ◌≡◌, ◌<◌, ◌^◌, IsTrue, SomeIff};
+ghost use Rattle.ion_model.specs.Decimals.{DecimalParts};
+ghost use Rattle.ion_scalar.specs.Reads.{ReadsDecimalBody};
 ghost use Rattle.ion_scalar.specs.Decimals.{signed};
 ghost use Rattle.ion_scalar.specs.DecimalField.{decimal_of_body, decimal_with, with_coefficient, exponent_fits};
 
@@ -12,8 +14,17 @@ use ion_model::{Decimal, Reason};
 /// Answers `TooLarge` for an exponent outside -2^31 to 2^31-1, also one that reaches 2^63 and has no end, and for a coefficient
 /// whose magnitude is 2^127 or more; `Malformed` where the exponent does not end. These bounds are this project's.
 /// Takes no memory.
-#[tactic(auto, unfolding(crate::specs::DecimalField::decimal_of_body))]
 pub fn decimal_of(octets: &[u8]) -> Result<Decimal, Reason>
+    ensures value { result ≡ decimal_of_body octets.now }
+    ensures answer { ReadsDecimalBody octets.now result }
+    ensures only { (answer : Result DecimalParts Reason)
+        → ReadsDecimalBody octets.now answer → result ≡ answer }
+{
+    read_decimal(octets)
+}
+
+#[tactic(auto, unfolding(crate::specs::DecimalField::decimal_of_body))]
+fn read_decimal(octets: &[u8]) -> Result<Decimal, Reason>
     ensures { result ≡ decimal_of_body octets.now }
 {
     if octets.is_empty() {

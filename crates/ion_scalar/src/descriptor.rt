@@ -34,6 +34,7 @@ impl Descriptor {
     /// Answers `Float` for a float that isn't null, and `Malformed` for an octet that the table has no row for.
     /// Which descriptors may stand where, as octet 30, E0 or a wrapper in a wrapper, is not judged here.
     #[tactic(auto, unfolding(crate::specs::Descriptor::descriptor_of))]
+    #[inline(always)]
     pub fn of(octet: u8) -> Result<Descriptor, Reason>
         ensures { result ≡ descriptor_of octet }
     {
@@ -42,6 +43,7 @@ impl Descriptor {
 }
 
 /// The row of a type code and a length code, each of four bits.
+#[inline(always)]
 fn of_codes(tag: u8, length: u8) -> Result<Descriptor, Reason>
     requires tag { tag < 16 }
     requires length { length < 16 }
@@ -76,6 +78,7 @@ fn of_codes(tag: u8, length: u8) -> Result<Descriptor, Reason>
     }
 }
 
+#[inline(always)]
 fn size_of(length: u8) -> Size
     ensures { result ≡ size length }
 {
@@ -86,6 +89,7 @@ fn size_of(length: u8) -> Size
     }
 }
 
+#[inline(always)]
 fn kind_of(tag: u8) -> Kind
     ensures { result ≡ kind tag }
 {

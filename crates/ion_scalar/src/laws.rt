@@ -1,7 +1,7 @@
 //! What the definitions that this crate's contracts name have to do with the specification. A law is called for its clause alone.
 ghost use Rattle.std.specs.Prelude.{◌≡◌, ◌↔◌, ◌≤◌, ◌++◌, ◌+ℤ◌, ℕ, ℤ, pos, Bool, List, Result, Ok, length};
 ghost use Rattle.ion_scalar.specs.Fields.{positional, int_negative, int_magnitude, VarUInt, VarInt, var_uint, var_int, signed_of};
-ghost use Rattle.ion_scalar.specs.Reads.{ReadsVarUInt, ReadsVarInt, ReadsDecimal};
+ghost use Rattle.ion_scalar.specs.Reads.{ReadsVarUInt, ReadsVarInt, ReadsDecimalBody};
 ghost use Rattle.ion_scalar.specs.Spellings.{AreBelow, var_uint_octets, var_int_octets, uint_octets, int_octets};
 ghost use Rattle.ion_model.specs.Ranges.{IsWhole};
 ghost use Rattle.ion_model.specs.Decimals.{DecimalParts, IsDecimal};
@@ -52,7 +52,7 @@ pub fn decimal_is_read()
 
 /// Each answer of reading the body of a decimal tells what the octets are.
 pub fn decimal_answers()
-    ensures { (body : List ℕ) → ReadsDecimal body (decimal_of_body body) }
+    ensures { (body : List ℕ) → ReadsDecimalBody body (decimal_of_body body) }
 {}
 
 /// The body of a timestamp is read as that timestamp.

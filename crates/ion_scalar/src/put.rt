@@ -140,6 +140,7 @@ pub fn int_before(octets: &mut [u8], end: usize, negative: bool, magnitude: u128
 }
 
 /// Writes the digits of `value` in the base, with the sign in the first or in front of it.
+#[inline(always)]
 fn signed_before(octets: &mut [u8], end: usize, base: u128, negative: bool, value: u128) -> usize
     requires base { (base ≡ 128) ⊎ (base ≡ 256) }
     requires within { (1 ≤ end) × (end ≤ length octets.old) }
@@ -165,7 +166,9 @@ fn sign_bit(bit: u8, negative: bool) -> u8
     if negative { bit } else { 0 }
 }
 
-/// Writes the digits of `value` in the base.
+/// Writes the digits of `value` in the base. It stands where it is called, since the bases are powers of two
+/// there, and no division is left of 128 bits.
+#[inline(always)]
 fn digits_before(octets: &mut [u8], end: usize, base: u128, value: u128) -> usize
     requires base { (2 ≤ base) × (base ≤ 256) }
     requires within { end ≤ length octets.old }

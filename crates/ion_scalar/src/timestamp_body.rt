@@ -1,9 +1,10 @@
 //! The bodies of timestamps in binary (Ion 1.0, "Ion Binary Encoding", timestamp).
-ghost use Rattle.std.specs.Prelude.{◌≡◌, ◌<◌, ◌≤◌, ◌^◌, length, IfOk, IfSome};
-ghost use Rattle.ion_model.specs.Timestamps.{IsOffset, minutes_ahead};
+ghost use Rattle.std.specs.Prelude.{Result, ◌≡◌, ◌<◌, ◌≤◌, ◌^◌, length, IfOk, IfSome};
+ghost use Rattle.ion_model.specs.Timestamps.{TimestampParts, IsOffset, minutes_ahead};
 ghost use Rattle.ion_scalar.specs.TimestampField.{timestamp_of_body, shown_by, shown, kept_offset, offset_from, local_in, day_known, time_known};
 ghost use Rattle.ion_scalar.specs.TimestampField.{read_offset, read_field, read_fields, read_behind_year, read_behind_month, read_behind_day, read_behind_hour, read_behind_minute, read_behind_second, read_fraction};
 ghost use Rattle.ion_scalar.specs.TimestampLaws.{IsUtc};
+ghost use Rattle.ion_scalar.specs.TimestampReasons.{ReadsTimestampBody};
 
 use crate::fields::{Signed, int_of, read_var_int, read_var_uint};
 use ion_model::calendar::{Date, Minute, days_of_month};
@@ -59,8 +60,17 @@ impl Utc {
 /// hour without a minute, for an offset beyond 1439 minutes, for a field that is no year from 1 to 9999, month, day of that month, hour, minute or second (there is no leap
 /// second), for a coefficient below 0, of more digits than d, or not 0 with an exponent of 0 or more, and last for a local year
 /// outside 1 to 9999. These bounds are this project's. Takes no memory.
-#[tactic(auto, unfolding(crate::specs::TimestampField::timestamp_of_body))]
 pub fn timestamp_of(octets: &[u8]) -> Result<Timestamp, Reason>
+    ensures value { result ≡ timestamp_of_body octets.now }
+    ensures answer { ReadsTimestampBody octets.now result }
+    ensures only { (answer : Result TimestampParts Reason)
+        → ReadsTimestampBody octets.now answer → result ≡ answer }
+{
+    read_timestamp(octets)
+}
+
+#[tactic(auto, unfolding(crate::specs::TimestampField::timestamp_of_body))]
+fn read_timestamp(octets: &[u8]) -> Result<Timestamp, Reason>
     ensures { result ≡ timestamp_of_body octets.now }
 {
     let (offset, used) = offset_of(octets)?;

@@ -185,6 +185,35 @@ pub trait Items: Sized {
         }
     }
 
+    /// Takes up a value at the front of this reader's piece and of another reader's, where it lies whole
+    /// in both and is seen to be the same: how many octets of each. The value isn't handed out. `None`,
+    /// with both readers as they were, where that isn't so or isn't seen; a reader needn't see it.
+    fn pass_alike(
+        &mut self,
+        piece: &[u8],
+        other: &mut Self,
+        beside: &[u8],
+    ) -> Option<(usize, usize)>
+        requires room { taken self.old + length piece.now < 2 ^ 63 }
+        requires other_room { taken other.old + length beside.now < 2 ^ 63 }
+        ensures catalogs { (catalog self.new ≡ catalog self.old) × (catalog other.new ≡ catalog other.old) }
+        ensures limits { (limits self.new ≡ limits self.old) × (limits other.new ≡ limits other.old) }
+        ensures used { IfSome result (λ used. (used.0 ≤ length piece.now) × (used.1 ≤ length beside.now)) }
+        ensures counts { IfSome result (λ used. (taken self.new ≡ taken self.old + used.0)
+            × (taken other.new ≡ taken other.old + used.1)) }
+        ensures progress { IfSome result (λ used. (pending self.new < pending self.old + 2 * used.0)
+            × (pending other.new < pending other.old + 2 * used.1)) }
+        ensures stands { IfSome result (λ used. (value : Value)
+            × ((u : List ℕ) (s : List (Value × ℕ)) → stands self.old u s →
+            stands self.new (u ++ take used.0 piece.now) (s ++ (value, length u + used.0) ∷ []))
+            × ((u : List ℕ) (s : List (Value × ℕ)) → stands other.old u s →
+            stands other.new (u ++ take used.1 beside.now) (s ++ (value, length u + used.1) ∷ []))) }
+        ensures awaited { IsSome result → IsNone (awaits self.new) × IsNone (awaits other.new) }
+        ensures kept { IsNone result → (self.new ≡ self.old) × (other.new ≡ other.old) }
+    {
+        None
+    }
+
     /// Ends the octets: the value that only the end shows to be whole, if there is one, or the
     /// refusal of octets that are no document.
     ///

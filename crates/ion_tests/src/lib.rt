@@ -1,12 +1,22 @@
-//! The tests of the libraries of documents. Tests stand above the libraries, so that the gate
-//! proves each library once, and not once more beside its tests.
+//! The tests of the libraries that no row of a table says (`ion_rows` has those). Tests stand above the libraries, so that
+//! the gate proves each library once, and not once more beside its tests.
 #![tactic(auto)]
 
 #[cfg(test)]
-mod binary;
+mod alike;
 #[cfg(test)]
-mod docs;
+mod calendar;
+#[cfg(test)]
+mod devices;
+#[cfg(test)]
+mod documents;
+#[cfg(test)]
+mod faults;
+#[cfg(test)]
+mod model;
+#[cfg(test)]
+mod readers;
+#[cfg(test)]
+mod scanner;
 #[cfg(test)]
 mod starved;
-#[cfg(test)]
-mod text;

@@ -1,5 +1,8 @@
 //! Readers and writers that get no memory once: each gives its own answer or want of memory, and then that again.
 //! `tests/starved.py` refuses each growth in turn; elsewhere none is refused.
+mod tables;
+mod values;
+
 use ion_binary::{BinaryReader, BinaryWriter};
 use ion_model::{Reason, Refusal, Value};
 use ion_symtab::{Catalog, Fault, Items, Limits, Step, ToWrite};

@@ -187,6 +187,18 @@ impl Items for BinaryReader<'_> {
         }
     }
 
+    fn pass_alike(
+        &mut self,
+        piece: &[u8],
+        other: &mut Self,
+        beside: &[u8],
+    ) -> Option<(usize, usize)> {
+        if self.failed.is_some() || other.failed.is_some() {
+            return None;
+        }
+        self.walk_alike(piece, other, beside)
+    }
+
     fn finish(self) -> Result<Option<Value>, Refusal> {
         if let Some(refusal) = self.failed {
             return Err(refusal);

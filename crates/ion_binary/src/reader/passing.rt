@@ -1,16 +1,25 @@
 //! Values of the top level that lie whole in a piece and are passed over.
-ghost use Rattle.std.specs.Prelude.{◌≡◌, ◌+◌, ◌<◌, ◌^◌, length, IfSome, IsNone, Ok, Some};
+ghost use Rattle.std.specs.Prelude.{◌≡◌, ◌+◌, ◌<◌, ◌^◌, [], true, length, IfSome, IsNone, Ok, Some};
 ghost use Rattle.ion_model.specs.declared.value.Value.{Value};
 ghost use Rattle.ion_model.specs.Outlines.{outline_of};
 ghost use Rattle.ion_binary.specs.Run.{Advances};
-ghost use Rattle.ion_binary.specs.Views.{machine_of, run_of, SameSetting};
+ghost use Rattle.ion_binary.specs.Views.{machine_of, run_of, open_frames, SameSetting};
+ghost use Rattle.ion_binary.specs.declared.state.Phase.TheVariants as phases;
 
 use super::BinaryReader;
+use crate::alike::alike_value;
 use crate::form::Form;
 use crate::walk::{Tally, walk_value};
 use ion_model::Outline;
 
 impl BinaryReader<'_> {
+    /// Whether a value of the top level may begin with the next octet and wasn't tried whole yet.
+    fn may_walk(&self) -> bool
+        ensures { result ≡ true → (self.now.phase ≡ phases.Ready) × (open_frames self.now ≡ []) }
+    {
+        self.is_ready() && self.frames.is_empty() && self.used >= self.walked
+    }
+
     /// Takes up the octets of the value at the front of a piece without building it: how many it has, and
     /// its outline. `None`, with nothing taken up, where a container is open, or the value isn't whole,
     /// may not stand here or is in any way unusual.
@@ -23,7 +32,7 @@ impl BinaryReader<'_> {
         ensures none { IsNone result → self.new ≡ self.old }
         ensures setting { SameSetting self.old self.new }
     {
-        if !self.is_ready() || !self.frames.is_empty() || self.used < self.walked {
+        if !self.may_walk() {
             return None;
         }
         let depth = self.limits.depth;
@@ -36,5 +45,52 @@ impl BinaryReader<'_> {
         self.used = used;
         self.start = used;
         Some((count, tally.outline(depth)))
+    }
+    /// Takes up the octets of the value at the front of a piece and at the front of another reader's,
+    /// where it is the same in both, without building it: how many octets of each. `None`, with nothing
+    /// taken up, where `walk` of either would answer so, or the two are not seen to be the same.
+    pub(super) fn walk_alike(
+        &mut self,
+        piece: &[u8],
+        other: &mut Self,
+        beside: &[u8],
+    ) -> Option<(usize, usize)>
+        requires room { self.old.used + length piece.now < 2 ^ 63 }
+        requires other_room { other.old.used + length beside.now < 2 ^ 63 }
+        ensures gives { IfSome result (λ counts. (v : Value)
+            × Advances self.old.used (run_of self.old) piece.now
+            (Ok (record { used = counts.0; value = Some v })) (machine_of self.new)
+            × Advances other.old.used (run_of other.old) beside.now
+            (Ok (record { used = counts.1; value = Some v })) (machine_of other.new)) }
+        ensures used { IfSome result (λ counts. self.new.used ≡ self.old.used + counts.0) }
+        ensures other_used { IfSome result (λ counts. other.new.used ≡ other.old.used + counts.1) }
+        ensures none { IsNone result → (self.new ≡ self.old) × (other.new ≡ other.old) }
+        ensures setting { SameSetting self.old self.new }
+        ensures other_setting { SameSetting other.old other.new }
+    {
+        if !self.may_walk() || !other.may_walk() {
+            return None;
+        }
+        let depth = self.limits.depth.min(other.limits.depth);
+        let (count, other_count) = alike_value(
+            &self.context,
+            &other.context,
+            piece,
+            beside,
+            depth,
+        )?;
+        let used = self.used + count as u64;
+        let other_used = other.used + other_count as u64;
+        if self.unfit(Form::Wrapper, used).is_some() {
+            return None;
+        }
+        if other.unfit(Form::Wrapper, other_used).is_some() {
+            return None;
+        }
+        self.used = used;
+        self.start = used;
+        other.used = other_used;
+        other.start = other_used;
+        Some((count, other_count))
     }
 }
