@@ -4,18 +4,18 @@ use Rattle.ion_model.specs.declared.value.Payload.{Payload}
 use Rattle.ion_model.specs.declared.value.Payload.TheVariants as payloads
 use Rattle.ion_model.specs.Kinds.{kind_of}
 use Rattle.ion_model.specs.Measures.{bare, annotated}
-use Rattle.ion_scalar.specs.Fields.{VarUInt, positional}
+use Rattle.ion_scalar.specs.binary.Fields.{VarUInt, positional}
 use Rattle.ion_symtab.specs.Slots.{Slot, resolve}
 use Rattle.ion_binary.specs.declared.form.Scalar.{Scalar}
 use Rattle.ion_binary.specs.declared.form.Scalar.TheVariants as scalars
 use Rattle.ion_binary.specs.declared.form.Listing.{Listing}
 use Rattle.ion_binary.specs.declared.form.Form.{Form}
 use Rattle.ion_binary.specs.declared.form.Form.TheVariants as forms
-use Rattle.ion_binary.specs.Judged.{scalar_flat}
+use Rattle.ion_binary.specs.laws.reading.Judged.{scalar_flat}
 use Rattle.ion_binary.specs.Grammar.{listed, IsScalar, is_int, is_negative, is_decimal, is_timestamp, is_symbol, is_string, is_clob, is_blob, unannotated}
-use Rattle.ion_binary.specs.Complete.{depth-listed, depth-fields}
-use Rattle.ion_binary.specs.Walked.{WalkedScalar}
-use Rattle.ion_binary.specs.Alike.{Alike, AlikePlain, AlikeBody, AlikeWrapper, AlikeScalar, AlikeItems, AlikeFields, AlikeIds}
+use Rattle.ion_binary.specs.laws.reading.Complete.{depth-listed, depth-fields}
+use Rattle.ion_binary.specs.machine.Walked.{WalkedScalar}
+use Rattle.ion_binary.specs.machine.Alike.{Alike, AlikePlain, AlikeBody, AlikeWrapper, AlikeScalar, AlikeItems, AlikeFields, AlikeIds}
 use Rattle.ion_binary.proofs.Slotted.{symbol_is}
 use Rattle.ion_binary.proofs.Wholes.{framed_scalar, framed_listing, framed_struct, framed_ordered, wraps, depth_wrapped}
 

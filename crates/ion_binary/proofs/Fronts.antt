@@ -1,7 +1,7 @@
 -- What a device took where a call ended with a fault.
 use Rattle.std.proofs.Common.{ℕ, List, [], Option, Result, Ok, Err, OnErr}
 use Rattle.ion_symtab.specs.Took.{Took, TookFront}
-use Rattle.ion_symtab.specs.TookLaws.{Front-all}
+use Rattle.ion_symtab.specs.laws.Took.{Front-all}
 
 on_err : {A E P : Type 0} (r : Result A E) → P → OnErr r P
 on_err (Ok x) p = tt

@@ -9,11 +9,11 @@ use Rattle.ion_symtab.specs.declared.items.Step.{Step}
 use Rattle.ion_symtab.specs.declared.limits.Limits.{Limits}
 use Rattle.ion_symtab.specs.declared.catalog.Catalog.{Catalog}
 use Rattle.ion_binary.specs.declared.reader.BinaryReader.{BinaryReader}
-use Rattle.ion_binary.specs.Machine.{Machine, initial}
-use Rattle.ion_binary.specs.Run.{Run, run, trace, trace_of, Advances}
-use Rattle.ion_binary.specs.Runs.{run-append, then_run}
-use Rattle.ion_binary.specs.Laws.{grows}
-use Rattle.ion_binary.specs.Views.{machine_of, run_of, Stands, SameSetting}
+use Rattle.ion_binary.specs.machine.EachOctet.{Machine, initial}
+use Rattle.ion_binary.specs.machine.Run.{Run, run, trace, trace_of, Advances}
+use Rattle.ion_binary.specs.machine.Pieces.{run-append, then_run}
+use Rattle.ion_binary.specs.laws.reading.Promises.{grows}
+use Rattle.ion_binary.specs.machine.Views.{machine_of, run_of, Stands, SameSetting}
 
 -- behind u the values s were given, and the machine is m
 abbrev Ran : Catalog → Limits → List ℕ → List (Value × ℕ) → Machine → Type 0

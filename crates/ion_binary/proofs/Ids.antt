@@ -6,10 +6,10 @@ use Rattle.std.specs.Option.{unwrap_or}
 use Rattle.std.specs.Ordering.{is_eq}
 use Rattle.std.proofs.lemmas.List.Folds.{list_any-append}
 use Rattle.ion_model.specs.Symbols.{symbol_same, symbol_cmp}
-use Rattle.ion_model.specs.EquivLaws.{symbol_same-equiv}
-use Rattle.ion_model.specs.OrderTotal.{symbol_ties}
-use Rattle.ion_binary.specs.Ids.{id_among, IsIndex}
-use Rattle.ion_binary.specs.Names.{symbol_is, symbol_self, among_last, id_stays}
+use Rattle.ion_model.specs.laws.Equivalence.{symbol_same-equiv}
+use Rattle.ion_model.specs.laws.OrderTotal.{symbol_ties}
+use Rattle.ion_binary.specs.writer.Ids.{id_among, IsIndex}
+use Rattle.ion_binary.specs.writer.Names.{symbol_is, symbol_self, among_last, id_stays}
 use Rattle.ion_binary.specs.Output.{Names, id_of}
 
 apart : (s q : Option (List ℕ)) → symbol_same s q ≡ false → symbol_same q s ≡ false

@@ -13,13 +13,13 @@ use Rattle.ion_binary.specs.declared.state.Effect.TheVariants.{Goes, Gives}
 use Rattle.ion_binary.specs.declared.state.Frame.{Frame}
 use Rattle.ion_binary.specs.declared.state.Phase.{Phase}
 use Rattle.ion_binary.specs.declared.state.Phase.TheVariants.{InBody, InPad}
-use Rattle.ion_binary.specs.Judge.{judge}
-use Rattle.ion_binary.specs.Machine.{Machine, Outcome, at, in_body, judged}
-use Rattle.ion_binary.specs.Complete.{body_run}
-use Rattle.ion_binary.specs.Run.{Run, run}
-use Rattle.ion_binary.specs.Runs.{led, after, then_run, run-append}
-use Rattle.ion_binary.specs.Views.{machine_of, body_so_far, Gave, GaveLast, Does, Reached}
-use Rattle.ion_binary.specs.Bulk.{body_goes, pad_goes}
+use Rattle.ion_binary.specs.machine.Judge.{judge}
+use Rattle.ion_binary.specs.machine.EachOctet.{Machine, Outcome, at, in_body, judged}
+use Rattle.ion_binary.specs.laws.reading.Complete.{body_run}
+use Rattle.ion_binary.specs.machine.Run.{Run, run}
+use Rattle.ion_binary.specs.machine.Pieces.{led, after, then_run, run-append}
+use Rattle.ion_binary.specs.machine.Views.{machine_of, body_so_far, Gave, GaveLast, Does, Reached}
+use Rattle.ion_binary.specs.machine.AtOnce.{body_goes, pad_goes}
 
 -- the machine of a reader with this phase and these octets in its memory
 abbrev pub with_phase : ℕ → ℕ → List Slot → List Frame → List ℕ → Phase → Machine

@@ -6,10 +6,10 @@ use Rattle.std.proofs.Math.Seq.{take-add}
 use Rattle.ion_model.specs.declared.value.Value.{Value}
 use Rattle.ion_symtab.specs.declared.limits.Limits.{Limits}
 use Rattle.ion_symtab.specs.declared.catalog.Catalog.{Catalog}
-use Rattle.ion_binary.specs.Machine.{Machine}
-use Rattle.ion_binary.specs.Run.{run, Advances}
-use Rattle.ion_binary.specs.Runs.{led, then_run, run-append}
-use Rattle.ion_binary.specs.Views.{GaveLast}
+use Rattle.ion_binary.specs.machine.EachOctet.{Machine}
+use Rattle.ion_binary.specs.machine.Run.{run, Advances}
+use Rattle.ion_binary.specs.machine.Pieces.{led, then_run, run-append}
+use Rattle.ion_binary.specs.machine.Views.{GaveLast}
 
 -- from `start`, the octets of the piece before i lead to m, whatever follows
 pub record Leads (g : Catalog) (l : Limits) (to : ℕ) (start : Machine) (piece : List ℕ) (i : ℕ) (m : Machine) : Type 0 where

@@ -2,7 +2,7 @@
 use Rattle.std.proofs.Common.{◌≤◌, List, [], ◌∷◌, length, arith}
 use Rattle.ion_binary.specs.declared.state.Frame.{Frame}
 use Rattle.ion_binary.specs.declared.state.Frame.TheVariants as frames
-use Rattle.ion_binary.specs.Machine.{levels}
+use Rattle.ion_binary.specs.machine.EachOctet.{levels}
 
 -- there are at most as many as frames
 pub levels_few : (fs : List Frame) → levels fs ≤ length fs

@@ -8,7 +8,7 @@ use Rattle.ion_symtab.specs.declared.fault.Fault.{Fault}
 use Rattle.ion_binary.specs.Output.{Names, with_name, with_names, names_after}
 use Rattle.ion_model.specs.declared.value.Value.{Value}
 use Rattle.ion_model.specs.declared.value.Payload.TheViews.{out-Payload}
-use Rattle.ion_binary.specs.OutputLaws.{layer_symbols, symbols-out}
+use Rattle.ion_binary.specs.laws.writing.Output.{layer_symbols, symbols-out}
 use Rattle.ion_binary.specs.Writing.{IsNumberingFault}
 
 longer_if : (names : Names) (s : Option (List ℕ)) (b : Bool) → length names ≤ length (if b then names else names ++ s ∷ [])

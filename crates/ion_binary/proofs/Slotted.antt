@@ -4,15 +4,15 @@ use Rattle.std.specs.Str.{IsUtf8}
 use Rattle.ion_model.specs.Decimals.{DecimalParts}
 use Rattle.ion_model.specs.Timestamps.{TimestampParts}
 use Rattle.ion_model.specs.declared.value.Payload.TheVariants as payloads
-use Rattle.ion_scalar.specs.Fields.{positional}
-use Rattle.ion_scalar.specs.DecimalField.{decimal_of_body}
-use Rattle.ion_scalar.specs.DecimalLaws.{decimal_answers}
-use Rattle.ion_scalar.specs.TimestampField.{timestamp_of_body}
+use Rattle.ion_scalar.specs.binary.Fields.{positional}
+use Rattle.ion_scalar.specs.binary.Decimal.{decimal_of_body}
+use Rattle.ion_scalar.specs.binary.laws.Decimal.{decimal_answers}
+use Rattle.ion_scalar.specs.binary.Timestamp.{timestamp_of_body}
 use Rattle.ion_symtab.specs.Slots.{Slot, resolve}
 use Rattle.ion_binary.specs.declared.form.Scalar.TheVariants as scalars
 use Rattle.ion_binary.specs.Grammar.{IsScalar, is_int, is_negative, is_symbol, is_string, is_clob, is_blob}
-use Rattle.ion_binary.specs.Judged.{decimal_sound, timestamp_sound}
-use Rattle.ion_binary.specs.Judge.{as_decimal, as_timestamp}
+use Rattle.ion_binary.specs.laws.reading.Judged.{decimal_sound, timestamp_sound}
+use Rattle.ion_binary.specs.machine.Judge.{as_decimal, as_timestamp}
 
 pub int_is : (c : List Slot) (body : List ℕ) (n : ℕ) (z : ℤ) → n ≡ positional 256 body → n < 2 ^ 127 → z ≡ pos n → IsScalar c body scalars.Int (payloads.Int z)
 int_is c body n z e small same =

@@ -12,11 +12,11 @@ use Rattle.ion_model.specs.declared.kind.Kind.{Kind}
 use Rattle.ion_model.specs.declared.kind.Kind.TheVariants as kinds
 use Rattle.ion_model.specs.Kinds.{names_table, is_fields, is_table, kind_of, layer_kind}
 use Rattle.ion_model.specs.Measures.{depth, nodes, bare, annotated}
-use Rattle.ion_model.specs.MeasureLaws.{deepest-more, depth-Null, depth-Truth, nodes-Null, nodes-Truth}
+use Rattle.ion_model.specs.laws.Measures.{deepest-more, depth-Null, depth-Truth, nodes-Null, nodes-Truth}
 use Rattle.ion_model.specs.Outlines.{outline_of}
-use Rattle.ion_scalar.specs.Fields.{VarUInt, positional}
-use Rattle.ion_scalar.specs.DecimalField.{decimal_of_body}
-use Rattle.ion_scalar.specs.TimestampField.{timestamp_of_body}
+use Rattle.ion_scalar.specs.binary.Fields.{VarUInt, positional}
+use Rattle.ion_scalar.specs.binary.Decimal.{decimal_of_body}
+use Rattle.ion_scalar.specs.binary.Timestamp.{timestamp_of_body}
 use Rattle.ion_symtab.specs.Slots.{Slot, resolve}
 use Rattle.ion_binary.specs.declared.form.Scalar.{Scalar}
 use Rattle.ion_binary.specs.declared.form.Scalar.TheVariants as scalars
@@ -24,24 +24,24 @@ use Rattle.ion_binary.specs.declared.form.Listing.{Listing}
 use Rattle.ion_binary.specs.declared.form.Listing.TheVariants as listings
 use Rattle.ion_binary.specs.declared.form.Form.{Form}
 use Rattle.ion_binary.specs.declared.form.Form.TheVariants as forms
-use Rattle.ion_binary.specs.Framed.{Framed}
-use Rattle.ion_binary.specs.Stands.{depths, field_depths}
-use Rattle.ion_binary.specs.Judged.{scalar_flat}
+use Rattle.ion_binary.specs.machine.Framed.{Framed}
+use Rattle.ion_binary.specs.laws.reading.Stands.{depths, field_depths}
+use Rattle.ion_binary.specs.laws.reading.Judged.{scalar_flat}
 use Rattle.ion_binary.specs.declared.walk.Tally.{Tally}
 use Rattle.ion_binary.specs.Grammar.{Binary, Ids, Sequence, Fields, listed, IsScalar, is_int, is_negative, is_decimal, is_timestamp, is_symbol, is_string, is_clob, is_blob, unannotated}
 use Rattle.ion_binary.specs.Opening.{kind_of_scalar, kind_of_form}
-use Rattle.ion_binary.specs.Complete.{depth-listed, depth-fields, depth-annotated, field_deepest-more, length_VarUInt}
-use Rattle.ion_binary.specs.Small.{scalar_nodes, nodes-listed, nodes-fields, nodes-annotated, ids_long, field_nodes, binary_nodes, sequence_nodes, fields_nodes}
-use Rattle.ion_binary.specs.Walked.{Noted, Walked, WalkedPlain, WalkedBody, WalkedWrapper, WalkedScalar, WalkedItems, WalkedFields, WalkedIds, NoTable}
+use Rattle.ion_binary.specs.laws.reading.Complete.{depth-listed, depth-fields, depth-annotated, field_deepest-more, length_VarUInt}
+use Rattle.ion_binary.specs.laws.reading.Small.{scalar_nodes, nodes-listed, nodes-fields, nodes-annotated, ids_long, field_nodes, binary_nodes, sequence_nodes, fields_nodes}
+use Rattle.ion_binary.specs.machine.Walked.{Noted, Walked, WalkedPlain, WalkedBody, WalkedWrapper, WalkedScalar, WalkedItems, WalkedFields, WalkedIds, NoTable}
 use Rattle.ion_symtab.specs.declared.limits.Limits.{Limits}
 use Rattle.ion_symtab.specs.declared.catalog.Catalog.{Catalog}
 use Rattle.std.proofs.lemmas.Bool.{cond-false}
 use Rattle.ion_binary.specs.declared.state.Frame.{Frame}
 use Rattle.ion_binary.specs.declared.state.Phase.{Phase}
 use Rattle.ion_binary.specs.declared.state.Phase.TheVariants.{Ready}
-use Rattle.ion_binary.specs.Machine.{at, deliver, gives, levels, unfit}
-use Rattle.ion_binary.specs.Run.{run, Advances}
-use Rattle.ion_binary.specs.Runs.{after}
+use Rattle.ion_binary.specs.machine.EachOctet.{at, deliver, gives, levels, unfit}
+use Rattle.ion_binary.specs.machine.Run.{run, Advances}
+use Rattle.ion_binary.specs.machine.Pieces.{after}
 use Rattle.ion_binary.proofs.Insides.{with_phase}
 use Rattle.ion_binary.proofs.Slotted.{int_is, negative_is, decimal_is, timestamp_is, symbol_is}
 use Rattle.ion_binary.proofs.Wholes.{framed_scalar, framed_listing, framed_struct, framed_ordered, wraps, depth_wrapped, whole_runs, whole_some}

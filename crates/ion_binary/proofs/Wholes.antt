@@ -12,8 +12,8 @@ use Rattle.ion_model.specs.declared.value.Payload.{Payload}
 use Rattle.ion_model.specs.declared.value.Payload.TheVariants as payloads
 use Rattle.ion_model.specs.declared.value.Payload.TheViews as views
 use Rattle.ion_model.specs.Measures.{depth, bare, annotated, field_of}
-use Rattle.ion_model.specs.MeasureLaws.{depth-out, layer_depth, deepest-more}
-use Rattle.ion_scalar.specs.Fields.{VarUInt, none}
+use Rattle.ion_model.specs.laws.Measures.{depth-out, layer_depth, deepest-more}
+use Rattle.ion_scalar.specs.binary.Fields.{VarUInt, none}
 use Rattle.ion_scalar.specs.Positional.{positional_one}
 use Rattle.ion_scalar.specs.declared.descriptor.Size.{Size}
 use Rattle.ion_symtab.specs.Slots.{Slot, resolve}
@@ -29,13 +29,13 @@ use Rattle.ion_binary.specs.declared.state.Phase.{Phase}
 use Rattle.ion_binary.specs.declared.state.Phase.TheVariants.{Ready}
 use Rattle.ion_binary.specs.Opening.{opening_of}
 use Rattle.ion_binary.specs.Grammar.{Header, listed, IsScalar, Plain, is_null, is_truth, is_scalar, is_listing, is_struct, is_ordered, Binary, unannotated, wrapped, Ids, one_id, IsPad, Sequence, one_more, padded, Fields, one_field, padded_field}
-use Rattle.ion_binary.specs.Framed.{Heads, Framed, IsListing, IsStruct, Wraps}
-use Rattle.ion_binary.specs.Stands.{depths, field_depths}
-use Rattle.ion_binary.specs.Complete.{depth-listed, depth-fields, depth-annotated, field_deepest-more, binary_run, binary_some}
-use Rattle.ion_binary.specs.Machine.{deliver, levels, unfit, or_else, misfits, stray, nameless}
-use Rattle.ion_binary.specs.Sound.{ends_back, misfits_ends}
-use Rattle.ion_binary.specs.Run.{run}
-use Rattle.ion_binary.specs.Runs.{after}
+use Rattle.ion_binary.specs.machine.Framed.{Heads, Framed, IsListing, IsStruct, Wraps}
+use Rattle.ion_binary.specs.laws.reading.Stands.{depths, field_depths}
+use Rattle.ion_binary.specs.laws.reading.Complete.{depth-listed, depth-fields, depth-annotated, field_deepest-more, binary_run, binary_some}
+use Rattle.ion_binary.specs.machine.EachOctet.{deliver, levels, unfit, or_else, misfits, stray, nameless}
+use Rattle.ion_binary.specs.laws.reading.Sound.{ends_back, misfits_ends}
+use Rattle.ion_binary.specs.machine.Run.{run}
+use Rattle.ion_binary.specs.machine.Pieces.{after}
 use Rattle.ion_binary.proofs.Insides.{with_phase}
 
 -- octets of a slice

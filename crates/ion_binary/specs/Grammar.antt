@@ -10,9 +10,9 @@ use Rattle.ion_model.specs.Decimals.{DecimalParts, IsDecimal}
 use Rattle.ion_model.specs.Timestamps.{TimestampParts}
 use Rattle.ion_model.specs.Measures.{depth, bare, annotated, field_of}
 use Rattle.ion_model.specs.Kinds.{is_table}
-use Rattle.ion_scalar.specs.Fields.{positional, Digits, VarUInt}
-use Rattle.ion_scalar.specs.DecimalField.{IsDecimalField}
-use Rattle.ion_scalar.specs.TimestampField.{IsTimestampBody}
+use Rattle.ion_scalar.specs.binary.Fields.{positional, Digits, VarUInt}
+use Rattle.ion_scalar.specs.binary.Decimal.{IsDecimalField}
+use Rattle.ion_scalar.specs.binary.Timestamp.{IsTimestampBody}
 use Rattle.ion_scalar.specs.declared.descriptor.Size.TheVariants.{Known, Follows}
 use Rattle.ion_symtab.specs.declared.limits.Limits.{Limits}
 use Rattle.ion_symtab.specs.declared.catalog.Catalog.{Catalog}
@@ -27,7 +27,7 @@ use Rattle.ion_binary.specs.declared.form.Form.TheVariants as forms
 use Rattle.ion_binary.specs.declared.form.Opening.TheVariants.{Null, Truth, Sized}
 use Rattle.ion_binary.specs.Opening.{opening_of}
 
--- these octets are the descriptor and the length of a body of n octets
+-- these octets are the descriptor and the length of a body of n octets: by type codes and length codes, those of specs/HeaderRows.antt (laws::headers)
 pub data Header (form : Form) (n : ℕ) : List ℕ → Type 0 where
   short : (b : ℕ) → opening_of b ≡ Sized form (Known n) → Header form n (b ∷ [])
   long : (b : ℕ) (w : List ℕ) → opening_of b ≡ Sized form Follows → VarUInt w n → Header form n (b ∷ w)

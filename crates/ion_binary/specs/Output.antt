@@ -9,9 +9,9 @@ use Rattle.ion_model.specs.declared.value.Payload.TheOpen.{Payload-F}
 use Rattle.ion_model.specs.declared.value.Payload.TheFolds.{fold-Value}
 use Rattle.ion_model.specs.Measures.{bare, annotated, field_of}
 use Rattle.ion_model.specs.Symbols.{symbol_same}
-use Rattle.ion_scalar.specs.Spellings.{var_uint_octets, uint_octets, decimal_octets}
+use Rattle.ion_scalar.specs.binary.Spellings.{var_uint_octets, uint_octets, decimal_octets}
 use Rattle.ion_binary.specs.Grammar.{the_marker}
-use Rattle.ion_scalar.specs.TimestampSpellings.{timestamp_octets}
+use Rattle.ion_scalar.specs.binary.TimestampSpellings.{timestamp_octets}
 
 -- 1. Ids. A list of names has the symbol of each id at its place: first, of the id 0, the one of unknown text.
 

@@ -3,13 +3,13 @@
 //! different ways isn't told here: the readers take it up.
 ghost use Rattle.std.specs.Prelude.{◌≡◌, ◌-◌, ◌≤◌, ◌<◌, true, length, take, get_or, Ok, IfSome};
 ghost use Rattle.ion_model.specs.Kinds.{names_table};
-ghost use Rattle.ion_scalar.specs.Fields.{VarUInt};
+ghost use Rattle.ion_scalar.specs.binary.Fields.{VarUInt};
 ghost use Rattle.ion_symtab.specs.Slots.{resolve};
 ghost use Rattle.ion_binary.specs.Opening.{opening_of};
 ghost use Rattle.ion_binary.specs.Grammar.{IsPad};
 ghost use Rattle.ion_binary.specs.declared.form.Scalar.TheVariants as scalars;
 ghost use Rattle.ion_binary.specs.declared.form.Opening.TheVariants.{Sized};
-ghost use Rattle.ion_binary.specs.Alike.{Alike, AlikePlain, AlikeBody, AlikeWrapper, AlikeScalar, AlikeItems, AlikeFields, AlikeIds};
+ghost use Rattle.ion_binary.specs.machine.Alike.{Alike, AlikePlain, AlikeBody, AlikeWrapper, AlikeScalar, AlikeItems, AlikeFields, AlikeIds};
 
 use crate::form::{Form, Opening, Scalar, opening_of};
 use crate::slots::small_uint;

@@ -1,15 +1,23 @@
 //! Laws of binary documents. Each stands on an empty function: its contract is the law.
-ghost use Rattle.std.specs.Prelude.{ℕ, List};
+ghost use Rattle.std.specs.Prelude.{◌↔◌, ℕ, List};
 ghost use Rattle.ion_model.specs.declared.value.Value.{Value};
 ghost use Rattle.ion_model.specs.Octets.{AreOctets};
 ghost use Rattle.ion_model.specs.Kept.{AreKept};
 ghost use Rattle.ion_symtab.specs.declared.limits.Limits.{Limits};
 ghost use Rattle.ion_symtab.specs.Tables.{Table};
 ghost use Rattle.ion_symtab.specs.Promises.{NoTables};
-ghost use Rattle.ion_symtab.specs.ContextTexts.{AreTextTables};
-ghost use Rattle.ion_binary.specs.Grammar.{Document};
+ghost use Rattle.ion_symtab.specs.laws.ContextTexts.{AreTextTables};
+ghost use Rattle.ion_binary.specs.declared.form.Form.{Form};
+ghost use Rattle.ion_binary.specs.Grammar.{Document, Header};
+ghost use Rattle.ion_binary.specs.HeaderRows.{IsHeader};
 ghost use Rattle.ion_binary.specs.Output.{bin_of};
-ghost use Rattle.ion_binary.specs.RoundTrip.{FitsIn};
+ghost use Rattle.ion_binary.specs.laws.writing.RoundTrip.{FitsIn};
+
+/// The headers of the grammar are the descriptors and lengths that the specification's table of type
+/// codes and length codes has.
+pub fn headers()
+    ensures { (form : Form) (n : ℕ) (octets : List ℕ) → Header form n octets ↔ IsHeader form n octets }
+{}
 
 /// What is written of values that the types keep, none of them a local symbol table, is a document
 /// with these values, under every catalog and all limits that admit it. The values of a document

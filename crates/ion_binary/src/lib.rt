@@ -2,18 +2,12 @@
 #![tactic(auto)]
 
 mod alike;
-mod encoding;
 mod form;
-mod framing;
-mod guesses;
 pub mod laws;
-mod names;
-mod numbering;
 mod reader;
 mod scalar;
 mod slots;
 mod state;
-mod table;
 mod walk;
 mod whole;
 mod writer;

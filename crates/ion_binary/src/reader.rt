@@ -1,8 +1,8 @@
 //! The reader of binary documents: what it holds, and what each octet does.
 ghost use Rattle.std.specs.Prelude.{◌≡◌, ◌+◌, ◌-◌, ◌<◌, ◌^◌};
 ghost use Rattle.ion_model.specs.Measures.{bare};
-ghost use Rattle.ion_binary.specs.Machine.{marks, one_octet, on_descriptor, on_marker, feed};
-ghost use Rattle.ion_binary.specs.Views.{machine_of, open_frames, Does, SameSetting};
+ghost use Rattle.ion_binary.specs.machine.EachOctet.{marks, one_octet, on_descriptor, on_marker, feed};
+ghost use Rattle.ion_binary.specs.machine.Views.{machine_of, open_frames, Does, SameSetting};
 
 use crate::form::{Form, Opening, opening_of};
 use crate::state::{Effect, Frame, Mark, Phase};

@@ -1,6 +1,6 @@
 //! Scalars that are written into a slot. What is refused is told by `judge` alone.
 ghost use Rattle.std.specs.Prelude.{◌≡◌, ◌<◌, ◌^◌, true, pos, neg_ℤ, if◌then◌else◌, IfSome, List};
-ghost use Rattle.ion_scalar.specs.Fields.{positional};
+ghost use Rattle.ion_scalar.specs.binary.Fields.{positional};
 ghost use Rattle.ion_symtab.specs.Slots.{Slot};
 ghost use Rattle.ion_binary.specs.Grammar.{IsScalar};
 ghost use Rattle.ion_binary.specs.declared.form.Scalar.TheVariants as scalars;

@@ -1,7 +1,7 @@
 //! What a reader holds between two octets.
 
 ghost use Rattle.std.specs.Prelude.{◌≡◌};
-ghost use Rattle.ion_binary.specs.Machine.{end_of};
+ghost use Rattle.ion_binary.specs.machine.EachOctet.{end_of};
 
 use crate::form::{Form, Listing, Scalar};
 use ion_model::{Field, Reason, Sequence, Symbol, Value};

@@ -6,7 +6,7 @@ ghost use Rattle.ion_model.specs.Kinds.{names_table};
 ghost use Rattle.ion_symtab.specs.Slots.{Slot};
 ghost use Rattle.ion_binary.specs.Opening.{opening_of};
 ghost use Rattle.ion_binary.specs.declared.form.Scalar.TheVariants as scalars;
-ghost use Rattle.ion_binary.specs.Walked.{Walked, WalkedPlain, WalkedBody, WalkedWrapper, WalkedScalar, WalkedItems, WalkedFields, WalkedIds};
+ghost use Rattle.ion_binary.specs.machine.Walked.{Walked, WalkedPlain, WalkedBody, WalkedWrapper, WalkedScalar, WalkedItems, WalkedFields, WalkedIds};
 
 use crate::form::{Form, Opening, Scalar, kind_of, opening_of};
 use crate::slots::{magnitude_of, small_uint};

@@ -2,10 +2,10 @@
 //! takes it up octet by octet.
 ghost use Rattle.std.specs.Prelude.{◌≡◌, ◌≤◌, ◌<◌, ◌+◌, ◌∷◌, true, length, take, [], get_or, IfSome};
 ghost use Rattle.ion_model.specs.Measures.{bare, depth};
-ghost use Rattle.ion_scalar.specs.Fields.{VarUInt};
+ghost use Rattle.ion_scalar.specs.binary.Fields.{VarUInt};
 ghost use Rattle.ion_binary.specs.Opening.{opening_of};
 ghost use Rattle.ion_binary.specs.Grammar.{listed, Ids, IsPad, Plain, Binary};
-ghost use Rattle.ion_binary.specs.Framed.{Heads, Framed, Wraps, IsListing, IsStruct};
+ghost use Rattle.ion_binary.specs.machine.Framed.{Heads, Framed, Wraps, IsListing, IsStruct};
 
 use crate::form::{Form, Listing, Opening, opening_of};
 use crate::slots::put_scalar;
@@ -31,7 +31,7 @@ pub(crate) fn number(octets: &[u8]) -> Option<(u64, usize)>
 
 /// The same of more than one octet.
 #[inline(never)]
-#[tactic(auto, using(ion_scalar::specs::VarUIntLaws::var_uint_ok))]
+#[tactic(auto, using(ion_scalar::specs::binary::laws::VarUInt::var_uint_ok))]
 fn long_number(octets: &[u8]) -> Option<(u64, usize)>
     ensures within { IfSome result (λ read. read.1 ≤ length octets.now) }
     ensures is { IfSome result (λ read. VarUInt (take read.1 octets.now) read.0) }

@@ -7,15 +7,22 @@ ghost use Rattle.ion_symtab.specs.Took.{Took, TookFront};
 ghost use Rattle.ion_binary.specs.Output.{nothing_yet, adds, after, opening, names_after, value_octets, table_value, Progress};
 ghost use Rattle.ion_binary.specs.Writing.{IsWritingFault, IsNumberingFault};
 
-use crate::encoding::put_value;
-use crate::guesses::Guesses;
-use crate::names::Names;
-use crate::numbering::number_value;
-use crate::table::table_of;
+use encoding::put_value;
+use guesses::Guesses;
 use ion_model::Value;
 use ion_symtab::{Fault, Outlet, flushed, write_whole};
+use names::Names;
+use numbering::number_value;
 use std::alloc::Global;
 use std::marker::Model;
+use table::table_of;
+
+mod encoding;
+mod framing;
+mod guesses;
+mod names;
+mod numbering;
+mod table;
 
 /// The marker of Ion 1.0 (Ion 1.0, "Ion Binary Encoding", "Value Streams").
 const MARKER: [u8; 4] = [0xE0, 0x01, 0x00, 0xEA];

@@ -7,7 +7,7 @@ use Rattle.std.proofs.lemmas.Result.{IfOk-weaker}
 use Rattle.ion_model.specs.declared.refusal.Refusal.{Refusal as the_refusal}
 use Rattle.ion_symtab.specs.Cause.{IsReadCause}
 use Rattle.ion_symtab.specs.Took.{TookFront}
-use Rattle.ion_symtab.specs.TookLaws.{Took-nil}
+use Rattle.ion_symtab.specs.laws.Took.{Took-nil}
 use Rattle.ion_symtab.specs.declared.catalog.Catalog.{Catalog as the_catalog}
 use Rattle.ion_symtab.specs.declared.fault.Fault.{Fault}
 use Rattle.ion_symtab.specs.declared.fault.Fault.TheVariants.{Memory, Read, Write, TooManyReads, TooLarge, Open}

@@ -1,7 +1,7 @@
 -- What went out where a write or a flush may have failed.
 use Rattle.std.proofs.Common.{◌≡◌, ℕ, List, [], Bool, true, false, Result, Ok, Err, OnOk, OnErr, is_ok, sym, ◌∙◌}
 use Rattle.ion_symtab.specs.Took.{Took, TookFront}
-use Rattle.ion_symtab.specs.TookLaws.{Took-kept, Front-all}
+use Rattle.ion_symtab.specs.laws.Took.{Took-kept, Front-all}
 use Rattle.ion_symtab.specs.declared.outlet.Outlet.{Ghosts as Outlet}
 use Rattle.ion_cmd.specs.Lines.{Reports}
 

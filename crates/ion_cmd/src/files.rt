@@ -15,16 +15,16 @@ use std::rt::Stdin;
 
 /// An open file, or the standard input.
 #[derive(Drop)]
-pub enum Source {
+pub enum Opened {
     File(File),
     Standard(Stdin),
 }
 
-impl Read for Source {
+impl Read for Opened {
     fn read(&mut self, buf: &mut [u8]) -> io::Result<usize> {
         match self {
-            Source::File(file) => file.read(buf),
-            Source::Standard(stdin) => stdin.read(buf),
+            Opened::File(file) => file.read(buf),
+            Opened::Standard(stdin) => stdin.read(buf),
         }
     }
 }
@@ -44,26 +44,26 @@ impl<'r> FileSystem<'r> {
 
 impl Sources for FileSystem<'_> {
     ghost use Rattle.std.specs.Prelude.{◌≡◌, ◌≢◌, [], codes};
-    ghost use Rattle.ion_symtab.specs.FromRead.{reader_of};
+    ghost use Rattle.ion_symtab.specs.kept.FromRead.{reader_of};
     ghost use Rattle.ion_cmd.specs.Named.{IsNamed};
 
-    type Input = FromRead<Source>;
+    type Input = FromRead<Opened>;
 
     /// The standard input by the name `-`, a file by any other. What it holds isn't known; its reader
     /// has handed nothing over yet.
     ghost gives = { λ _ name input. IsNamed name (reader_of input)
-        × (⟦<FromRead<Source> as Inlet>⟧.handed input ≡ []) × (⟦<FromRead<Source> as Inlet>⟧.ends input ≡ []) };
+        × (⟦<FromRead<Opened> as Inlet>⟧.handed input ≡ []) × (⟦<FromRead<Opened> as Inlet>⟧.ends input ≡ []) };
 
     /// Any name of a file may be refused, since nothing is known of what can be opened; the standard
     /// input never is.
     ghost refuses = { λ _ name. name ≢ codes "-" };
 
-    fn source(&mut self, name: &str) -> Result<FromRead<Source>, Fault> {
+    fn source(&mut self, name: &str) -> Result<FromRead<Opened>, Fault> {
         if name == "-" {
-            return Ok(FromRead::new(Source::Standard(self.rt.stdin())));
+            return Ok(FromRead::new(Opened::Standard(self.rt.stdin())));
         }
         match File::open(self.rt, name) {
-            Ok(file) => Ok(FromRead::new(Source::File(file))),
+            Ok(file) => Ok(FromRead::new(Opened::File(file))),
             Err(error) if error.kind() == ErrorKind::OutOfMemory => Err(Fault::Memory),
             Err(_) => Err(Fault::Open),
         }

@@ -5,12 +5,12 @@ use Rattle.ion_symtab.specs.declared.catalog.Catalog.{Catalog}
 use Rattle.ion_symtab.specs.declared.limits.Limits.{Limits}
 use Rattle.ion_symtab.specs.declared.inlet.Inlet.{Ghosts as Inlet}
 use Rattle.ion_symtab.specs.declared.items.Items.{Ghosts as Items}
-use Rattle.ion_docs.specs.Alongside.{WentPast, PlacePast}
-use Rattle.ion_docs.specs.Reading.{between, left_of, Begins, IsReady, IsWithin, work}
-use Rattle.ion_docs.specs.Place.{IfOpen, IsOpen, IfClosed, work_of, Stood}
+use Rattle.ion_docs.specs.reading.Alongside.{WentPast, StandingPast}
+use Rattle.ion_docs.specs.reading.Read.{between, left_of, Begins, IsReady, IsWithin, work}
+use Rattle.ion_docs.specs.reading.Standing.{IfOpen, IsOpen, IfClosed, work_of, Stood}
 use Rattle.ion_docs.specs.declared.source.Source.{Source}
-use Rattle.ion_docs.specs.declared.source.Place.{Place}
-use Rattle.ion_docs.specs.declared.source.Place.TheVariants.{Open, Ended, Refused}
+use Rattle.ion_docs.specs.declared.source.Standing.{Standing}
+use Rattle.ion_docs.specs.declared.source.Standing.TheVariants.{Open, Ended, Refused}
 use Rattle.ion_docs.proofs.Pieces.{went}
 use Rattle.ion_docs.proofs.Steps.{plain_next, reads_went}
 
@@ -29,7 +29,7 @@ past I counted before after used v ready fits under within taken less none go pi
     let same = ready.counted in
     let room = ready.room in
     let rest : left_of after ≡ between before.piece.items (before.at + used) before.end =
-        ap (λ x. between x after.at after.end) piece ∙ (ap (λ x. between before.piece.items x after.end) at ∙ ap (λ x. between before.piece.items (before.at + used) x) end) in
+    ap (λ x. between x after.at after.end) piece ∙ (ap (λ x. between before.piece.items x after.end) at ∙ ap (λ x. between before.piece.items (before.at + used) x) end) in
     record {
       went = λ u given h.
           let total = counted before.items u given h in
@@ -50,40 +50,40 @@ past I counted before after used v ready fits under within taken less none go pi
 
 -- what holds of a place that went past a value
 module _ {X : Type 0} (I : Items X) where
-  pub past_open : (place after : Place X) (v : Value) → PlacePast I place after v → IsOpen after
+  pub past_open : (place after : Standing X) (v : Value) → StandingPast I place after v → IsOpen after
   past_open (Open from) (Open to) v h = tt
   past_open (Open from) Ended v h = absurd h
   past_open (Open from) (Refused r) v h = absurd h
   past_open Ended after v h = absurd h
   past_open (Refused r) after v h = absurd h
 
-  pub past_closed : (place after : Place X) (v : Value) (P : Type 0) → PlacePast I place after v → IfClosed place P
+  pub past_closed : (place after : Standing X) (v : Value) (P : Type 0) → StandingPast I place after v → IfClosed place P
   past_closed (Open from) after v P h = tt
   past_closed Ended after v P h = absurd h
   past_closed (Refused r) after v P h = absurd h
 
-  pub past_ready : (place after : Place X) (v : Value) → PlacePast I place after v → IfOpen after (IsReady I)
+  pub past_ready : (place after : Standing X) (v : Value) → StandingPast I place after v → IfOpen after (IsReady I)
   past_ready (Open from) (Open to) v h = h.ready
   past_ready (Open from) Ended v h = tt
   past_ready (Open from) (Refused r) v h = tt
   past_ready Ended after v h = absurd h
   past_ready (Refused r) after v h = absurd h
 
-  pub past_less : (place after : Place X) (v : Value) → PlacePast I place after v → work_of I after < work_of I place
+  pub past_less : (place after : Standing X) (v : Value) → StandingPast I place after v → work_of I after < work_of I place
   past_less (Open from) (Open to) v h = let less = h.less in omega (arith, less)
   past_less (Open from) Ended v h = absurd h
   past_less (Open from) (Refused r) v h = absurd h
   past_less Ended after v h = absurd h
   past_less (Refused r) after v h = absurd h
 
-  pub past_within : {S : Type 0} (R : Inlet S) (reads : ℕ) (first now : S) (place after : Place X) (v : Value) → PlacePast I place after v → IfOpen place (IsWithin R reads first now) → IfOpen after (IsWithin R reads first now)
+  pub past_within : {S : Type 0} (R : Inlet S) (reads : ℕ) (first now : S) (place after : Standing X) (v : Value) → StandingPast I place after v → IfOpen place (IsWithin R reads first now) → IfOpen after (IsWithin R reads first now)
   past_within R reads first now (Open from) (Open to) v h w = let rest = w.rest in record { made = w.made; were = w.were; rest = omega (arith, rest, h.reads) }
   past_within R reads first now (Open from) Ended v h w = tt
   past_within R reads first now (Open from) (Refused r) v h w = tt
   past_within R reads first now Ended after v h w = absurd h
   past_within R reads first now (Refused r) after v h w = absurd h
 
-  pub past_stood : {S : Type 0} (R : Inlet S) (g : Catalog) (l : Limits) (first now : S) (place after : Place X) (v : Value) (s : List Value) → PlacePast I place after v → Stood R I g l first now place s → Stood R I g l first now after (s ++ v ∷ [])
+  pub past_stood : {S : Type 0} (R : Inlet S) (g : Catalog) (l : Limits) (first now : S) (place after : Standing X) (v : Value) (s : List Value) → StandingPast I place after v → Stood R I g l first now place s → Stood R I g l first now after (s ++ v ∷ [])
   past_stood R g l first now (Open from) (Open to) v s h stood =
       record {
         given = stood.given ++ (v, to.used) ∷ [];

@@ -11,9 +11,9 @@ use Rattle.ion_symtab.specs.declared.limits.Limits.{Limits}
 use Rattle.ion_docs.specs.declared.doc_reader.Format.{Format}
 use Rattle.ion_docs.specs.declared.doc_reader.Format.TheVariants.{Unbegun, Refused, Binary, Text}
 use Rattle.ion_docs.specs.declared.doc_reader.DocReader.{DocReader}
-use Rattle.ion_docs.specs.Chosen.{chosen}
-use Rattle.ion_docs.specs.DocStands.{Begins, Handed, FormatStands, DocStands}
-use Rattle.ion_docs.specs.DocReaders.{begins_on, trace_in, chosen_in, same_trace}
+use Rattle.ion_docs.specs.reading.Chosen.{chosen}
+use Rattle.ion_docs.specs.reading.DocStands.{Begins, Handed, FormatStands, DocStands}
+use Rattle.ion_docs.specs.laws.Readers.{begins_on, trace_in, chosen_in, same_trace}
 
 -- 1. What the reader that was chosen answers is what is chosen.
 module _ (b : Bool) (g : Catalog) (l : Limits) where

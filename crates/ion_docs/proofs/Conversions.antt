@@ -2,7 +2,7 @@
 use Rattle.std.proofs.Common.{ℕ, List, [], ◌++◌, Bool, false, sym, subst, append-nil}
 use Rattle.ion_model.specs.declared.value.Value.{Value}
 use Rattle.ion_symtab.specs.Took.{Took, TookFront}
-use Rattle.ion_symtab.specs.TookLaws.{Took-nil, Took-trans, Front-all, Front-more, Front-behind}
+use Rattle.ion_symtab.specs.laws.Took.{Took-nil, Took-trans, Front-all, Front-more, Front-behind}
 use Rattle.ion_symtab.specs.declared.fault.Fault.{Fault}
 use Rattle.ion_symtab.specs.declared.fault.Fault.TheVariants.{Memory, Read, Write, TooManyReads, TooLarge, Open}
 use Rattle.ion_symtab.specs.declared.catalog.Catalog.{Catalog}
@@ -10,10 +10,10 @@ use Rattle.ion_symtab.specs.declared.limits.Limits.{Limits}
 use Rattle.ion_symtab.specs.declared.inlet.Inlet.{Ghosts as Inlet}
 use Rattle.ion_symtab.specs.declared.items.Items.{Ghosts as Items}
 use Rattle.ion_symtab.specs.declared.outlet.Outlet.{Ghosts as Outlet}
-use Rattle.ion_docs.specs.Reading.{left_of}
-use Rattle.ion_docs.specs.Place.{Stood}
-use Rattle.ion_docs.specs.declared.source.Place.{Place}
-use Rattle.ion_docs.specs.declared.source.Place.TheVariants as ThePlace
+use Rattle.ion_docs.specs.reading.Read.{left_of}
+use Rattle.ion_docs.specs.reading.Standing.{Stood}
+use Rattle.ion_docs.specs.declared.source.Standing.{Standing}
+use Rattle.ion_docs.specs.declared.source.Standing.TheVariants as TheStanding
 use Rattle.ion_docs.specs.Converted.{ReadSoFar, in_reading, at_refusal, at_end, IsConvertCause}
 use Rattle.ion_docs.specs.Encodings.{Encoding, IsFrontOf, TookBehind, TookSomeBehind, IsPuttingFault}
 
@@ -49,7 +49,7 @@ put_cause E WasRead failed s Open r h = absurd h
 
 module _ {S X : Type 0} (R : Inlet S) (I : Items X) (g : Catalog) (l : Limits) where
   -- wherever the document stands, its values were read
-  pub was_read : (first now : S) (place : Place X) (s : List Value) → Stood R I g l first now place s → ReadSoFar R I g l first now s
-  was_read first now (ThePlace.Open source) s h = in_reading (record { items = source.items; left = left_of source; ended = false; gave = h })
-  was_read first now (ThePlace.Refused refusal) s h = at_refusal refusal h
-  was_read first now ThePlace.Ended s h = at_end h
+  pub was_read : (first now : S) (place : Standing X) (s : List Value) → Stood R I g l first now place s → ReadSoFar R I g l first now s
+  was_read first now (TheStanding.Open source) s h = in_reading (record { items = source.items; left = left_of source; ended = false; gave = h })
+  was_read first now (TheStanding.Refused refusal) s h = at_refusal refusal h
+  was_read first now TheStanding.Ended s h = at_end h

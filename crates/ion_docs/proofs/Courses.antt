@@ -9,12 +9,12 @@ use Rattle.ion_symtab.specs.declared.inlet.Inlet.{Ghosts as Inlet}
 use Rattle.ion_symtab.specs.declared.items.Items.{Ghosts as Items}
 use Rattle.ion_docs.specs.Formats.{Format, format_of}
 use Rattle.ion_docs.specs.Outcomes.{ToldRefused}
-use Rattle.ion_docs.specs.Reading.{left_of}
-use Rattle.ion_docs.specs.Place.{IfOpen, IsOpen, IfClosed, work_of, Stood}
+use Rattle.ion_docs.specs.reading.Read.{left_of}
+use Rattle.ion_docs.specs.reading.Standing.{IfOpen, IsOpen, IfClosed, work_of, Stood}
 use Rattle.ion_docs.specs.Compared.{parts, PartAt, IsVerdict, IsCompared}
-use Rattle.ion_docs.specs.Courses.{MetBoth, IsMet, count_of, verdict_on, verdict_of}
-use Rattle.ion_docs.specs.declared.source.Place.{Place}
-use Rattle.ion_docs.specs.declared.source.Place.TheVariants as ThePlace
+use Rattle.ion_docs.specs.reading.Courses.{MetBoth, IsMet, count_of, verdict_on, verdict_of}
+use Rattle.ion_docs.specs.declared.source.Standing.{Standing}
+use Rattle.ion_docs.specs.declared.source.Standing.TheVariants as TheStanding
 use Rattle.ion_docs.specs.declared.comparison.Course.{Course}
 use Rattle.ion_docs.specs.declared.comparison.Course.TheVariants.{Alike, Parted}
 use Rattle.ion_docs.specs.declared.comparison.Verdict.TheVariants as TheVerdict
@@ -33,7 +33,7 @@ IfAlike (Alike values) P = P values
 IfAlike (Parted index path) P = Unit {0}
 
 -- s and t compared so, and nothing follows behind a document that is closed
-pub record Meets {X Y : Type 0} (course : Course) (left : Place X) (right : Place Y) (s t : List Value) : Type 0 where
+pub record Meets {X Y : Type 0} (course : Course) (left : Standing X) (right : Standing Y) (s t : List Value) : Type 0 where
   pub onward : (s' t' : List Value) → IfClosed left (s' ≡ []) → IfClosed right (t' ≡ []) → Onward course (s ++ s') (t ++ t') s' t'
   pub counted : IfAlike course (λ values. (length s ≡ values) × (length t ≡ values))
 
@@ -41,7 +41,7 @@ map_none : (p : Option ℕ) → p ≡ option_map (λ n. n + 0) p
 map_none None = refl
 map_none (Some k) = ap Some (omega arith)
 
-pub meets_begun : {X Y : Type 0} (left : Place X) (right : Place Y) → Meets (Alike 0) left right [] []
+pub meets_begun : {X Y : Type 0} (left : Standing X) (right : Standing Y) → Meets (Alike 0) left right [] []
 meets_begun left right = record { onward = λ s t h k. map_none (parts s t); counted = (refl, refl) }
 
 map_more : (n : ℕ) (p : Option ℕ) → option_map (λ k. k + n) (option_map (λ k. k + 1) p) ≡ option_map (λ k. k + (n + 1)) p
@@ -115,17 +115,17 @@ counted_more (Alike n) after None (Some w) s t h met = rw met tt
 counted_more (Alike n) after (Some v) None s t h met = rw met tt
 
 -- nothing followed behind a document that is closed, and without a value it is closed
-closed_before : {X : Type 0} (before after : Place X) (v : Option Value) (s : List Value) → IfClosed before ((after ≡ before) × (v ≡ None)) → IfClosed after (s ≡ []) → IfClosed before (option_to_list v ++ s ≡ [])
-closed_before (ThePlace.Open source) after v s h k = tt
-closed_before ThePlace.Ended after v s h k = ap (λ (x : Option Value). option_to_list x ++ s) h.1 ∙ subst (λ (x : Place _). IfClosed x (s ≡ [])) h.0 k
-closed_before (ThePlace.Refused refusal) after v s h k = ap (λ (x : Option Value). option_to_list x ++ s) h.1 ∙ subst (λ (x : Place _). IfClosed x (s ≡ [])) h.0 k
+closed_before : {X : Type 0} (before after : Standing X) (v : Option Value) (s : List Value) → IfClosed before ((after ≡ before) × (v ≡ None)) → IfClosed after (s ≡ []) → IfClosed before (option_to_list v ++ s ≡ [])
+closed_before (TheStanding.Open source) after v s h k = tt
+closed_before TheStanding.Ended after v s h k = ap (λ (x : Option Value). option_to_list x ++ s) h.1 ∙ subst (λ (x : Standing _). IfClosed x (s ≡ [])) h.0 k
+closed_before (TheStanding.Refused refusal) after v s h k = ap (λ (x : Option Value). option_to_list x ++ s) h.1 ∙ subst (λ (x : Standing _). IfClosed x (s ≡ [])) h.0 k
 
-closed_after : {X : Type 0} (after : Place X) (v : Option Value) (s : List Value) → (v ≡ None → IfOpen after (λ source. ⊥)) → IfClosed after (s ≡ []) → v ≡ None → s ≡ []
-closed_after (ThePlace.Open source) v s h k none = absurd (h none)
-closed_after ThePlace.Ended v s h k none = k
-closed_after (ThePlace.Refused refusal) v s h k none = k
+closed_after : {X : Type 0} (after : Standing X) (v : Option Value) (s : List Value) → (v ≡ None → IfOpen after (λ source. ⊥)) → IfClosed after (s ≡ []) → v ≡ None → s ≡ []
+closed_after (TheStanding.Open source) v s h k none = absurd (h none)
+closed_after TheStanding.Ended v s h k none = k
+closed_after (TheStanding.Refused refusal) v s h k none = k
 
-pub meets_more : {X Y : Type 0} (course after : Course) (left left' : Place X) (right right' : Place Y) (s t : List Value) (v w : Option Value) → IsMet course v w after → Meets course left right s t →
+pub meets_more : {X Y : Type 0} (course after : Course) (left left' : Standing X) (right right' : Standing Y) (s t : List Value) (v w : Option Value) → IsMet course v w after → Meets course left right s t →
     IfClosed left ((left' ≡ left) × (v ≡ None)) → IfClosed right ((right' ≡ right) × (w ≡ None)) → (v ≡ None → IfOpen left' (λ source. ⊥)) → (w ≡ None → IfOpen right' (λ source. ⊥)) →
     Meets after left' right' (s ++ option_to_list v) (t ++ option_to_list w)
 meets_more course after left left' right right' s t v w met h was_left was_right left_ends right_ends =
@@ -159,14 +159,14 @@ ended_all P octets more none h = subst P (sym (ap (λ x. octets ++ x) (none refl
 
 module _ {S X T Y : Type 0} (L : Inlet S) (I : Items X) (R : Inlet T) (J : Items Y) (g h : Catalog) (k l : Limits) where
   -- both are closed and the left is no refused one
-  pub closed_verdict : (left left_now : S) (right right_now : T) (left_place : Place X) (right_place : Place Y) (course : Course) (s t : List Value) →
+  pub closed_verdict : (left left_now : S) (right right_now : T) (left_place : Standing X) (right_place : Standing Y) (course : Course) (s t : List Value) →
       Stood L I g k left left_now left_place s → Stood R J h l right right_now right_place t →
-      Meets course left_place right_place s t → ((refusal : Refusal) → left_place ≡ ThePlace.Refused refusal → ⊥) → IfOpen left_place (λ source. ⊥) → IfOpen right_place (λ source. ⊥) →
+      Meets course left_place right_place s t → ((refusal : Refusal) → left_place ≡ TheStanding.Refused refusal → ⊥) → IfOpen left_place (λ source. ⊥) → IfOpen right_place (λ source. ⊥) →
       IsCompared L R (format_of I g k) (format_of J h l) left left_now right right_now (verdict_of right_place course)
-  closed_verdict left left_now right right_now (ThePlace.Open source) right_place course s t a b meets kept closed_left closed_right = absurd closed_left
-  closed_verdict left left_now right right_now (ThePlace.Refused refusal) right_place course s t a b meets kept closed_left closed_right = absurd (kept refusal refl)
-  closed_verdict left left_now right right_now ThePlace.Ended (ThePlace.Open source) course s t a b meets kept closed_left closed_right = absurd closed_right
-  closed_verdict left left_now right right_now ThePlace.Ended (ThePlace.Refused refusal) course s t a b meets kept closed_left closed_right =
+  closed_verdict left left_now right right_now (TheStanding.Open source) right_place course s t a b meets kept closed_left closed_right = absurd closed_left
+  closed_verdict left left_now right right_now (TheStanding.Refused refusal) right_place course s t a b meets kept closed_left closed_right = absurd (kept refusal refl)
+  closed_verdict left left_now right right_now TheStanding.Ended (TheStanding.Open source) course s t a b meets kept closed_left closed_right = absurd closed_right
+  closed_verdict left left_now right right_now TheStanding.Ended (TheStanding.Refused refusal) course s t a b meets kept closed_left closed_right =
       record {
         l = a.octets;
         left_ended = true;
@@ -176,7 +176,7 @@ module _ {S X T Y : Type 0} (L : Inlet S) (I : Items X) (R : Inlet T) (J : Items
         heard_right = b.heard;
         decided = λ more_l more_r none_l none_r. ((s, ended_all (λ x. I.denotes g k x s) a.octets more_l none_l a.denoted), (t, b.refused more_r none_r));
       }
-  closed_verdict left left_now right right_now ThePlace.Ended ThePlace.Ended course s t a b meets kept closed_left closed_right =
+  closed_verdict left left_now right right_now TheStanding.Ended TheStanding.Ended course s t a b meets kept closed_left closed_right =
       record {
         l = a.octets;
         left_ended = true;
@@ -191,13 +191,13 @@ module _ {S X T Y : Type 0} (L : Inlet S) (I : Items X) (R : Inlet T) (J : Items
       }
 
   -- what was heard of a device, wherever its document stands
-  stood_heard : (right right_now : T) (right_place : Place Y) (t : List Value) → Stood R J h l right right_now right_place t → (octets : List ℕ) × (ended : Bool) × Heard R right right_now octets ended
-  stood_heard right right_now (ThePlace.Open source) t b = (b.each.u ++ left_of source, false, b.each.heard)
-  stood_heard right right_now ThePlace.Ended t b = (b.octets, true, b.heard)
-  stood_heard right right_now (ThePlace.Refused refusal) t b = (b.octets, b.ended, b.heard)
+  stood_heard : (right right_now : T) (right_place : Standing Y) (t : List Value) → Stood R J h l right right_now right_place t → (octets : List ℕ) × (ended : Bool) × Heard R right right_now octets ended
+  stood_heard right right_now (TheStanding.Open source) t b = (b.each.u ++ left_of source, false, b.each.heard)
+  stood_heard right right_now TheStanding.Ended t b = (b.octets, true, b.heard)
+  stood_heard right right_now (TheStanding.Refused refusal) t b = (b.octets, b.ended, b.heard)
 
   -- the left is refused, wherever the right stands
-  pub left_refused : (left left_now : S) (right right_now : T) (right_place : Place Y) (s t : List Value) (refusal : Refusal) → ToldRefused L (format_of I g k) left left_now s refusal →
+  pub left_refused : (left left_now : S) (right right_now : T) (right_place : Standing Y) (s t : List Value) (refusal : Refusal) → ToldRefused L (format_of I g k) left left_now s refusal →
       Stood R J h l right right_now right_place t → IsCompared L R (format_of I g k) (format_of J h l) left left_now right right_now (TheVerdict.Refused Left refusal)
   left_refused left left_now right right_now right_place s t refusal a b =
       let heard = stood_heard right right_now right_place t b in
@@ -222,17 +222,17 @@ count_met (Alike n) after (Some v) (Some w) met = count_both n v w after met
 count_met (Alike n) after None (Some w) met = rw met (omega arith)
 count_met (Alike n) after (Some v) None met = rw met (omega arith)
 
-work_kept : {X : Type 0} (I : Items X) (before after : Place X) (P : Type 0) → IfOpen before (λ source. work_of I after < work_of I before) → IfClosed before ((after ≡ before) × P) → work_of I after ≤ work_of I before
-work_kept I (ThePlace.Open source) after P h k = omega (arith, h)
-work_kept I ThePlace.Ended after P h k = let e = ap (λ (x : Place _). work_of I x) k.0 in omega (arith, e)
-work_kept I (ThePlace.Refused refusal) after P h k = let e = ap (λ (x : Place _). work_of I x) k.0 in omega (arith, e)
+work_kept : {X : Type 0} (I : Items X) (before after : Standing X) (P : Type 0) → IfOpen before (λ source. work_of I after < work_of I before) → IfClosed before ((after ≡ before) × P) → work_of I after ≤ work_of I before
+work_kept I (TheStanding.Open source) after P h k = omega (arith, h)
+work_kept I TheStanding.Ended after P h k = let e = ap (λ (x : Standing _). work_of I x) k.0 in omega (arith, e)
+work_kept I (TheStanding.Refused refusal) after P h k = let e = ap (λ (x : Standing _). work_of I x) k.0 in omega (arith, e)
 
-work_open : {X : Type 0} (I : Items X) (before after : Place X) → IsOpen before → IfOpen before (λ source. work_of I after < work_of I before) → work_of I after < work_of I before
-work_open I (ThePlace.Open source) after opened h = h
-work_open I ThePlace.Ended after opened h = absurd opened
-work_open I (ThePlace.Refused refusal) after opened h = absurd opened
+work_open : {X : Type 0} (I : Items X) (before after : Standing X) → IsOpen before → IfOpen before (λ source. work_of I after < work_of I before) → work_of I after < work_of I before
+work_open I (TheStanding.Open source) after opened h = h
+work_open I TheStanding.Ended after opened h = absurd opened
+work_open I (TheStanding.Refused refusal) after opened h = absurd opened
 
-pub works_less : {X Y : Type 0} (I : Items X) (J : Items Y) (left left' : Place X) (right right' : Place Y) (P Q : Type 0) → IsOpen left ⊎ IsOpen right →
+pub works_less : {X Y : Type 0} (I : Items X) (J : Items Y) (left left' : Standing X) (right right' : Standing Y) (P Q : Type 0) → IsOpen left ⊎ IsOpen right →
     IfOpen left (λ source. work_of I left' < work_of I left) → IfClosed left ((left' ≡ left) × P) →
     IfOpen right (λ source. work_of J right' < work_of J right) → IfClosed right ((right' ≡ right) × Q) →
     work_of I left' + work_of J right' < work_of I left + work_of J right

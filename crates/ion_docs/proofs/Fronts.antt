@@ -4,17 +4,17 @@ use Rattle.ion_model.specs.declared.value.Value.{Value}
 use Rattle.ion_model.specs.Outlines.{outline_of}
 use Rattle.ion_model.specs.declared.outline.Outline.{Outline}
 use Rattle.ion_symtab.specs.Took.{Took, TookFront}
-use Rattle.ion_symtab.specs.TookLaws.{Took-trans, Front-behind, Front-more}
+use Rattle.ion_symtab.specs.laws.Took.{Took-trans, Front-behind, Front-more}
 use Rattle.ion_symtab.specs.declared.catalog.Catalog.{Catalog}
 use Rattle.ion_symtab.specs.declared.limits.Limits.{Limits}
 use Rattle.ion_symtab.specs.declared.inlet.Inlet.{Ghosts as Inlet}
 use Rattle.ion_symtab.specs.declared.items.Items.{Ghosts as Items}
 use Rattle.ion_symtab.specs.declared.outlet.Outlet.{Ghosts as Outlet}
 use Rattle.ion_docs.specs.Listing.{line_of, lines_from, lines_of, accepted_line, ShowsSoFar, in_reading, at_refusal, at_end}
-use Rattle.ion_docs.specs.Reading.{left_of}
-use Rattle.ion_docs.specs.Place.{Stood}
-use Rattle.ion_docs.specs.declared.source.Place.{Place}
-use Rattle.ion_docs.specs.declared.source.Place.TheVariants as ThePlace
+use Rattle.ion_docs.specs.reading.Read.{left_of}
+use Rattle.ion_docs.specs.reading.Standing.{Stood}
+use Rattle.ion_docs.specs.declared.source.Standing.{Standing}
+use Rattle.ion_docs.specs.declared.source.Standing.TheVariants as TheStanding
 
 pub lines_more : (index : ℕ) (s t : List Value) → lines_from index (s ++ t) ≡ lines_from index s ++ lines_from (index + length s) t
 lines_more index [] t = ap (λ n. lines_from n t) (omega arith)
@@ -38,7 +38,7 @@ module _ {T : Type 0} (W : Outlet T) where
 
 module _ {S X T : Type 0} (R : Inlet S) (I : Items X) (W : Outlet T) (g : Catalog) (l : Limits) where
   -- a front of the lines so far, wherever the document stands
-  pub so_far : (first now : S) (old new : T) (place : Place X) (s : List Value) → Stood R I g l first now place s → TookFront W.took W.written old new (lines_of s) → ShowsSoFar R I W g l first now old new
-  so_far first now old new (ThePlace.Open source) s h front = in_reading s (record { items = source.items; left = left_of source; ended = false; gave = h }) front
-  so_far first now old new (ThePlace.Refused refusal) s h front = at_refusal s refusal h front
-  so_far first now old new ThePlace.Ended s h front = at_end s h (Front-more W.took W.written old new (lines_of s) (accepted_line (length s)) front)
+  pub so_far : (first now : S) (old new : T) (place : Standing X) (s : List Value) → Stood R I g l first now place s → TookFront W.took W.written old new (lines_of s) → ShowsSoFar R I W g l first now old new
+  so_far first now old new (TheStanding.Open source) s h front = in_reading s (record { items = source.items; left = left_of source; ended = false; gave = h }) front
+  so_far first now old new (TheStanding.Refused refusal) s h front = at_refusal s refusal h front
+  so_far first now old new TheStanding.Ended s h front = at_end s h (Front-more W.took W.written old new (lines_of s) (accepted_line (length s)) front)

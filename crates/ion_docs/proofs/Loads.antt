@@ -12,11 +12,11 @@ use Rattle.ion_symtab.specs.declared.inlet.Inlet.{Ghosts as Inlet}
 use Rattle.ion_symtab.specs.declared.items.Items.{Ghosts as Items}
 use Rattle.ion_docs.specs.Formats.{format_of}
 use Rattle.ion_docs.specs.Outcomes.{given_last}
-use Rattle.ion_docs.specs.Reading.{left_of, Begins, IsReady}
-use Rattle.ion_docs.specs.Place.{IfOpen, StoodEach}
+use Rattle.ion_docs.specs.reading.Read.{left_of, Begins, IsReady}
+use Rattle.ion_docs.specs.reading.Standing.{IfOpen, StoodEach}
 use Rattle.ion_docs.specs.Loaded.{added, then_at, catalog_of, IsCatalog, IsLoaded}
-use Rattle.ion_docs.specs.declared.source.Place.{Place}
-use Rattle.ion_docs.specs.declared.source.Place.TheVariants as ThePlace
+use Rattle.ion_docs.specs.declared.source.Standing.{Standing}
+use Rattle.ion_docs.specs.declared.source.Standing.TheVariants as TheStanding
 
 -- values behind others that describe tables
 ok_behind : (r : Result (List Table) Reason) (total : ℕ) (f g : List Table → Result (List Table) Refusal) (h : List Table → Result (List Table) Refusal) (tables : List Table) →
@@ -63,9 +63,9 @@ module _ {S X : Type 0} (R : Inlet S) (I : Items X) (g : Catalog) (l : Limits) w
   pub value_refused : ((u w : List ℕ) → Grows (I.trace g l u) (I.trace g l (u ++ w))) →
       ((r : X) (u : List ℕ) (given : List (Value × ℕ)) → I.stands r u given → IsNone (I.awaits r) → (I.trace (I.catalog r) (I.limits r) u).given ≡ given) →
       ((r : X) (u : List ℕ) (given : List (Value × ℕ)) → I.stands r u given → IfSome (I.awaits r) (λ octet. IsFront given (I.trace (I.catalog r) (I.limits r) (u ++ octet ∷ [])).given)) →
-      (first now : S) (place : Place X) (given : List (Value × ℕ)) (refusal : Refusal) → StoodEach R I g l first now place given → IfOpen place (IsReady I) → catalog_of [] given ≡ Err refusal →
+      (first now : S) (place : Standing X) (given : List (Value × ℕ)) (refusal : Refusal) → StoodEach R I g l first now place given → IfOpen place (IsReady I) → catalog_of [] given ≡ Err refusal →
       IsLoaded R (format_of I g l) first now (Err refusal)
-  value_refused settled so_far with_next first now (ThePlace.Open source) given refusal h ready e =
+  value_refused settled so_far with_next first now (TheStanding.Open source) given refusal h ready e =
       record {
         octets = h.u ++ left_of source;
         ended = false;
@@ -77,18 +77,18 @@ module _ {S X : Type 0} (R : Inlet S) (I : Items X) (g : Catalog) (l : Limits) w
             let last = given_last (I.trace g l w).ends (length w) in
             inl (catalog_err [] (I.trace g l w).given last refusal (ap (λ x. catalog_of [] x) front.1 ∙ catalog_err [] given front.0 refusal e));
       }
-  value_refused settled so_far with_next first now ThePlace.Ended given refusal h ready e =
+  value_refused settled so_far with_next first now TheStanding.Ended given refusal h ready e =
       record {
         octets = h.octets;
         ended = true;
         heard = h.heard;
         decided = λ more none. ended_all (λ x. IsCatalog (format_of I g l) x (Err refusal)) h.octets more none (inl (ap (λ x. catalog_of [] x) h.ends.all ∙ e));
       }
-  value_refused settled so_far with_next first now (ThePlace.Refused early) given refusal h ready e =
+  value_refused settled so_far with_next first now (TheStanding.Refused early) given refusal h ready e =
       record { octets = h.octets; ended = h.ended; heard = h.heard; decided = λ more may. inl (ap (λ x. catalog_of [] x) (h.ends more may).all ∙ e) }
 
   -- all values describe tables, and the octets are no document
-  pub document_refused : (first now : S) (given : List (Value × ℕ)) (tables : List Table) (refusal : Refusal) → StoodEach R I g l first now (ThePlace.Refused refusal) given → catalog_of [] given ≡ Ok tables →
+  pub document_refused : (first now : S) (given : List (Value × ℕ)) (tables : List Table) (refusal : Refusal) → StoodEach R I g l first now (TheStanding.Refused refusal) given → catalog_of [] given ≡ Ok tables →
       IsLoaded R (format_of I g l) first now (Err refusal)
   document_refused first now given tables refusal h e =
       record {
@@ -101,7 +101,7 @@ module _ {S X : Type 0} (R : Inlet S) (I : Items X) (g : Catalog) (l : Limits) w
       }
 
   -- all values describe tables, and the octets are a document
-  pub document_loaded : (first now : S) (given : List (Value × ℕ)) (tables : List Table) → StoodEach R I g l first now ThePlace.Ended given → catalog_of [] given ≡ Ok tables →
+  pub document_loaded : (first now : S) (given : List (Value × ℕ)) (tables : List Table) → StoodEach R I g l first now TheStanding.Ended given → catalog_of [] given ≡ Ok tables →
       IsLoaded R (format_of I g l) first now (Ok tables)
   document_loaded first now given tables h e =
       record {

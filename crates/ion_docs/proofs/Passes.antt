@@ -13,15 +13,15 @@ use Rattle.ion_symtab.specs.declared.inlet.Inlet.{Ghosts as Inlet}
 use Rattle.ion_symtab.specs.declared.items.Items.{Ghosts as Items}
 use Rattle.ion_symtab.specs.Trace.{plain, given_at}
 use Rattle.ion_docs.specs.Formats.{format_of}
-use Rattle.ion_docs.specs.Reading.{left_of, Went, GaveEach, ReadsEach}
+use Rattle.ion_docs.specs.reading.Read.{left_of, Went, GaveEach, ReadsEach}
 use Rattle.ion_docs.specs.Outcomes.{EndsWell, EndsRefused, ToldRefusedEach}
-use Rattle.ion_docs.specs.Place.{IfOpen, MatchClosed, Stood}
+use Rattle.ion_docs.specs.reading.Standing.{IfOpen, MatchClosed, Stood}
 use Rattle.ion_docs.specs.Checked.{IsChecked, counted}
-use Rattle.ion_docs.specs.Reached.{Reaches}
+use Rattle.ion_docs.specs.reading.Reached.{Reaches}
 use Rattle.ion_docs.specs.declared.source.passing.Reached.TheVariants.{Value as AValue}
 use Rattle.ion_docs.specs.declared.source.Source.{Source}
-use Rattle.ion_docs.specs.declared.source.Place.{Place}
-use Rattle.ion_docs.specs.declared.source.Place.TheVariants as ThePlace
+use Rattle.ion_docs.specs.declared.source.Standing.{Standing}
+use Rattle.ion_docs.specs.declared.source.Standing.TheVariants as TheStanding
 use Rattle.ion_docs.proofs.Steps.{reads_by, last_gives, stood_plain}
 
 length_found : (given : List (Value × ℕ)) (found : Option (Value × ℕ)) (values : ℕ) (some : Bool) → length given ≡ values → some ≡ is_some found → length (given ++ option_to_list found) ≡ values + (if some then 1 else 0)
@@ -54,16 +54,16 @@ module _ {S X : Type 0} (R : Inlet S) (I : Items X) (g : Catalog) (l : Limits) w
 
   -- the document is none
   pub passes_refused : (first now : S) (given : List (Value × ℕ)) (r : Refusal) → ToldRefusedEach R (format_of I g l) first now given r → IsChecked R (format_of I g l) first now (Err r)
-  passes_refused first now given r h = (plain given, stood_plain R I g l first now (ThePlace.Refused r) given h)
+  passes_refused first now given r h = (plain given, stood_plain R I g l first now (TheStanding.Refused r) given h)
 
-  checked_at : (first now : S) (place : Place X) (all : List Value) (values : ℕ) (some : Bool) → IfOpen place (λ source. ⊥) → length all ≡ values + (if some then 1 else 0) →
+  checked_at : (first now : S) (place : Standing X) (all : List Value) (values : ℕ) (some : Bool) → IfOpen place (λ source. ⊥) → length all ≡ values + (if some then 1 else 0) →
       Stood R I g l first now place all → IsChecked R (format_of I g l) first now (counted values some place)
-  checked_at first now (ThePlace.Open source) all values some closed count h = absurd closed
-  checked_at first now ThePlace.Ended all values some closed count h = (all, h, count)
-  checked_at first now (ThePlace.Refused refusal) all values some closed count h = (all, h)
+  checked_at first now (TheStanding.Open source) all values some closed count h = absurd closed
+  checked_at first now TheStanding.Ended all values some closed count h = (all, h, count)
+  checked_at first now (TheStanding.Refused refusal) all values some closed count h = (all, h)
 
   -- the end, which may have shown a value
-  pub passes_end : (first now : S) (source : Source X) (place : Place X) (found : Option (Value × ℕ)) (given : List (Value × ℕ)) (values : ℕ) (some : Bool) → length given ≡ values → some ≡ is_some found → left_of source ≡ [] → IfOpen place (λ source. ⊥) →
+  pub passes_end : (first now : S) (source : Source X) (place : Standing X) (found : Option (Value × ℕ)) (given : List (Value × ℕ)) (values : ℕ) (some : Bool) → length given ≡ values → some ≡ is_some found → left_of source ≡ [] → IfOpen place (λ source. ⊥) →
       ((u : List ℕ) (given : List (Value × ℕ)) → I.stands source.items u given → MatchClosed place (EndsWell (format_of I (I.catalog source.items) (I.limits source.items)) u (given ++ option_to_list found))
       (λ r. (found ≡ None) × EndsRefused (format_of I (I.catalog source.items) (I.limits source.items)) u given r)) →
       GaveEach R I g l first now source.items (left_of source) true given → IsChecked R (format_of I g l) first now (counted values some place)

@@ -4,7 +4,7 @@ use Rattle.std.proofs.lemmas.List.{take-append-drop, drop-take, drop-drop}
 use Rattle.ion_model.specs.declared.value.Value.{Value}
 use Rattle.ion_symtab.specs.Trace.{given_at}
 use Rattle.ion_symtab.specs.declared.items.Items.{Ghosts as Items}
-use Rattle.ion_docs.specs.Reading.{between, left_of, Begins, Went}
+use Rattle.ion_docs.specs.reading.Read.{between, left_of, Begins, Went}
 use Rattle.ion_docs.specs.declared.source.Source.{Source}
 
 pub between_drop : (piece : List ℕ) (at end used : ℕ) → used ≤ end - at → drop used (between piece at end) ≡ between piece (at + used) end

@@ -11,17 +11,17 @@ use Rattle.ion_symtab.specs.declared.inlet.Inlet.{Ghosts as Inlet}
 use Rattle.ion_symtab.specs.declared.items.Items.{Ghosts as Items}
 use Rattle.ion_symtab.specs.Trace.{plain, given_at}
 use Rattle.ion_symtab.specs.Heard.{Heard}
-use Rattle.ion_symtab.specs.HeardLaws.{Heard-nil, Heard-trans, Heard-end}
-use Rattle.ion_symtab.specs.CauseLaws.{WereMade-nil}
+use Rattle.ion_symtab.specs.laws.Heard.{Heard-nil, Heard-trans, Heard-end}
+use Rattle.ion_symtab.specs.laws.Causes.{WereMade-nil}
 use Rattle.ion_docs.specs.Formats.{format_of}
-use Rattle.ion_docs.specs.Reading.{left_of, Begins, IsReady, IsWithin, Went, GaveEach, GaveSoFar, Reads, ReadsEach}
+use Rattle.ion_docs.specs.reading.Read.{left_of, Begins, IsReady, IsWithin, Went, GaveEach, GaveSoFar, Reads, ReadsEach}
 use Rattle.ion_docs.specs.Outcomes.{EndsWell, EndsRefused, ToldDocument, ToldRefused, ToldEach, ToldRefusedEach}
-use Rattle.ion_docs.specs.Place.{IfOpen, MatchClosed, Stood, StoodEach}
-use Rattle.ion_docs.specs.Reached.{Reaches}
+use Rattle.ion_docs.specs.reading.Standing.{IfOpen, MatchClosed, Stood, StoodEach}
+use Rattle.ion_docs.specs.reading.Reached.{Reaches}
 use Rattle.ion_docs.specs.declared.source.Source.{Source}
 use Rattle.ion_docs.specs.declared.source.passing.Reached.TheVariants.{Value as AValue}
-use Rattle.ion_docs.specs.declared.source.Place.{Place}
-use Rattle.ion_docs.specs.declared.source.Place.TheVariants as ThePlace
+use Rattle.ion_docs.specs.declared.source.Standing.{Standing}
+use Rattle.ion_docs.specs.declared.source.Standing.TheVariants as TheStanding
 use Rattle.ion_symtab.specs.declared.fault.Fault.{Fault}
 
 pub on_err : {A E : Type 0} (result : Result A E) (P : Type 0) → P → OnErr result P
@@ -116,42 +116,42 @@ module _ {S X : Type 0} (R : Inlet S) (I : Items X) (g : Catalog) (l : Limits) w
       reads_filled first now new mid after more ended given w empty heard rest same
 
   -- the end of a document whose octets were all used
-  pub last_gives : (first now : S) (source : Source X) (given : List (Value × ℕ)) (place : Place X) (last : Option (Value × ℕ)) → left_of source ≡ [] →
+  pub last_gives : (first now : S) (source : Source X) (given : List (Value × ℕ)) (place : Standing X) (last : Option (Value × ℕ)) → left_of source ≡ [] →
       ((u : List ℕ) (given : List (Value × ℕ)) → I.stands source.items u given → MatchClosed place (EndsWell (format_of I (I.catalog source.items) (I.limits source.items)) u (given ++ option_to_list last))
       (λ r. (last ≡ None) × EndsRefused (format_of I (I.catalog source.items) (I.limits source.items)) u given r)) →
       GaveEach R I g l first now source.items (left_of source) true given → StoodEach R I g l first now place (given ++ option_to_list last)
-  last_gives first now source given (ThePlace.Open after) last empty ends h = absurd (ends h.u given h.stood)
-  last_gives first now source given ThePlace.Ended last empty ends h =
+  last_gives first now source given (TheStanding.Open after) last empty ends h = absurd (ends h.u given h.stood)
+  last_gives first now source given TheStanding.Ended last empty ends h =
       let ended = rw (h.under, h.within) at ends in
       reads_ended first now source.items (left_of source) given (given ++ option_to_list last) h empty (λ u stood. ended u given stood)
-  last_gives first now source given (ThePlace.Refused r) last empty ends h =
+  last_gives first now source given (TheStanding.Refused r) last empty ends h =
       let ended = rw (h.under, h.within) at ends in
       let nothing : option_to_list last ≡ [] = ap (λ (x : Option (Value × ℕ)). option_to_list x) (ended h.u given h.stood).0 in
       subst (λ (x : List (Value × ℕ)). ToldRefusedEach R (format_of I g l) first now x r) (sym (ap (λ x. given ++ x) nothing ∙ append-nil given))
       (reads_stopped first now source.items (left_of source) given r h empty (λ u stood. (ended u given stood).1))
 
   -- the values alone, wherever the document stands
-  pub stood_plain : (first now : S) (place : Place X) (given : List (Value × ℕ)) → StoodEach R I g l first now place given → Stood R I g l first now place (plain given)
-  stood_plain first now (ThePlace.Open source) given h = record { given = given; each = h; values = refl }
-  stood_plain first now ThePlace.Ended given h = record { octets = h.octets; told = h.told; heard = h.heard; denoted = h.ends.denoted }
-  stood_plain first now (ThePlace.Refused refusal) given h = record { octets = h.octets; ended = h.ended; heard = h.heard; refused = λ more may. (h.ends more may).refused }
+  pub stood_plain : (first now : S) (place : Standing X) (given : List (Value × ℕ)) → StoodEach R I g l first now place given → Stood R I g l first now place (plain given)
+  stood_plain first now (TheStanding.Open source) given h = record { given = given; each = h; values = refl }
+  stood_plain first now TheStanding.Ended given h = record { octets = h.octets; told = h.told; heard = h.heard; denoted = h.ends.denoted }
+  stood_plain first now (TheStanding.Refused refusal) given h = record { octets = h.octets; ended = h.ended; heard = h.heard; refused = λ more may. (h.ends more may).refused }
 
   -- the values alone, also of the next one
-  pub stood_next : (first old now : S) (source : Source X) (place : Place X) (found : Option (Value × ℕ)) (value : Option Value) (s : List Value) → option_map (λ (x : Value × ℕ). x.0) found ≡ value →
+  pub stood_next : (first old now : S) (source : Source X) (place : Standing X) (found : Option (Value × ℕ)) (value : Option Value) (s : List Value) → option_map (λ (x : Value × ℕ). x.0) found ≡ value →
       ((given : List (Value × ℕ)) → ReadsEach R I g l first old source given → StoodEach R I g l first now place (given ++ option_to_list found)) →
       Reads R I g l first old source s → Stood R I g l first now place (s ++ option_to_list value)
   stood_next first old now source place found value s same go h =
       subst (λ (x : List Value). Stood R I g l first now place x) (plain_next h.given found value s h.values same) (stood_plain first now place (h.given ++ option_to_list found) (go h.given h.each))
 
   -- a document that can't be read on and isn't refused was one
-  pub stood_ended : (first now : S) (place : Place X) (s : List Value) → IfOpen place (λ source. ⊥) → ((r : Refusal) → place ≡ ThePlace.Refused r → ⊥) → Stood R I g l first now place s → ToldDocument R (format_of I g l) first now s
-  stood_ended first now (ThePlace.Open source) s closed other h = absurd closed
-  stood_ended first now ThePlace.Ended s closed other h = h
-  stood_ended first now (ThePlace.Refused r) s closed other h = absurd (other r refl)
+  pub stood_ended : (first now : S) (place : Standing X) (s : List Value) → IfOpen place (λ source. ⊥) → ((r : Refusal) → place ≡ TheStanding.Refused r → ⊥) → Stood R I g l first now place s → ToldDocument R (format_of I g l) first now s
+  stood_ended first now (TheStanding.Open source) s closed other h = absurd closed
+  stood_ended first now TheStanding.Ended s closed other h = h
+  stood_ended first now (TheStanding.Refused r) s closed other h = absurd (other r refl)
 
   -- the values alone before a refusal
   pub refused_plain : (first now : S) (refusal : Refusal) (given : List (Value × ℕ)) (s : List Value) → plain given ≡ s → ToldRefusedEach R (format_of I g l) first now given refusal → ToldRefused R (format_of I g l) first now s refusal
-  refused_plain first now refusal given s values h = subst (λ (x : List Value). ToldRefused R (format_of I g l) first now x refusal) values (stood_plain first now (ThePlace.Refused refusal) given h)
+  refused_plain first now refusal given s values h = subst (λ (x : List Value). ToldRefused R (format_of I g l) first now x refusal) values (stood_plain first now (TheStanding.Refused refusal) given h)
 
   -- the values alone, also of one more that was passed over
   pub reads_more : (first old now : S) (source after : Source X) (s : List Value) (outline : Outline) (h : Reads R I g l first old source s) → Reaches R I g l first now after h.given (AValue outline) →
@@ -160,14 +160,14 @@ module _ {S X : Type 0} (R : Inlet S) (I : Items X) (g : Catalog) (l : Limits) w
       (w.0, w.1, record { given = h.given ++ (w.0, after.used) ∷ []; each = w.2; values = plain_next h.given (Some (w.0, after.used)) (Some w.0) s h.values refl })
 
   -- the values alone, also of one that the end showed
-  pub stood_last : (first now : S) (source : Source X) (place : Place X) (found : Option (Value × ℕ)) (value : Option Value) (given : List (Value × ℕ)) (s : List Value) → option_map (λ (x : Value × ℕ). x.0) found ≡ value → plain given ≡ s → left_of source ≡ [] →
+  pub stood_last : (first now : S) (source : Source X) (place : Standing X) (found : Option (Value × ℕ)) (value : Option Value) (given : List (Value × ℕ)) (s : List Value) → option_map (λ (x : Value × ℕ). x.0) found ≡ value → plain given ≡ s → left_of source ≡ [] →
       ((u : List ℕ) (given : List (Value × ℕ)) → I.stands source.items u given → MatchClosed place (EndsWell (format_of I (I.catalog source.items) (I.limits source.items)) u (given ++ option_to_list found))
       (λ r. (found ≡ None) × EndsRefused (format_of I (I.catalog source.items) (I.limits source.items)) u given r)) →
       GaveEach R I g l first now source.items (left_of source) true given → Stood R I g l first now place (s ++ option_to_list value)
   stood_last first now source place found value given s same values empty ends h =
       subst (λ (x : List Value). Stood R I g l first now place x) (plain_next given found value s values same) (stood_plain first now place (given ++ option_to_list found) (last_gives first now source given place found empty ends h))
 
-pub last_for : {S X : Type 0} (R : Inlet S) (I : Items X) (now : S) (source : Source X) (result : Result (Place X × Option (Value × ℕ)) Fault) → left_of source ≡ [] →
+pub last_for : {S X : Type 0} (R : Inlet S) (I : Items X) (now : S) (source : Source X) (result : Result (Standing X × Option (Value × ℕ)) Fault) → left_of source ≡ [] →
     IfOk result (λ next. (u : List ℕ) (given : List (Value × ℕ)) → I.stands source.items u given → MatchClosed next.0 (EndsWell (format_of I (I.catalog source.items) (I.limits source.items)) u (given ++ option_to_list next.1))
     (λ r. (next.1 ≡ None) × EndsRefused (format_of I (I.catalog source.items) (I.limits source.items)) u given r)) →
     (Q : Catalog → Limits → S → List (Value × ℕ) → Type 0) → ((g : Catalog) (l : Limits) (first : S) (given : List (Value × ℕ)) → Q g l first given → GaveEach R I g l first now source.items (left_of source) true given) →

@@ -9,11 +9,11 @@ use Rattle.ion_model.specs.declared.value.Value.{Value}
 use Rattle.ion_model.specs.declared.refusal.Refusal.{Refusal}
 use Rattle.ion_symtab.specs.Shared.{shared_table}
 use Rattle.ion_symtab.specs.Tables.{Table, is_named, find}
-use Rattle.ion_symtab.specs.TableLaws.{find_is}
+use Rattle.ion_symtab.specs.laws.Tables.{find_is}
 use Rattle.ion_symtab.specs.Trace.{Trace, plain, given_at, Streams}
 use Rattle.ion_symtab.specs.declared.limits.Limits.{Limits}
-use Rattle.ion_docs.specs.Chosen.{chosen}
-use Rattle.ion_docs.specs.DocLaws.{promised}
+use Rattle.ion_docs.specs.reading.Chosen.{chosen}
+use Rattle.ion_docs.specs.laws.Documents.{promised}
 use Rattle.ion_docs.specs.Documents.{Denotes, OpenAfter}
 use Rattle.ion_docs.specs.Formats.{Format, documents}
 use Rattle.ion_docs.specs.Outcomes.{given_last, given_all}

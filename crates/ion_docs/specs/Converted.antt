@@ -12,7 +12,7 @@ use Rattle.ion_symtab.specs.declared.outlet.Outlet.{Ghosts as Outlet}
 use Rattle.ion_symtab.specs.Took.{Took, TookFront}
 use Rattle.ion_docs.specs.Encodings.{Encoding}
 use Rattle.ion_docs.specs.Formats.{Format, format_of}
-use Rattle.ion_docs.specs.Reading.{GaveSoFar}
+use Rattle.ion_docs.specs.reading.Read.{GaveSoFar}
 use Rattle.ion_docs.specs.Outcomes.{ToldDocument, ToldRefused}
 
 -- The octets that the device handed over denote a stream, and its document in this encoding was written; or they are no document, and that of the values before the refusal was written.

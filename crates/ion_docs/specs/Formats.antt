@@ -6,7 +6,7 @@ use Rattle.ion_symtab.specs.declared.catalog.Catalog.{Catalog}
 use Rattle.ion_symtab.specs.declared.limits.Limits.{Limits}
 use Rattle.ion_symtab.specs.declared.items.Items.{Ghosts as Items}
 use Rattle.ion_docs.specs.Documents.{Denotes, Pieces}
-use Rattle.ion_docs.specs.Chosen.{chosen}
+use Rattle.ion_docs.specs.reading.Chosen.{chosen}
 
 -- a format of documents
 pub record Format : Type 1 where

@@ -15,7 +15,7 @@ use Rattle.ion_symtab.specs.declared.items.Items.{Ghosts as Items}
 use Rattle.ion_symtab.specs.declared.outlet.Outlet.{Ghosts as Outlet}
 use Rattle.ion_symtab.specs.Took.{Took, TookFront}
 use Rattle.ion_docs.specs.Formats.{Format, format_of}
-use Rattle.ion_docs.specs.Reading.{GaveSoFar}
+use Rattle.ion_docs.specs.reading.Read.{GaveSoFar}
 use Rattle.ion_docs.specs.Outcomes.{ToldDocument, ToldRefused}
 
 -- the line of the value with this index and outline

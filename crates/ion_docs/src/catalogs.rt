@@ -3,11 +3,11 @@ ghost use Rattle.std.specs.Prelude.{◌≡◌, ◌⊎◌, ◌^◌, ◌≤◌, []
 ghost use Rattle.ion_model.specs.declared.refusal.Reason.TheVariants as reasons;
 ghost use Rattle.ion_symtab.specs.Cause.{IsReadCause};
 ghost use Rattle.ion_docs.specs.Formats.{documents, format_of};
-ghost use Rattle.ion_docs.specs.Reading.{IsFresh};
+ghost use Rattle.ion_docs.specs.reading.Read.{IsFresh};
 ghost use Rattle.ion_docs.specs.Loaded.{added, catalog_of, IsLoaded};
 
 use crate::doc_reader::DocReader;
-use crate::source::{Place, Source, next_placed};
+use crate::source::{Source, Standing, next_placed};
 use ion_model::{Reason, Refusal, Value};
 use ion_symtab::{Catalog, Fault, Inlet, Items, Limits, SharedTable};
 use std::alloc::Global;
@@ -60,9 +60,9 @@ pub fn load_items<I: Items + Drop, R: Inlet>(
             Ok(()) => {}
         }
         match place {
-            Place::Open(after) => source = after,
-            Place::Ended => return Ok(Ok(catalog)),
-            Place::Refused(refusal) => return Ok(Err(refusal)),
+            Standing::Open(after) => source = after,
+            Standing::Ended => return Ok(Ok(catalog)),
+            Standing::Refused(refusal) => return Ok(Err(refusal)),
         }
     }
 }

@@ -2,7 +2,7 @@
 ghost use Rattle.std.specs.Prelude.{◌^◌, ◌≤◌, IfOk, IfErr};
 ghost use Rattle.ion_symtab.specs.Cause.{IsReadCause};
 ghost use Rattle.ion_docs.specs.Formats.{format_of};
-ghost use Rattle.ion_docs.specs.Reading.{IsFresh};
+ghost use Rattle.ion_docs.specs.reading.Read.{IsFresh};
 ghost use Rattle.ion_docs.specs.Checked.{IsChecked};
 
 use crate::source::{Source, pass_all};

@@ -1,14 +1,14 @@
 //! Whether two documents have equivalent streams.
 ghost use Rattle.std.specs.Prelude.{◌≡◌, ℕ, ◌+◌, ◌^◌, ◌<◌, ◌≤◌, ◌⊎◌, [], true, false, IfOk, IfErr, MatchResult};
 ghost use Rattle.ion_symtab.specs.Cause.{IsReadCause};
-ghost use Rattle.ion_docs.specs.Alongside.{GoAlike};
+ghost use Rattle.ion_docs.specs.reading.Alongside.{GoAlike};
 ghost use Rattle.ion_docs.specs.Formats.{format_of};
-ghost use Rattle.ion_docs.specs.Place.{IfOpen};
-ghost use Rattle.ion_docs.specs.Reading.{IsFresh, IsReady};
+ghost use Rattle.ion_docs.specs.reading.Standing.{IfOpen};
+ghost use Rattle.ion_docs.specs.reading.Read.{IsFresh, IsReady};
 ghost use Rattle.ion_docs.specs.Compared.{IsCompared};
-ghost use Rattle.ion_docs.specs.Courses.{IsMet, count_of, verdict_of};
+ghost use Rattle.ion_docs.specs.reading.Courses.{IsMet, count_of, verdict_of};
 
-use crate::source::{Place, Source, advance};
+use crate::source::{Source, Standing, advance};
 use ion_model::{Path, Refusal, Value, parting};
 use ion_symtab::{Fault, Inlet, Items};
 use std::alloc::Global;
@@ -68,11 +68,11 @@ impl Course {
     }
 
     /// The verdict where the left side is a document, and the right one ended so.
-    fn verdict<J: Drop>(self, right: Place<J>) -> Verdict
+    fn verdict<J: Drop>(self, right: Standing<J>) -> Verdict
         ensures { result ≡ verdict_of right self }
     {
         match right {
-            Place::Refused(refusal) => Verdict::Refused {
+            Standing::Refused(refusal) => Verdict::Refused {
                 side: Side::Right,
                 refusal,
             },
@@ -121,8 +121,8 @@ fn ended_first(alloc: Global, index: u64) -> Course
 /// there that are seen to be the same where they lie.
 fn go_alike<I: Items + Drop>(
     course: &mut Course,
-    left: &mut Place<I>,
-    right: &mut Place<I>,
+    left: &mut Standing<I>,
+    right: &mut Standing<I>,
 ) -> bool
     requires left { IfOpen left.old (IsReady I.Items) }
     requires right { IfOpen right.old (IsReady I.Items) }
@@ -133,7 +133,7 @@ fn go_alike<I: Items + Drop>(
         (course.new ≡ course.old) × (left.new ≡ left.old) × (right.new ≡ right.old) }
 {
     match (course, left, right) {
-        (Course::Alike { values }, Place::Open(left), Place::Open(right)) => {
+        (Course::Alike { values }, Standing::Open(left), Standing::Open(right)) => {
             if !left.pass_alike(right) {
                 return false;
             }
@@ -173,15 +173,15 @@ pub fn compare_items<I: Items + Drop, L: Inlet, R: Inlet>(
         IsReadCause L.Inlet reads left.old left.new fault
         ⊎ IsReadCause R.Inlet reads right.old right.new fault) }
 {
-    let mut left_place = Place::Open(Source::new(alloc, left_items, reads)?);
-    let mut right_place = Place::Open(Source::new(alloc, right_items, reads)?);
+    let mut left_place = Standing::Open(Source::new(alloc, left_items, reads)?);
+    let mut right_place = Standing::Open(Source::new(alloc, right_items, reads)?);
     let mut course = Course::Alike { values: 0 };
     loop {
         if go_alike(&mut course, &mut left_place, &mut right_place) {
             continue;
         }
         let (left_now, left_value) = advance(left_place, left)?;
-        if let Place::Refused(refusal) = left_now {
+        if let Standing::Refused(refusal) = left_now {
             return Ok(Verdict::Refused {
                 side: Side::Left,
                 refusal,

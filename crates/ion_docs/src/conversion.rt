@@ -5,11 +5,11 @@ ghost use Rattle.ion_model.specs.Kept.{AreKept};
 ghost use Rattle.ion_symtab.specs.Cause.{IsReadCause};
 ghost use Rattle.ion_docs.specs.Encodings.{TookBehind, TookSomeBehind, IsPuttingFault};
 ghost use Rattle.ion_docs.specs.Formats.{format_of};
-ghost use Rattle.ion_docs.specs.Reading.{IsFresh};
+ghost use Rattle.ion_docs.specs.reading.Read.{IsFresh};
 ghost use Rattle.ion_docs.specs.Conversion.{WritesKept};
 ghost use Rattle.ion_docs.specs.Converted.{IsConverted, ReadSoFar, ConvertsSoFar, IsConvertCause};
 
-use crate::source::{Place, Source, next_value};
+use crate::source::{Source, Standing, next_value};
 use crate::writers::Encoder;
 use ion_model::{Refusal, Value};
 use ion_symtab::{Fault, Inlet, Items, Outlet};
@@ -25,7 +25,7 @@ pub enum Target {
 }
 
 /// Puts the next value, if there is one, and counts it.
-fn put_next<E: Encoder, W: Outlet>(
+fn convert_next<E: Encoder, W: Outlet>(
     encoder: &mut E,
     writer: &mut W,
     values: u64,
@@ -93,14 +93,14 @@ pub fn convert_items<E: Encoder + Drop, I: Items + Drop, R: Inlet, W: Outlet>(
     let mut values: u64 = 0;
     loop {
         let (place, value) = next_value(source, reader)?;
-        values = put_next(&mut encoder, writer, values, value)?;
+        values = convert_next(&mut encoder, writer, values, value)?;
         match place {
-            Place::Open(after) => source = after,
-            Place::Ended => {
+            Standing::Open(after) => source = after,
+            Standing::Ended => {
                 encoder.finish(writer)?;
                 return Ok(Ok(values));
             }
-            Place::Refused(refusal) => {
+            Standing::Refused(refusal) => {
                 encoder.finish(writer)?;
                 return Ok(Err(refusal));
             }

@@ -1,8 +1,8 @@
 //! The reader that the first octet chooses.
 ghost use Rattle.std.specs.Prelude.{◌≡◌, ℕ, ◌+◌, ◌*◌, ◌^◌, ◌<◌, ◌≤◌, List, [], ◌∷◌, ◌++◌, length, take, drop, IfOk, IfErr, IfSome, IsSome, None, Some};
 ghost use Rattle.ion_symtab.specs.Trace.{Answers, UsesAll, given_at};
-ghost use Rattle.ion_docs.specs.Chosen.{chosen};
-ghost use Rattle.ion_docs.specs.DocStands.{DocStands, taken_of, failed_of, awaits_of, pending_of};
+ghost use Rattle.ion_docs.specs.reading.Chosen.{chosen};
+ghost use Rattle.ion_docs.specs.reading.DocStands.{DocStands, taken_of, failed_of, awaits_of, pending_of};
 ghost use Rattle.ion_model.specs.declared.refusal.Reason.TheVariants.{Memory};
 ghost use Rattle.ion_model.specs.declared.value.Value.{Value as AnyValue};
 
@@ -125,10 +125,10 @@ impl<'a> DocReader<'a> {
 impl Items for DocReader<'_> {
     ghost use Rattle.std.specs.Prelude.{List, ℕ, None};
     ghost use Rattle.ion_docs.specs.Documents.{Denotes, Pieces, OpenAfter};
-    ghost use Rattle.ion_docs.specs.Chosen.{chosen};
-    ghost use Rattle.ion_docs.specs.DocStands.{DocStands, taken_of, failed_of, awaits_of, pending_of, kept_of};
-    ghost use Rattle.ion_docs.specs.DocLaws.{one_document, one_shown, promised};
-    ghost use Rattle.ion_docs.specs.DocReaders.{doc_counted, doc_not_failed, doc_not_refused, doc_given, doc_given_next, doc_bounded};
+    ghost use Rattle.ion_docs.specs.reading.Chosen.{chosen};
+    ghost use Rattle.ion_docs.specs.reading.DocStands.{DocStands, taken_of, failed_of, awaits_of, pending_of, kept_of};
+    ghost use Rattle.ion_docs.specs.laws.Documents.{one_document, one_shown, promised};
+    ghost use Rattle.ion_docs.specs.laws.Readers.{doc_counted, doc_not_failed, doc_not_refused, doc_given, doc_given_next, doc_bounded};
 
     ghost catalog = { λ r. r.catalog.now };
 

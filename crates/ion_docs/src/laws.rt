@@ -10,7 +10,7 @@ ghost use Rattle.ion_symtab.specs.Shared.{shared_table};
 ghost use Rattle.ion_symtab.specs.Tables.{Table, find};
 ghost use Rattle.ion_symtab.specs.Trace.{plain};
 ghost use Rattle.ion_symtab.specs.Promises.{NoTables};
-ghost use Rattle.ion_symtab.specs.ContextTexts.{AreTextTables};
+ghost use Rattle.ion_symtab.specs.laws.ContextTexts.{AreTextTables};
 ghost use Rattle.ion_docs.specs.Conversion.{DenotesAnywhere};
 ghost use Rattle.ion_docs.specs.Documents.{Denotes};
 ghost use Rattle.ion_docs.specs.Encodings.{encoding_of};

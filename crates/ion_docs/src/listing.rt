@@ -4,10 +4,10 @@ ghost use Rattle.ion_model.specs.declared.value.Value.{Value};
 ghost use Rattle.ion_symtab.specs.Took.{Took, TookFront};
 ghost use Rattle.ion_symtab.specs.Cause.{IsReadCause};
 ghost use Rattle.ion_docs.specs.Formats.{format_of};
-ghost use Rattle.ion_docs.specs.Reading.{IsFresh};
+ghost use Rattle.ion_docs.specs.reading.Read.{IsFresh};
 ghost use Rattle.ion_docs.specs.Listing.{line_of, lines_from, accepted_line, IsShown, IsWriteCause, ShowsSoFar};
 
-use crate::source::{Place, Reached, Source, last, value_of};
+use crate::source::{Reached, Source, Standing, last, value_of};
 use ion_model::{Outline, Refusal, Value};
 use ion_symtab::{Fault, Inlet, Items, Outlet, flushed, write_whole};
 use std::alloc::{AllocError, Global};
@@ -125,7 +125,7 @@ pub fn show_items<I: Items + Drop, R: Inlet, W: Outlet>(
             Reached::End => {
                 let (place, found) = last(source)?;
                 values = write_last(alloc, writer, values, value_of(found))?;
-                if let Place::Refused(refusal) = place {
+                if let Standing::Refused(refusal) = place {
                     flushed(writer)?;
                     return Ok(Err(refusal));
                 }

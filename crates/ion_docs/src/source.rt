@@ -7,9 +7,9 @@ ghost use Rattle.ion_symtab.specs.declared.limits.Limits.{Limits};
 ghost use Rattle.ion_symtab.specs.Heard.{Heard};
 ghost use Rattle.ion_symtab.specs.Cause.{WereMade, IsReadCause};
 ghost use Rattle.ion_docs.specs.Formats.{format_of};
-ghost use Rattle.ion_docs.specs.Reading.{left_of, Begins, IsReady, IsWithin, work, Went, Reads, ReadsEach, GaveSoFar};
+ghost use Rattle.ion_docs.specs.reading.Read.{left_of, Begins, IsReady, IsWithin, work, Went, Reads, ReadsEach, GaveSoFar};
 ghost use Rattle.ion_docs.specs.Outcomes.{EndsWell, EndsRefused};
-ghost use Rattle.ion_docs.specs.Place.{IfOpen, IsOpen, IfClosed, MatchClosed, work_of, Stood, StoodEach};
+ghost use Rattle.ion_docs.specs.reading.Standing.{IfOpen, IsOpen, IfClosed, MatchClosed, work_of, Stood, StoodEach};
 
 use ion_model::{Reason, Refusal, Value};
 use ion_symtab::{Fault, Inlet, Items, Step};
@@ -132,7 +132,7 @@ impl<I: Items + Drop> Source<I> {
 
 /// Where a document stands.
 #[derive(Drop)]
-pub enum Place<I> {
+pub enum Standing<I> {
     /// It can be read on.
     Open(Source<I>),
     /// It was a document, and the device has answered its end.
@@ -141,15 +141,15 @@ pub enum Place<I> {
     Refused(Refusal),
 }
 
-impl<I> Place<I> {
+impl<I> Standing<I> {
     /// Whether the document can be read on.
     pub fn is_open(&self) -> bool
         ensures { MatchBool result (IsOpen self.now) (IfOpen self.now (λ source. ⊥)) }
     {
         match self {
-            Place::Open(_) => true,
-            Place::Ended => false,
-            Place::Refused(_) => false,
+            Standing::Open(_) => true,
+            Standing::Ended => false,
+            Standing::Refused(_) => false,
         }
     }
 }
@@ -161,7 +161,7 @@ impl<I> Place<I> {
 pub fn next_value<I: Items + Drop, R: Inlet>(
     source: Source<I>,
     reader: &mut R,
-) -> Result<(Place<I>, Option<Value>), Fault>
+) -> Result<(Standing<I>, Option<Value>), Fault>
     requires { IsReady I.Items source }
     ensures gives { IfOk result (λ next. (g : Catalog) (l : Limits) (first : R) (s : List Value) →
         Reads R.Inlet I.Items g l first reader.old source s →
@@ -200,7 +200,7 @@ pub(crate) fn value_of(found: Option<(Value, u64)>) -> Option<Value>
 pub fn next_placed<I: Items + Drop, R: Inlet>(
     mut source: Source<I>,
     reader: &mut R,
-) -> Result<(Place<I>, Option<(Value, u64)>), Fault>
+) -> Result<(Standing<I>, Option<(Value, u64)>), Fault>
     requires { IsReady I.Items source }
     ensures gives { IfOk result (λ next.
         (g : Catalog) (l : Limits) (first : R) (given : List (Value × ℕ)) →
@@ -227,10 +227,10 @@ pub fn next_placed<I: Items + Drop, R: Inlet>(
                     ..
                 },
             ) => return Err(Fault::Memory),
-            Err(refusal) => return Ok((Place::Refused(refusal), None)),
+            Err(refusal) => return Ok((Standing::Refused(refusal), None)),
             Ok(Some(value)) => {
                 let used = source.used;
-                return Ok((Place::Open(source), Some((value, used))));
+                return Ok((Standing::Open(source), Some((value, used))));
             }
             Ok(None) => {}
         }
@@ -246,7 +246,7 @@ pub fn next_placed<I: Items + Drop, R: Inlet>(
 /// What the end of a document gives; a value comes with the number of all its octets.
 pub(crate) fn last<I: Items + Drop>(
     source: Source<I>,
-) -> Result<(Place<I>, Option<(Value, u64)>), Fault>
+) -> Result<(Standing<I>, Option<(Value, u64)>), Fault>
     requires awaited { IsNone (I.awaits source.items) }
     requires counted { I.taken source.items ≡ source.used }
     ensures ends { IfOk result (λ next. (u : List ℕ) (given : List (Value × ℕ)) →
@@ -260,23 +260,23 @@ pub(crate) fn last<I: Items + Drop>(
 {
     let used = source.used;
     match source.items.finish() {
-        Ok(None) => Ok((Place::Ended, None)),
-        Ok(Some(value)) => Ok((Place::Ended, Some((value, used)))),
+        Ok(None) => Ok((Standing::Ended, None)),
+        Ok(Some(value)) => Ok((Standing::Ended, Some((value, used)))),
         Err(
             Refusal {
                 reason: Reason::Memory,
                 ..
             },
         ) => Err(Fault::Memory),
-        Err(refusal) => Ok((Place::Refused(refusal), None)),
+        Err(refusal) => Ok((Standing::Refused(refusal), None)),
     }
 }
 
 /// Reads on as `next_value` does, where the document is open; else it stands where it stood.
 pub fn advance<I: Items + Drop, R: Inlet>(
-    place: Place<I>,
+    place: Standing<I>,
     reader: &mut R,
-) -> Result<(Place<I>, Option<Value>), Fault>
+) -> Result<(Standing<I>, Option<Value>), Fault>
     requires { IfOpen place (IsReady I.Items) }
     ensures gives { IfOk result (λ next. (g : Catalog) (l : Limits) (first : R) (s : List Value) →
         Stood R.Inlet I.Items g l first reader.old place s →
@@ -295,8 +295,8 @@ pub fn advance<I: Items + Drop, R: Inlet>(
         IsReadCause R.Inlet reads first reader.new fault) }
 {
     match place {
-        Place::Open(source) => next_value(source, reader),
-        Place::Ended => Ok((Place::Ended, None)),
-        Place::Refused(refusal) => Ok((Place::Refused(refusal), None)),
+        Standing::Open(source) => next_value(source, reader),
+        Standing::Ended => Ok((Standing::Ended, None)),
+        Standing::Refused(refusal) => Ok((Standing::Refused(refusal), None)),
     }
 }

@@ -3,11 +3,11 @@ ghost use Rattle.std.specs.Prelude.{◌≡◌, ◌^◌, ◌≤◌, ◌++◌, Lis
 ghost use Rattle.ion_model.specs.declared.value.Value.{Value};
 ghost use Rattle.ion_symtab.specs.Cause.{IsReadCause};
 ghost use Rattle.ion_docs.specs.Formats.{documents, format_of};
-ghost use Rattle.ion_docs.specs.Reading.{IsFresh};
+ghost use Rattle.ion_docs.specs.reading.Read.{IsFresh};
 ghost use Rattle.ion_docs.specs.Outcomes.{ToldDocument, ToldRefused};
 
 use crate::doc_reader::DocReader;
-use crate::source::{Place, Source, next_value};
+use crate::source::{Source, Standing, next_value};
 use ion_model::{Refusal, Value};
 use ion_symtab::{Catalog, Fault, Inlet, Items, Limits};
 use std::alloc::Global;
@@ -55,17 +55,17 @@ pub fn read_items<I: Items + Drop, R: Inlet>(
     let mut values = Vec::new(alloc);
     loop {
         let (place, value) = next_value(source, reader)?;
-        put_next(&mut values, value)?;
+        keep_next(&mut values, value)?;
         match place {
-            Place::Open(after) => source = after,
-            Place::Ended => return Ok(Ok(values)),
-            Place::Refused(refusal) => return Ok(Err(refusal)),
+            Standing::Open(after) => source = after,
+            Standing::Ended => return Ok(Ok(values)),
+            Standing::Refused(refusal) => return Ok(Err(refusal)),
         }
     }
 }
 
 /// Puts the next value behind the others, if there is one. `Memory` is the only fault.
-fn put_next(values: &mut Vec<Value>, value: Option<Value>) -> Result<(), Fault>
+fn keep_next(values: &mut Vec<Value>, value: Option<Value>) -> Result<(), Fault>
     ensures more { OnOk result (values.new.items ≡ values.old.items ++ option_to_list value) }
     ensures cause { IfErr result (λ fault. fault ≡ Fault.Memory) }
 {

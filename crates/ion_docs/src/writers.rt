@@ -60,9 +60,9 @@ pub trait Encoder {
 impl Encoder for BinaryWriter {
     ghost use Rattle.std.specs.Prelude.{None};
     ghost use Rattle.ion_binary.specs.Output.{nothing_yet};
-    ghost use Rattle.ion_binary.specs.Puts.{puts as binary_puts, behind};
+    ghost use Rattle.ion_binary.specs.writer.Puts.{puts as binary_puts, behind};
     ghost use Rattle.ion_docs.specs.Encodings.{binary_encoding};
-    ghost use Rattle.ion_docs.specs.EncodingLaws.{binary_fronts};
+    ghost use Rattle.ion_docs.specs.laws.Encodings.{binary_fronts};
 
     ghost encoding = { binary_encoding };
 
@@ -87,7 +87,7 @@ impl Encoder for TextWriter {
     ghost use Rattle.std.specs.Prelude.{None};
     ghost use Rattle.ion_text.specs.Output.{text_of};
     ghost use Rattle.ion_docs.specs.Encodings.{text_encoding};
-    ghost use Rattle.ion_docs.specs.EncodingLaws.{text_fronts};
+    ghost use Rattle.ion_docs.specs.laws.Encodings.{text_fronts};
 
     ghost encoding = { text_encoding };
 

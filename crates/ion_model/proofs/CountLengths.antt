@@ -3,8 +3,8 @@ use Rattle.std.proofs.Common.{◌≡◌, ℕ, ◌<◌, ◌+◌, zero, suc, List,
 use Rattle.std.specs.Cmp.{IsEquivalence}
 use Rattle.std.specs.List.{count_by}
 use Rattle.ion_model.specs.declared.value.Field.{Field}
-use Rattle.ion_model.specs.Counts.{bit, Counts, Found, find, counted, counts_from, count_by-cons}
-use Rattle.ion_model.specs.EquivLaws.{same-equiv, field_same-equiv}
+use Rattle.ion_model.specs.laws.Counts.{bit, Counts, Found, find, counted, counts_from, count_by-cons}
+use Rattle.ion_model.specs.laws.Equivalence.{same-equiv, field_same-equiv}
 use Rattle.ion_model.specs.Same.{same, field_same, fields_same}
 
 -- a list without the item at k

@@ -10,7 +10,7 @@ use denote.Param.Members.{Mut}
 use denote.Ref.{Bor}
 use Rattle.std.specs.Ordering.{is_lt}
 use Rattle.ion_model.specs.Order.{order, field_cmp}
-use Rattle.ion_model.specs.OrderTotal.{order-total, field_cmp-total}
+use Rattle.ion_model.specs.laws.OrderTotal.{order-total, field_cmp-total}
 use Rattle.std.proofs.Common.{cond}
 use Rattle.std.proofs.lemmas.Bool.{cases_eq}
 use lib.Pointwise.{pointwise}
@@ -20,10 +20,10 @@ use Rattle.ion_model.specs.declared.value.Value.{Value}
 use Rattle.ion_model.specs.declared.value.Field.{Field}
 use Rattle.ion_model.specs.declared.value.Payload.{Payload}
 use Rattle.ion_model.specs.declared.value.Payload.TheViews.{out-Payload, roll-Value}
-use Rattle.ion_model.specs.Counts.{both, first, second, count_by-cons, alike_from, Counts, count}
-use Rattle.ion_model.specs.EquivLaws.{same-equiv, field_same-equiv, symbol_same-equiv}
+use Rattle.ion_model.specs.laws.Counts.{both, first, second, count_by-cons, alike_from, Counts, count}
+use Rattle.ion_model.specs.laws.Equivalence.{same-equiv, field_same-equiv, symbol_same-equiv}
 use Rattle.std.proofs.lemmas.Cmp.{lists_equiv}
-use Rattle.ion_model.specs.SameLaws.{same-is}
+use Rattle.ion_model.specs.laws.Same.{same-is}
 
 -- a value by one level
 pub normal_from : (v : Value) → LayerNormal (out-Payload v.payload) → IsNormal v

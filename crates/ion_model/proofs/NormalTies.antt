@@ -12,12 +12,12 @@ use Rattle.ion_model.specs.Normal.{IsNormal, AllFieldsNormal, FieldsInOrder, Are
 use Rattle.ion_model.specs.declared.value.Value.{Value}
 use Rattle.ion_model.specs.declared.value.Field.{Field}
 use Rattle.ion_model.specs.declared.value.Payload.TheViews.{out-Payload}
-use Rattle.ion_model.specs.Counts.{same_bool, both, first, second, counts_from, alike_from}
-use Rattle.ion_model.specs.MeasureLaws.{depth-out}
-use Rattle.ion_model.specs.SameLaws.{same-is, same-agrees, items_deep, fields_deep, items-deep, fields-deep}
-use Rattle.ion_model.specs.OrderLaws.{order-is, order-agrees}
-use Rattle.ion_model.specs.EquivLaws.{same-equiv, same_to-equiv, field_same-equiv, fields_same-equiv}
-use Rattle.ion_model.specs.OrderTotal.{order-total, field_cmp-total}
+use Rattle.ion_model.specs.laws.Counts.{same_bool, both, first, second, counts_from, alike_from}
+use Rattle.ion_model.specs.laws.Measures.{depth-out}
+use Rattle.ion_model.specs.laws.Same.{same-is, same-agrees, items_deep, fields_deep, items-deep, fields-deep}
+use Rattle.ion_model.specs.laws.Order.{order-is, order-agrees}
+use Rattle.ion_model.specs.laws.Equivalence.{same-equiv, same_to-equiv, field_same-equiv, fields_same-equiv}
+use Rattle.ion_model.specs.laws.OrderTotal.{order-total, field_cmp-total}
 use Rattle.ion_model.proofs.NormalLaws.{layer_from, pointwise_counts}
 use Rattle.ion_model.proofs.NormalUnique.{tie}
 use Rattle.ion_model.proofs.Parts.{tie_from_is_eq, then_tie, then_first, then_second, symbol_tie, symbol_back, scalar_tie, scalar_back, pointwise_tie, pointwise_back}

@@ -5,7 +5,7 @@ use Rattle.std.specs.Cmp.Lexicographic.{slice_cmp}
 use Rattle.std.specs.List.Sorted.{IsSortedBy}
 use Rattle.std.specs.Ordering.{is_lt, ordering_reverse}
 use Rattle.std.proofs.lemmas.List.Sorted.{sorted_far, ranks_by}
-use Rattle.ion_model.specs.Counts.{bit, count_by-cons, Counts, Found, find, counted}
+use Rattle.ion_model.specs.laws.Counts.{bit, count_by-cons, Counts, Found, find, counted}
 
 -- lists in order, whose items stand as often up to E, where E holds just of items that tie
 module _ {X : Type 0} (E : X → X → Bool) (e : IsEquivalence E) (R : X → X → Ordering) (o : IsTotalOrder R) where

@@ -13,9 +13,9 @@ use Rattle.ion_model.specs.declared.value.Field.{Field}
 use Rattle.ion_model.specs.declared.value.Payload.{Payload}
 use Rattle.ion_model.specs.declared.value.Payload.TheOpen.{Payload-F}
 use Rattle.ion_model.specs.declared.value.Payload.TheViews.{out-Payload, roll-Payload, roll-out-Payload}
-use Rattle.ion_model.specs.MeasureLaws.{depth-out}
-use Rattle.ion_model.specs.SameLaws.{items_deep, fields_deep, items-deep, fields-deep}
-use Rattle.ion_model.specs.OrderLaws.{order-agrees}
+use Rattle.ion_model.specs.laws.Measures.{depth-out}
+use Rattle.ion_model.specs.laws.Same.{items_deep, fields_deep, items-deep, fields-deep}
+use Rattle.ion_model.specs.laws.Order.{order-agrees}
 use Rattle.ion_model.proofs.Parts.{then_first, then_second, symbol_is, scalar_is}
 
 kind_at : ℕ → Kind

@@ -9,14 +9,14 @@ use Rattle.ion_model.specs.declared.value.Field.{Field}
 use Rattle.ion_model.specs.declared.value.Payload.TheViews.{out-Payload, outs-List, outs-Sexp, outs-Fields}
 use Rattle.ion_model.specs.declared.value.Payload.TheVariants as payloads
 use Rattle.ion_model.specs.declared.value.Payload.TheOpen.{Payload-F}
-use Rattle.ion_model.specs.Counts.{bit, both, first, second, count_by-cons, counts_from}
-use Rattle.ion_model.specs.EquivLaws.{same-equiv, field_same-equiv, symbol_same-equiv}
+use Rattle.ion_model.specs.laws.Counts.{bit, both, first, second, count_by-cons, counts_from}
+use Rattle.ion_model.specs.laws.Equivalence.{same-equiv, field_same-equiv, symbol_same-equiv}
 use Rattle.ion_model.specs.Measures.{Layer, depth, greatest}
 use Rattle.ion_model.specs.Same.{Scalar, same, layer_same, scalar_same, scalar, items, fields, field_same, field_count, fields_same}
-use Rattle.ion_model.specs.SameLaws.{same-is}
+use Rattle.ion_model.specs.laws.Same.{same-is}
 use Rattle.ion_model.specs.Symbols.{symbol_same}
 use Rattle.ion_model.specs.Parting.{heads_same, AtItems, IsPath, LeastParting, only, once_named}
-use Rattle.ion_model.specs.PartingSteps.{EndOrDiffer}
+use Rattle.ion_model.specs.laws.PartingSteps.{EndOrDiffer}
 use Rattle.ion_model.proofs.Parts.{scalar_from}
 
 -- payloads with values inside, both of one kind

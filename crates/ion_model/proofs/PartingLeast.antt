@@ -4,16 +4,16 @@ use Rattle.std.specs.Cmp.Lexicographic.{slice_cmp}
 use Rattle.std.specs.Ordering.{is_lt, is_eq, ordering_reverse, ordering_then}
 use Rattle.std.proofs.lemmas.List.Sorted.{sorted_far, ranks_by}
 use Rattle.ion_model.specs.declared.value.Field.{Field}
-use Rattle.ion_model.specs.Counts.{bit, first, second, count_by-cons, counts_from, Counts, Found, find, counted}
-use Rattle.ion_model.specs.EquivLaws.{same-equiv, field_same-equiv}
+use Rattle.ion_model.specs.laws.Counts.{bit, first, second, count_by-cons, counts_from, Counts, Found, find, counted}
+use Rattle.ion_model.specs.laws.Equivalence.{same-equiv, field_same-equiv}
 use Rattle.ion_model.specs.Normal.{AllFieldsNormal, FieldsInOrder, AreNormalOf}
 use Rattle.ion_model.specs.Order.{order, field_cmp}
 use Rattle.ion_model.specs.Parting.{LeastParting}
-use Rattle.ion_model.specs.PartingSteps.{first_untied, lesser}
+use Rattle.ion_model.specs.laws.PartingSteps.{first_untied, lesser}
 use Rattle.ion_model.specs.Same.{same, field_same, field_count, fields_same}
 use Rattle.ion_model.specs.Symbols.{symbol_same, symbol_cmp}
 use Rattle.ion_model.proofs.NormalTies.{order-from_same, tied-fields, field_back}
-use Rattle.ion_model.specs.OrderTotal.{order-total, field_cmp-total, symbol_cmp-total}
+use Rattle.ion_model.specs.laws.OrderTotal.{order-total, field_cmp-total, symbol_cmp-total}
 use Rattle.ion_model.proofs.Parts.{then_tie, symbol_tie, symbol_from}
 
 abbrev E : Field → Field → Bool

@@ -8,12 +8,12 @@ use Rattle.ion_model.specs.declared.value.Value.{Value}
 use Rattle.ion_model.specs.declared.value.Field.{Field}
 use Rattle.ion_model.specs.declared.value.Payload.TheViews.{out-Payload}
 use Rattle.ion_model.specs.declared.value.Payload.TheOpen.{Payload-F}
-use Rattle.ion_model.specs.Counts.{first, second}
+use Rattle.ion_model.specs.laws.Counts.{first, second}
 use Rattle.ion_model.specs.Measures.{Layer}
 use Rattle.ion_model.specs.Parting.{AtItems, AtFields, ItemsPart, FieldsPart, IsPath, LeastParting, heads_same, once_named}
 use Rattle.ion_model.specs.Same.{same, scalar, items, fields, field_count}
 use Rattle.ion_model.specs.Symbols.{symbol_same, symbol_cmp}
-use Rattle.ion_model.specs.OrderTotal.{symbol_cmp-total}
+use Rattle.ion_model.specs.laws.OrderTotal.{symbol_cmp-total}
 use Rattle.ion_model.proofs.Parts.{scalar_from, symbol_is}
 use Rattle.ion_model.proofs.PartingLaws.{tag, contra, path_differs}
 

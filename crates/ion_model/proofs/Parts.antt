@@ -13,14 +13,14 @@ use lib.Pointwise.{pointwise}
 use Rattle.ion_model.specs.declared.timestamp.Local.{Local}
 use Rattle.ion_model.specs.declared.timestamp.Precision.{Precision}
 use Rattle.ion_model.specs.declared.timestamp.Precision.TheVariants as precisions
-use Rattle.ion_model.specs.Counts.{both, first, second}
+use Rattle.ion_model.specs.laws.Counts.{both, first, second}
 use Rattle.ion_model.specs.Decimals.{DecimalParts, decimal_same, decimal_cmp}
-use Rattle.ion_model.specs.EquivLaws.{scalar_same-equiv, symbol_same-equiv}
+use Rattle.ion_model.specs.laws.Equivalence.{scalar_same-equiv, symbol_same-equiv}
 use Rattle.ion_model.specs.Order.{scalar_cmp}
 use Rattle.ion_model.specs.Same.{Scalar, scalar_same}
 use Rattle.ion_model.specs.Symbols.{text_same, symbol_same, text_cmp, symbol_cmp}
 use Rattle.ion_model.specs.Timestamps.{TimestampParts, precision_rank, local_same, timestamp_same, date_cmp, time_cmp, timestamp_cmp}
-use Rattle.ion_model.specs.OrderTotal.{scalar_cmp-total, symbol_cmp-total}
+use Rattle.ion_model.specs.laws.OrderTotal.{scalar_cmp-total, symbol_cmp-total}
 
 -- a chain of two ties where both do
 pub then_tie : (a b : Ordering) → a ≡ Equal → b ≡ Equal → ordering_then a b ≡ Equal

@@ -7,11 +7,11 @@ use Rattle.ion_model.specs.declared.value.Field.{Field}
 use Rattle.ion_model.specs.declared.value.Payload.{Payload}
 use Rattle.ion_model.specs.declared.value.Payload.TheVariants as payloads
 use Rattle.ion_model.specs.declared.value.Payload.TheViews as views
-use Rattle.ion_model.specs.Counts.{both, alike_from}
-use Rattle.ion_model.specs.EquivLaws.{same-equiv, field_same-equiv, symbol_same-equiv}
+use Rattle.ion_model.specs.laws.Counts.{both, alike_from}
+use Rattle.ion_model.specs.laws.Equivalence.{same-equiv, field_same-equiv, symbol_same-equiv}
 use Rattle.ion_model.specs.Measures.{Layer, annotated}
 use Rattle.ion_model.specs.Same.{same, field_same, fields_same, layer_same}
-use Rattle.ion_model.specs.SameLaws.{same-payload}
+use Rattle.ion_model.specs.laws.Same.{same-payload}
 use Rattle.ion_model.proofs.NormalLaws.{pointwise_counts, fields_moved}
 
 abbrev Symbols : Type 0

@@ -10,8 +10,8 @@ ghost use Rattle.ion_model.specs.Symbols.{symbol_same, symbol_cmp};
 ghost use Rattle.ion_model.specs.Decimals.{decimal_cmp};
 ghost use Rattle.ion_model.specs.Order.{order};
 ghost use Rattle.ion_model.specs.Timestamps.{timestamp_same};
-ghost use Rattle.ion_model.specs.EquivLaws.{symbol_same-equiv, timestamp_same-equiv};
-ghost use Rattle.ion_model.specs.OrderTotal.{symbol_ties, symbol_cmp-total, decimal_cmp-total, order-total};
+ghost use Rattle.ion_model.specs.laws.Equivalence.{symbol_same-equiv, timestamp_same-equiv};
+ghost use Rattle.ion_model.specs.laws.OrderTotal.{symbol_ties, symbol_cmp-total, decimal_cmp-total, order-total};
 
 use crate::compare::order;
 use crate::decimal::Decimal;

@@ -4,7 +4,7 @@ ghost use lib.Pointwise.{pointwise};
 ghost use Rattle.ion_model.specs.declared.refusal.Reason.TheVariants as reasons;
 ghost use Rattle.ion_model.specs.Same.{same, fields_same};
 ghost use Rattle.ion_model.specs.Parting.{IsPath, IsParting, LeastParting, once_named};
-ghost use Rattle.ion_model.specs.PartingSteps.{Extends, ItemsPath, FieldsPath, AgreeTo, first_untied};
+ghost use Rattle.ion_model.specs.laws.PartingSteps.{Extends, ItemsPath, FieldsPath, AgreeTo, first_untied};
 
 use crate::compare::order_field;
 use crate::equivalence::{equivalent, sorted};

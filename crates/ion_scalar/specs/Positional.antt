@@ -3,7 +3,7 @@ use Rattle.std.proofs.Common.{◌≡◌, ℕ, zero, suc, ◌+◌, ◌*◌, ◌^�
 use Rattle.std.proofs.Math.Nat.{pow-suc, pow-zero, one-le-pow, mul-le-mul_left}
 use Rattle.std.proofs.lemmas.Nat.{pow-add}
 use Rattle.std.proofs.lemmas.List.{take_more, take-append-drop}
-use Rattle.ion_scalar.specs.Fields.{positional}
+use Rattle.ion_scalar.specs.binary.Fields.{positional}
 
 -- what stands behind moves the number up
 pub positional-append : (base : ℕ) (xs ys : List ℕ) → positional base (xs ++ ys) ≡ positional base xs * base ^ length ys + positional base ys

@@ -1,9 +1,9 @@
 //! The bodies of decimals in binary (Ion 1.0, "Ion Binary Encoding", decimal).
 ghost use Rattle.std.specs.Prelude.{Result, ◌≡◌, ◌<◌, ◌^◌, IsTrue, SomeIff};
 ghost use Rattle.ion_model.specs.Decimals.{DecimalParts};
-ghost use Rattle.ion_scalar.specs.Reads.{ReadsDecimalBody};
-ghost use Rattle.ion_scalar.specs.Decimals.{signed};
-ghost use Rattle.ion_scalar.specs.DecimalField.{decimal_of_body, decimal_with, with_coefficient, exponent_fits};
+ghost use Rattle.ion_scalar.specs.binary.Reads.{ReadsDecimalBody};
+ghost use Rattle.ion_scalar.specs.text.Decimals.{signed};
+ghost use Rattle.ion_scalar.specs.binary.Decimal.{decimal_of_body, decimal_with, with_coefficient, exponent_fits};
 
 use crate::fields::{Signed, int_of, read_var_int};
 use ion_model::{Decimal, Reason};
@@ -23,7 +23,7 @@ pub fn decimal_of(octets: &[u8]) -> Result<Decimal, Reason>
     read_decimal(octets)
 }
 
-#[tactic(auto, unfolding(crate::specs::DecimalField::decimal_of_body))]
+#[tactic(auto, unfolding(crate::specs::binary::Decimal::decimal_of_body))]
 fn read_decimal(octets: &[u8]) -> Result<Decimal, Reason>
     ensures { result ≡ decimal_of_body octets.now }
 {

@@ -1,7 +1,7 @@
 //! The parts of decimal tokens (Ion 1.0, "Ion Text Encoding" and its grammar, decimals).
 ghost use Rattle.std.specs.Prelude.{Bool, ℕ, ℤ, ◌≡◌, ◌<◌, ◌≤◌, ◌^◌, ◌++◌, List, length, take, min, pos, ◌-ℤ◌, IfSome, IfNone};
-ghost use Rattle.ion_scalar.specs.Tokens.{number, GoesNotOn, IsWhole};
-ghost use Rattle.ion_scalar.specs.Decimals.{signed, IsPlain, IsSigned, IsExponent, IsEnd, IsFraction, IsTail, IsPower, Shows};
+ghost use Rattle.ion_scalar.specs.text.Ints.{number, GoesNotOn, IsWhole};
+ghost use Rattle.ion_scalar.specs.text.Decimals.{signed, IsPlain, IsSigned, IsExponent, IsEnd, IsFraction, IsTail, IsPower, Shows};
 
 use crate::digits::{Digits, all_digits, digits_at};
 

@@ -1,6 +1,6 @@
 //! The descriptor octet, with which each value in binary begins (Ion 1.0, "Ion Binary Encoding", typed value formats).
 ghost use Rattle.std.specs.Prelude.{◌≡◌, ◌/◌, ◌%◌, ◌<◌};
-ghost use Rattle.ion_scalar.specs.Descriptor.{descriptor_of, typed, size, kind};
+ghost use Rattle.ion_scalar.specs.binary.Descriptor.{descriptor_of, typed, size, kind};
 
 use ion_model::{Kind, Reason};
 
@@ -33,7 +33,7 @@ impl Descriptor {
     ///
     /// Answers `Float` for a float that isn't null, and `Malformed` for an octet that the table has no row for.
     /// Which descriptors may stand where, as octet 30, E0 or a wrapper in a wrapper, is not judged here.
-    #[tactic(auto, unfolding(crate::specs::Descriptor::descriptor_of))]
+    #[tactic(auto, unfolding(crate::specs::binary::Descriptor::descriptor_of))]
     #[inline(always)]
     pub fn of(octet: u8) -> Result<Descriptor, Reason>
         ensures { result ≡ descriptor_of octet }

@@ -1,6 +1,6 @@
 //! The fields of binary values that are whole numbers (Ion 1.0, "Ion Binary Encoding", basic field formats).
 ghost use Rattle.std.specs.Prelude.{◌≡◌, ◌<◌, ◌≤◌, ◌+◌, ◌^◌, ◌∷◌, SomeIff, length};
-ghost use Rattle.ion_scalar.specs.Fields.{positional, var_uint, var_int, var_rest, uint_field, int_field, signed_of};
+ghost use Rattle.ion_scalar.specs.binary.Fields.{positional, var_uint, var_int, var_rest, uint_field, int_field, signed_of};
 
 use ion_model::Reason;
 

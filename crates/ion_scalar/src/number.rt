@@ -1,13 +1,13 @@
 //! Number tokens (Ion 1.0, "Ion Text Encoding" and its grammar, ints, decimals and timestamps).
 ghost use Rattle.std.specs.Prelude.{ℕ, Result, ◌≡◌, ◌≤◌, ◌^◌, min, IfOk, IfErr, IfSome, IfNone, IsTrue, ◌↔◌};
-ghost use Rattle.ion_scalar.specs.Timestamps.{IsShort};
+ghost use Rattle.ion_scalar.specs.text.Timestamps.{IsShort};
 ghost use Rattle.ion_model.specs.declared.refusal.Reason.TheVariants.{TooLarge};
 ghost use Rattle.ion_model.specs.declared.refusal.Reason.{Reason};
 ghost use Rattle.ion_scalar.specs.declared.number.Number.{Number};
 ghost use Rattle.ion_scalar.specs.declared.number.Number.TheVariants as numbers;
-ghost use Rattle.ion_scalar.specs.Tokens.{HasBase};
-ghost use Rattle.ion_scalar.specs.Decimals.{signed};
-ghost use Rattle.ion_scalar.specs.Numbers.{ReadsNumber, ReadsNumeral, ReadsTimestamp, ReadsBehind, Fits, decimal_read};
+ghost use Rattle.ion_scalar.specs.text.Ints.{HasBase};
+ghost use Rattle.ion_scalar.specs.text.Decimals.{signed};
+ghost use Rattle.ion_scalar.specs.text.Numbers.{ReadsNumber, ReadsNumeral, ReadsTimestamp, ReadsBehind, Fits, decimal_read};
 
 use crate::decimals::{Tail, power, tail_of, whole_of};
 use crate::digits::all_digits;

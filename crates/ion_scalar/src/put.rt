@@ -2,17 +2,17 @@
 ghost use Rattle.std.specs.Prelude.{◌≡◌, ℕ, ◌<◌, ◌≤◌, ◌+◌, ◌-◌, ◌*◌, ◌^◌, ◌/◌, ◌⊎◌, ◌++◌, List, OnOk, OnErr, IsOkUnless, Ok, drop, length, vec_len, vec_capacity};
 ghost use Rattle.std.specs.Int.Digits.{digits_of};
 ghost use Rattle.ion_model.specs.declared.refusal.Reason.TheVariants.{Memory};
-ghost use Rattle.ion_scalar.specs.Fields.{var_uint, var_int, uint_field, int_field};
-ghost use Rattle.ion_scalar.specs.DecimalField.{decimal_of_body};
-ghost use Rattle.ion_scalar.specs.Spellings.{decimal_octets, var_uint_octets, var_int_octets, uint_octets, int_octets, signed_digits};
-ghost use Rattle.ion_scalar.specs.Spellings.{sign_bit as spelled_sign};
+ghost use Rattle.ion_scalar.specs.binary.Fields.{var_uint, var_int, uint_field, int_field};
+ghost use Rattle.ion_scalar.specs.binary.Decimal.{decimal_of_body};
+ghost use Rattle.ion_scalar.specs.binary.Spellings.{decimal_octets, var_uint_octets, var_int_octets, uint_octets, int_octets, signed_digits};
+ghost use Rattle.ion_scalar.specs.binary.Spellings.{sign_bit as spelled_sign};
 
 use crate::fields::Signed;
 use ion_model::{Decimal, Reason};
 
 /// Appends `value` as a VarUInt (Ion 1.0, "Ion Binary Encoding", "VarUInt and VarInt Fields").
 /// Answers `Memory`, and leaves `out` as it was, where it has no room and gets none.
-#[tactic(auto, using(crate::specs::SpellingLaws::var_uint_again))]
+#[tactic(auto, using(crate::specs::binary::laws::Spellings::var_uint_again))]
 pub fn put_var_uint(value: u64, out: &mut Vec<u8>) -> Result<(), Reason>
     requires { value < 2 ^ 63 }
     ensures ok { OnOk result (out.new.items ≡ out.old.items ++ var_uint_octets value) }
@@ -28,7 +28,7 @@ pub fn put_var_uint(value: u64, out: &mut Vec<u8>) -> Result<(), Reason>
 
 /// Appends `value` as a UInt (Ion 1.0, "Ion Binary Encoding", "UInt and Int Fields"); 0 has no octets.
 /// Answers `Memory`, and leaves `out` as it was, where it has no room and gets none.
-#[tactic(auto, using(crate::specs::SpellingLaws::uint_again))]
+#[tactic(auto, using(crate::specs::binary::laws::Spellings::uint_again))]
 pub fn put_uint(value: u128, out: &mut Vec<u8>) -> Result<(), Reason>
     requires { value < 2 ^ 127 }
     ensures ok { OnOk result (out.new.items ≡ out.old.items ++ uint_octets value) }
@@ -44,7 +44,7 @@ pub fn put_uint(value: u128, out: &mut Vec<u8>) -> Result<(), Reason>
 
 /// Appends `signed` as a VarInt (Ion 1.0, "Ion Binary Encoding", "VarUInt and VarInt Fields").
 /// Answers `Memory`, and leaves `out` as it was, where it has no room and gets none.
-#[tactic(auto, using(crate::specs::SpellingLaws::var_int_again))]
+#[tactic(auto, using(crate::specs::binary::laws::Spellings::var_int_again))]
 pub fn put_var_int(signed: Signed, out: &mut Vec<u8>) -> Result<(), Reason>
     requires { signed.magnitude < 2 ^ 63 }
     ensures ok { OnOk result (out.new.items ≡ out.old.items ++ var_int_octets signed.negative signed.magnitude) }
@@ -60,7 +60,7 @@ pub fn put_var_int(signed: Signed, out: &mut Vec<u8>) -> Result<(), Reason>
 
 /// Appends an Int of that sign and magnitude (Ion 1.0, "Ion Binary Encoding", "UInt and Int Fields"); +0 has no octets, -0 has the one octet 80.
 /// Answers `Memory`, and leaves `out` as it was, where it has no room and gets none.
-#[tactic(auto, using(crate::specs::SpellingLaws::int_again))]
+#[tactic(auto, using(crate::specs::binary::laws::Spellings::int_again))]
 pub fn put_int(negative: bool, magnitude: u128, out: &mut Vec<u8>) -> Result<(), Reason>
     requires { magnitude < 2 ^ 127 }
     ensures ok { OnOk result (out.new.items ≡ out.old.items ++ int_octets negative magnitude) }
@@ -77,7 +77,7 @@ pub fn put_int(negative: bool, magnitude: u128, out: &mut Vec<u8>) -> Result<(),
 /// Appends the body of a decimal (Ion 1.0, "Ion Binary Encoding", decimal), its exponent and its coefficient; 0d0 has no octets,
 /// a coefficient +0 none behind the exponent, and -0 has the one octet 80.
 /// Answers `Memory`, and leaves `out` as it was, where it has no room and gets none.
-#[tactic(auto, using(crate::specs::DecimalLaws::decimal_again))]
+#[tactic(auto, using(crate::specs::binary::laws::Decimal::decimal_again))]
 pub fn put_decimal(decimal: Decimal, out: &mut Vec<u8>) -> Result<(), Reason>
     ensures ok { OnOk result (out.new.items ≡ out.old.items ++ decimal_octets decimal) }
     ensures err { OnErr result (out.new.items ≡ out.old.items) }

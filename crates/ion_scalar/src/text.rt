@@ -1,13 +1,13 @@
 //! Numbers written as text, each in its one spelling (Ion 1.0, "Ion Text Encoding" and its grammar, ints, decimals and timestamps).
 ghost use Rattle.std.specs.Prelude.{◌≡◌, ℤ, ◌<◌, ◌≤◌, ◌+◌, ◌-◌, ◌^◌, ◌∷◌, ◌++◌, OnOk, OnErr, IsOkUnless, Ok, ◌%◌, ◌/◌, IfSome, Some, drop, length, vec_len, vec_capacity};
 ghost use Rattle.ion_model.specs.Timestamps.{IsOffset};
-ghost use Rattle.ion_scalar.specs.Timestamps.{IsShort};
+ghost use Rattle.ion_scalar.specs.text.Timestamps.{IsShort};
 ghost use Rattle.std.specs.Fmt.{decimal, signed_decimal};
 ghost use Rattle.ion_model.specs.declared.refusal.Reason.TheVariants.{Memory};
 ghost use Rattle.ion_scalar.specs.declared.number.Number.TheVariants as numbers;
-ghost use Rattle.ion_scalar.specs.Numbers.{ReadsNumber};
-ghost use Rattle.ion_scalar.specs.Tokens.{minus};
-ghost use Rattle.ion_scalar.specs.Texts.{number_text, decimal_text, timestamp_text, cut_text, offset_text, clock_text, two_digits, four_digits, padded, month_text, day_text, minute_text, second_text};
+ghost use Rattle.ion_scalar.specs.text.Numbers.{ReadsNumber};
+ghost use Rattle.ion_scalar.specs.text.Ints.{minus};
+ghost use Rattle.ion_scalar.specs.text.Texts.{number_text, decimal_text, timestamp_text, cut_text, offset_text, clock_text, two_digits, four_digits, padded, month_text, day_text, minute_text, second_text};
 
 use crate::number::Number;
 use crate::put::append;

@@ -1,10 +1,10 @@
 //! The bodies of timestamps in binary (Ion 1.0, "Ion Binary Encoding", timestamp).
 ghost use Rattle.std.specs.Prelude.{Result, ◌≡◌, ◌<◌, ◌≤◌, ◌^◌, length, IfOk, IfSome};
 ghost use Rattle.ion_model.specs.Timestamps.{TimestampParts, IsOffset, minutes_ahead};
-ghost use Rattle.ion_scalar.specs.TimestampField.{timestamp_of_body, shown_by, shown, kept_offset, offset_from, local_in, day_known, time_known};
-ghost use Rattle.ion_scalar.specs.TimestampField.{read_offset, read_field, read_fields, read_behind_year, read_behind_month, read_behind_day, read_behind_hour, read_behind_minute, read_behind_second, read_fraction};
-ghost use Rattle.ion_scalar.specs.TimestampLaws.{IsUtc};
-ghost use Rattle.ion_scalar.specs.TimestampReasons.{ReadsTimestampBody};
+ghost use Rattle.ion_scalar.specs.binary.Timestamp.{timestamp_of_body, shown_by, shown, kept_offset, offset_from, local_in, day_known, time_known};
+ghost use Rattle.ion_scalar.specs.binary.Timestamp.{read_offset, read_field, read_fields, read_behind_year, read_behind_month, read_behind_day, read_behind_hour, read_behind_minute, read_behind_second, read_fraction};
+ghost use Rattle.ion_scalar.specs.binary.laws.Timestamp.{IsUtc};
+ghost use Rattle.ion_scalar.specs.binary.TimestampReasons.{ReadsTimestampBody};
 
 use crate::fields::{Signed, int_of, read_var_int, read_var_uint};
 use ion_model::calendar::{Date, Minute, days_of_month};
@@ -69,7 +69,7 @@ pub fn timestamp_of(octets: &[u8]) -> Result<Timestamp, Reason>
     read_timestamp(octets)
 }
 
-#[tactic(auto, unfolding(crate::specs::TimestampField::timestamp_of_body))]
+#[tactic(auto, unfolding(crate::specs::binary::Timestamp::timestamp_of_body))]
 fn read_timestamp(octets: &[u8]) -> Result<Timestamp, Reason>
     ensures { result ≡ timestamp_of_body octets.now }
 {
@@ -77,7 +77,7 @@ fn read_timestamp(octets: &[u8]) -> Result<Timestamp, Reason>
     with_offset(offset, &octets[used..])
 }
 
-#[tactic(auto, unfolding(crate::specs::TimestampField::read_offset))]
+#[tactic(auto, unfolding(crate::specs::binary::Timestamp::read_offset))]
 fn offset_of(octets: &[u8]) -> Result<(Option<i16>, usize), Reason>
     ensures value { result ≡ read_offset octets.now }
     ensures near { IfOk result (λ r. IfSome r.0 IsOffset) }
@@ -113,7 +113,7 @@ fn with_offset(offset: Option<i16>, octets: &[u8]) -> Result<Timestamp, Reason>
 }
 
 // The VarUInt at the front, if it lies in that range, and how many octets it takes.
-#[tactic(auto, unfolding(crate::specs::TimestampField::read_field))]
+#[tactic(auto, unfolding(crate::specs::binary::Timestamp::read_field))]
 fn field(least: u64, most: u64, octets: &[u8]) -> Result<(u16, usize), Reason>
     requires { most < 2 ^ 16 }
     ensures value { result ≡ read_field least most octets.now }
@@ -127,7 +127,7 @@ fn field(least: u64, most: u64, octets: &[u8]) -> Result<(u16, usize), Reason>
     }
 }
 
-#[tactic(auto, unfolding(crate::specs::TimestampField::read_fields))]
+#[tactic(auto, unfolding(crate::specs::binary::Timestamp::read_fields))]
 fn fields_of(octets: &[u8]) -> Result<Utc, Reason>
     ensures { result ≡ read_fields octets.now }
 {
@@ -135,7 +135,7 @@ fn fields_of(octets: &[u8]) -> Result<Utc, Reason>
     behind_year(year, &octets[used..])
 }
 
-#[tactic(auto, unfolding(crate::specs::TimestampField::read_behind_year))]
+#[tactic(auto, unfolding(crate::specs::binary::Timestamp::read_behind_year))]
 fn behind_year(year: u16, octets: &[u8]) -> Result<Utc, Reason>
     requires { (1 ≤ year) × (year ≤ 9999) }
     ensures { result ≡ read_behind_year year octets.now }
@@ -152,7 +152,7 @@ fn behind_year(year: u16, octets: &[u8]) -> Result<Utc, Reason>
     behind_month(year, month as u8, &octets[used..])
 }
 
-#[tactic(auto, unfolding(crate::specs::TimestampField::read_behind_month))]
+#[tactic(auto, unfolding(crate::specs::binary::Timestamp::read_behind_month))]
 fn behind_month(year: u16, month: u8, octets: &[u8]) -> Result<Utc, Reason>
     requires year { (1 ≤ year) × (year ≤ 9999) }
     requires month { (1 ≤ month) × (month ≤ 12) }
@@ -176,7 +176,7 @@ fn behind_month(year: u16, month: u8, octets: &[u8]) -> Result<Utc, Reason>
     behind_day(date, &octets[used..])
 }
 
-#[tactic(auto, unfolding(crate::specs::TimestampField::read_behind_day))]
+#[tactic(auto, unfolding(crate::specs::binary::Timestamp::read_behind_day))]
 fn behind_day(date: Date, octets: &[u8]) -> Result<Utc, Reason>
     ensures { result ≡ read_behind_day date octets.now }
 {
@@ -187,7 +187,7 @@ fn behind_day(date: Date, octets: &[u8]) -> Result<Utc, Reason>
     behind_hour(date, hour as u8, &octets[used..])
 }
 
-#[tactic(auto, unfolding(crate::specs::TimestampField::read_behind_hour))]
+#[tactic(auto, unfolding(crate::specs::binary::Timestamp::read_behind_hour))]
 fn behind_hour(date: Date, hour: u8, octets: &[u8]) -> Result<Utc, Reason>
     ensures { result ≡ read_behind_hour date hour octets.now }
 {
@@ -200,7 +200,7 @@ fn behind_hour(date: Date, hour: u8, octets: &[u8]) -> Result<Utc, Reason>
     behind_minute(minute, &octets[used..])
 }
 
-#[tactic(auto, unfolding(crate::specs::TimestampField::read_behind_minute))]
+#[tactic(auto, unfolding(crate::specs::binary::Timestamp::read_behind_minute))]
 fn behind_minute(minute: Minute, octets: &[u8]) -> Result<Utc, Reason>
     ensures { result ≡ read_behind_minute minute octets.now }
 {
@@ -211,7 +211,7 @@ fn behind_minute(minute: Minute, octets: &[u8]) -> Result<Utc, Reason>
     behind_second(minute, second as u8, &octets[used..])
 }
 
-#[tactic(auto, unfolding(crate::specs::TimestampField::read_behind_second))]
+#[tactic(auto, unfolding(crate::specs::binary::Timestamp::read_behind_second))]
 fn behind_second(minute: Minute, second: u8, octets: &[u8]) -> Result<Utc, Reason>
     ensures { result ≡ read_behind_second minute second octets.now }
 {
@@ -225,7 +225,7 @@ fn behind_second(minute: Minute, second: u8, octets: &[u8]) -> Result<Utc, Reaso
     }
 }
 
-#[tactic(auto, unfolding(crate::specs::TimestampField::read_fraction))]
+#[tactic(auto, unfolding(crate::specs::binary::Timestamp::read_fraction))]
 fn with_fraction(minute: Minute, second: u8, power: Signed, octets: &[u8]) -> Result<Utc, Reason>
     ensures { result ≡ read_fraction minute second power octets.now }
 {
@@ -249,7 +249,7 @@ fn with_fraction(minute: Minute, second: u8, power: Signed, octets: &[u8]) -> Re
 }
 
 // The timestamp of these fields, as a place shows it whose clock is ahead of UTC by the offset.
-#[tactic(auto, unfolding(crate::specs::TimestampField::shown))]
+#[tactic(auto, unfolding(crate::specs::binary::Timestamp::shown))]
 fn show(offset: Option<i16>, utc: Utc) -> Result<Timestamp, Reason>
     requires utc { IsUtc utc }
     requires offset { IfSome offset IsOffset }

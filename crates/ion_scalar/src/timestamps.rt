@@ -2,9 +2,9 @@
 ghost use Rattle.std.specs.Prelude.{ℕ, ◌≡◌, ◌<◌, ◌≤◌, ◌+◌, ◌-◌, ◌*◌, ◌^◌, ◌++◌, List, length, drop, min, slice_index, IfSome, IfNone, SomeIff, IsTrue, ◌↔◌, ◌⊎◌, ◌==◌, if◌then◌else◌, pos, neg_ℤ, Some, None};
 ghost use Rattle.ion_model.specs.declared.timestamp.Precision.TheVariants as precisions;
 ghost use Rattle.ion_model.specs.Timestamps.{TimestampParts};
-ghost use Rattle.ion_scalar.specs.Tokens.{number};
-ghost use Rattle.ion_scalar.specs.Decimals.{IsPlain};
-ghost use Rattle.ion_scalar.specs.Timestamps.{IsAt, IsDigitAt, AreTwoAt, two, AreFourAt, four, BeginsWithMonth, BeginsWithDay, BeginsWithMinute, BeginsWithSecond, IsOffsetToken, offset_read, minute_read, dated, IsYear, IsMonth, IsDay, IsFractionEnd, IsTimestampToken, stamp};
+ghost use Rattle.ion_scalar.specs.text.Ints.{number};
+ghost use Rattle.ion_scalar.specs.text.Decimals.{IsPlain};
+ghost use Rattle.ion_scalar.specs.text.Timestamps.{IsAt, IsDigitAt, AreTwoAt, two, AreFourAt, four, BeginsWithMonth, BeginsWithDay, BeginsWithMinute, BeginsWithSecond, IsOffsetToken, offset_read, minute_read, dated, IsYear, IsMonth, IsDay, IsFractionEnd, IsTimestampToken, stamp};
 
 use crate::digits::digits_at;
 use ion_model::{Local, Precision};

@@ -10,7 +10,7 @@ use Rattle.std.proofs.lemmas.List.Folds.{length-flat_map-take}
 use Rattle.std.proofs.lemmas.Option.{slice_get-get_or}
 use Rattle.ion_symtab.specs.Slots.{gap}
 use Rattle.ion_symtab.specs.declared.segments.Segment.{Segment}
-use Rattle.ion_symtab.specs.Segments.{Counts, StartsBy, StartsBehind, segment_slots}
+use Rattle.ion_symtab.specs.kept.Segments.{Counts, StartsBy, StartsBehind, segment_slots}
 
 -- how many slots the segments have
 abbrev slots_in : List Segment → ℕ

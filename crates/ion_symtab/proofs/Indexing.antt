@@ -7,7 +7,7 @@ use Rattle.std.proofs.lemmas.Slice.Eq.{bytes_eq-Decides}
 use Rattle.std.proofs.lemmas.Option.{slice_get_within}
 use Rattle.ion_symtab.proofs.Systems.{slice_get-append_left, slice_get-append_right}
 use Rattle.ion_symtab.specs.Tables.{Table, is_named, find, newer, newest, otherwise}
-use Rattle.ion_symtab.specs.Places.{place_of, newest_of, newest_place, Shows, Indexes}
+use Rattle.ion_symtab.specs.kept.Places.{place_of, newest_of, newest_place, Shows, Indexes}
 use Rattle.ion_symtab.specs.declared.places.Places.{Places}
 
 found_else : (b : Bool) (u : Table) (o more : Option Table) → (if b then Some u else otherwise o more) ≡ otherwise (if b then Some u else o) more

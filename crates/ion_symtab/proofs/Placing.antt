@@ -5,7 +5,7 @@ use Rattle.std.specs.Cmp.Lexicographic.{bytes_decides}
 use Rattle.std.specs.BTreeMap.{get, get_by_text}
 use Rattle.std.specs.Map.{update}
 use Rattle.std.specs.Ordering.{nat_cmp}
-use Rattle.ion_symtab.specs.Places.{version_of, newest_among}
+use Rattle.ion_symtab.specs.kept.Places.{version_of, newest_among}
 use Rattle.ion_symtab.specs.declared.places.Versions.{Versions}
 
 -- the versions of a name have one place more

@@ -5,7 +5,7 @@ ghost use Rattle.ion_symtab.specs.Slots.{greatest_id, symbol_at};
 ghost use Rattle.ion_symtab.specs.Fields.{symbol_of};
 ghost use Rattle.ion_symtab.specs.Next.{local_slot, joined};
 ghost use Rattle.ion_symtab.specs.Outcome.{Gives};
-ghost use Rattle.ion_symtab.specs.Segments.{Builds};
+ghost use Rattle.ion_symtab.specs.kept.Segments.{Builds};
 
 use crate::segments::Segments;
 use ion_model::{Reason, Symbol, Value};
@@ -28,7 +28,7 @@ impl Model for Added {
     ghost use Rattle.std.specs.Prelude.{◌+◌, ◌≤◌, ◌++◌, length, map};
     ghost use Rattle.ion_symtab.specs.Slots.{greatest_id};
     ghost use Rattle.ion_symtab.specs.Next.{local_slot};
-    ghost use Rattle.ion_symtab.specs.Segments.{Row};
+    ghost use Rattle.ion_symtab.specs.kept.Segments.{Row};
 
     ghost Value = { Row };
 

@@ -1,9 +1,9 @@
 //! The shared symbol tables that documents may import (Ion 1.0, "Symbols", "Shared Symbol Tables").
 ghost use Rattle.std.specs.Prelude.{◌≡◌, ◌⊎◌, [], ◌∷◌, ◌++◌, IfErr, OnOk, OnErr, IsSome, is_some, Option, option_copied};
 ghost use Rattle.ion_model.specs.declared.refusal.Reason.TheVariants as reasons;
-ghost use Rattle.ion_symtab.specs.ContextTexts.{AreTextTables};
+ghost use Rattle.ion_symtab.specs.laws.ContextTexts.{AreTextTables};
 ghost use Rattle.ion_symtab.specs.Tables.{find, find_best, newest};
-ghost use Rattle.ion_symtab.specs.Places.{table_at, newest_place};
+ghost use Rattle.ion_symtab.specs.kept.Places.{table_at, newest_place};
 
 use crate::places::Places;
 use crate::shared_table::SharedTable;
@@ -27,7 +27,7 @@ impl Model for Catalog {
 
     ghost view = { λ c. c.tables.items };
 
-    ghost use Rattle.ion_symtab.specs.Places.{Indexes};
+    ghost use Rattle.ion_symtab.specs.kept.Places.{Indexes};
 
     ghost invariant = { λ c. Indexes c.tables.items c.places };
 }

@@ -5,7 +5,7 @@ ghost use Rattle.ion_model.specs.Kinds.{is_table};
 ghost use Rattle.ion_symtab.specs.Slots.{greatest_id, system_slots, resolve};
 ghost use Rattle.ion_symtab.specs.Next.{next, extended, appends};
 ghost use Rattle.ion_symtab.specs.Outcome.{Gives};
-ghost use Rattle.ion_symtab.specs.Segments.{Fills};
+ghost use Rattle.ion_symtab.specs.kept.Segments.{Fills};
 
 use crate::added::Added;
 use crate::catalog::Catalog;

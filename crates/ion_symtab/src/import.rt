@@ -3,7 +3,7 @@ ghost use Rattle.std.specs.Prelude.{◌≡◌, Ok, Err, Some, MatchResult, Match
 ghost use Rattle.ion_model.specs.declared.refusal.Reason.TheVariants as reasons;
 ghost use Rattle.ion_symtab.specs.Tables.{find, newest};
 ghost use Rattle.ion_symtab.specs.Next.{import_of, chosen};
-ghost use Rattle.ion_symtab.specs.Seen.{import_seen};
+ghost use Rattle.ion_symtab.specs.kept.Seen.{import_seen};
 
 use crate::catalog::Catalog;
 use crate::fields::{count_of, only, table_name, version_of};

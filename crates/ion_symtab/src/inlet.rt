@@ -1,7 +1,7 @@
 //! Devices that octets come from.
 ghost use Rattle.std.specs.Prelude.{◌≡◌, ℕ, ◌+◌, ◌-◌, ◌^◌, ◌<◌, ◌≤◌, Bool, true, false, List, [], ◌∷◌, ◌++◌, length, take, min, IfOk, OnErr, is_err, IsErr};
 ghost use Rattle.ion_symtab.specs.Told.{Told, MayTell, known_some};
-ghost use Rattle.ion_symtab.specs.FromRead.{reader_of};
+ghost use Rattle.ion_symtab.specs.kept.FromRead.{reader_of};
 
 use crate::history::History;
 use std::io::Read;
@@ -99,7 +99,7 @@ impl<R: Read> FromRead<R> {
 }
 
 impl<R: Read> Inlet for FromRead<R> {
-    ghost use Rattle.ion_symtab.specs.FromRead.{calls_of, failed_of, handed_of, ends_of};
+    ghost use Rattle.ion_symtab.specs.kept.FromRead.{calls_of, failed_of, handed_of, ends_of};
 
     ghost tells = { λ device. MayTell (R.remaining (reader_of device)) };
 

@@ -4,11 +4,11 @@ ghost use Rattle.ion_model.specs.declared.value.Value.{Value};
 ghost use Rattle.ion_model.specs.Kept.{IsText, IsKept};
 ghost use Rattle.ion_symtab.specs.Slots.{Slot, greatest_id, system_slots, resolve};
 ghost use Rattle.ion_symtab.specs.Tables.{Table, find, newest};
-ghost use Rattle.ion_symtab.specs.TableLaws.{IsAtLeast};
+ghost use Rattle.ion_symtab.specs.laws.Tables.{IsAtLeast};
 ghost use Rattle.ion_symtab.specs.Next.{next};
-ghost use Rattle.ion_symtab.specs.ContextLaws.{Begins};
+ghost use Rattle.ion_symtab.specs.laws.Contexts.{Begins};
 ghost use Rattle.ion_symtab.specs.Decided.{Decides};
-ghost use Rattle.ion_symtab.specs.ContextTexts.{AreTextSlots, AreTextTables};
+ghost use Rattle.ion_symtab.specs.laws.ContextTexts.{AreTextSlots, AreTextTables};
 
 /// A table that is found by name and version is one of the catalog, under both; and where there is one,
 /// one is found.

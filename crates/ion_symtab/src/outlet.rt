@@ -98,7 +98,7 @@ impl<W: Write> ToWrite<W> {
 }
 
 impl<W: Write> Outlet for ToWrite<W> {
-    ghost use Rattle.ion_symtab.specs.ToWrite.{writer_of, failed_of, written_of, passed_of};
+    ghost use Rattle.ion_symtab.specs.kept.ToWrite.{writer_of, failed_of, written_of, passed_of};
 
     ghost took = { λ device. W.contents (writer_of device) };
 

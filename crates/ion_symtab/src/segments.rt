@@ -6,7 +6,7 @@ ghost use Rattle.ion_symtab.specs.Slots.{greatest_id, symbol_at, slot_symbol};
 ghost use Rattle.ion_symtab.specs.Fields.{symbol_of};
 ghost use Rattle.ion_symtab.specs.Next.{local_slot, shared_slot, cut_or_filled, joined, element_added, imported};
 ghost use Rattle.ion_symtab.specs.Outcome.{Gives};
-ghost use Rattle.ion_symtab.specs.Segments.{part_slots, StartsBy, StartsBehind, Adds};
+ghost use Rattle.ion_symtab.specs.kept.Segments.{part_slots, StartsBy, StartsBehind, Adds};
 
 use crate::catalog::Catalog;
 use crate::fields::symbols_of;
@@ -48,7 +48,7 @@ pub(crate) struct Segments {
 impl Model for Segments {
     ghost use Rattle.std.specs.Prelude.{◌+◌, ◌≤◌, length};
     ghost use Rattle.std.specs.List.{flat_map};
-    ghost use Rattle.ion_symtab.specs.Segments.{Row, segment_slots, Counts};
+    ghost use Rattle.ion_symtab.specs.kept.Segments.{Row, segment_slots, Counts};
 
     ghost Value = { Row };
 

@@ -9,24 +9,24 @@ use Rattle.ion_symtab.specs.Slots.{Slot}
 use Rattle.ion_tokens.specs.declared.mode.TokenKind.{TokenKind}
 use Rattle.ion_tokens.specs.declared.scanner.Scanner.{Scanner}
 use Rattle.ion_tokens.specs.declared.whole.Rest.{Rest}
-use Rattle.ion_tokens.specs.Bounds.{IsSteady}
+use Rattle.ion_tokens.specs.machine.Bounds.{IsSteady}
 use Rattle.std.specs.Prelude.{if◌then◌else◌, ◌==◌, ◌&&◌, ◌^◌, nat_lt, min, IsUtf8}
 use Rattle.std.specs.List.{list_all}
 use Rattle.std.proofs.lemmas.Bool.Decides.{nat_tests}
 use Rattle.std.proofs.lemmas.Str.{is_utf8-from_IsUtf8}
 use Rattle.ion_scalar.specs.declared.number.Number.{Number}
-use Rattle.ion_scalar.specs.Reading.{number_read}
+use Rattle.ion_scalar.specs.text.Reading.{number_read}
 use Rattle.ion_tokens.specs.declared.mode.Mark.{Mark}
 use Rattle.ion_tokens.specs.declared.mode.Mark.TheVariants as marks
 use Rattle.ion_tokens.specs.declared.mode.TokenKind.TheVariants as kinds
 use Rattle.ion_tokens.specs.Octets.{is_digit}
 use Rattle.ion_tokens.specs.Bodies.{Content, Word, Short, Number', Mark', id_of, number_in}
-use Rattle.ion_tokens.specs.Said.{said, spelled, word_said, number_said}
+use Rattle.ion_tokens.specs.machine.Said.{said, spelled, word_said, number_said}
 use Rattle.ion_tokens.proofs.WholeTokens.{comma_found}
-use Rattle.ion_tokens.specs.Views.{scanned, looks, failure}
-use Rattle.ion_tokens.specs.Rests.{resting, past_blank, past_token, lexeme_at, before_end, IsPassed, IsFound}
+use Rattle.ion_tokens.specs.machine.Views.{scanned, looks, failure}
+use Rattle.ion_tokens.specs.machine.Rests.{resting, past_blank, past_token, lexeme_at, before_end, IsPassed, IsFound}
 use Rattle.ion_tokens.specs.declared.mode.Place.TheVariants as places
-use Rattle.ion_tokens.specs.Scanning.{Known, Lexeme}
+use Rattle.ion_tokens.specs.machine.Scanning.{Known, Lexeme}
 use Rattle.std.proofs.lemmas.Grind.{common_steps}
 use Rattle.ion_text.specs.declared.state.Held.{Held}
 use Rattle.ion_text.specs.declared.state.Frame.{Frame}
@@ -34,11 +34,11 @@ use Rattle.ion_text.specs.declared.state.Frame.TheVariants as frames
 use Rattle.ion_text.specs.declared.state.Now.{Now}
 use Rattle.ion_text.specs.declared.state.Now.TheVariants as nows
 use Rattle.ion_text.specs.declared.reader.TextReader.{TextReader}
-use Rattle.ion_text.specs.Machine.{Reading, Turn, Symbols, goes, place, place_in, settle, turn, turn_now, begun_at, on_ready, on_after, on_comma, ended, released, paid, held_payload, named}
-use Rattle.ion_text.specs.Run.{is_top, with_scan, token_of}
-use Rattle.ion_text.specs.Runs.{Quiet}
-use Rattle.ion_text.specs.Views.{state_of, reading_of, open_frames, IsCalm, SameSetting}
-use Rattle.ion_text.specs.Passing.{Passes, IsStill, Inside, Strides}
+use Rattle.ion_text.specs.machine.EachToken.{Reading, Turn, Symbols, goes, place, place_in, settle, turn, turn_now, begun_at, on_ready, on_after, on_comma, ended, released, paid, held_payload, named}
+use Rattle.ion_text.specs.machine.Run.{is_top, with_scan, token_of}
+use Rattle.ion_text.specs.machine.Pieces.{Quiet}
+use Rattle.ion_text.specs.machine.Views.{state_of, reading_of, open_frames, IsCalm, SameSetting}
+use Rattle.ion_text.specs.machine.AtOnce.{Passes, IsStill, Inside, Strides}
 use Rattle.ion_text.proofs.Passing.{passes_blank, passes_left, passes_given, calm_quiet}
 use Rattle.ion_text.proofs.Striding.{still_settles}
 

@@ -7,14 +7,14 @@ use Rattle.ion_model.specs.declared.refusal.Refusal.{Refusal}
 use Rattle.ion_symtab.specs.declared.limits.Limits.{Limits}
 use Rattle.ion_symtab.specs.declared.catalog.Catalog.{Catalog}
 use Rattle.ion_tokens.specs.declared.token.Token.{Token as Found}
-use Rattle.ion_tokens.specs.Scanning.{Lexeme}
-use Rattle.ion_tokens.specs.Steps.{Ends}
+use Rattle.ion_tokens.specs.machine.Scanning.{Lexeme}
+use Rattle.ion_tokens.specs.machine.Steps.{Ends}
 use Rattle.ion_tokens.proofs.Cutting.{one_body}
-use Rattle.ion_tokens.specs.Said.{said, says}
-use Rattle.ion_text.specs.Machine.{Reading, Turn, goes, gives, refuses, late, settle, turn}
-use Rattle.ion_text.specs.Run.{end_settled, end_waiting, end_ready, end_turned, end_said}
-use Rattle.ion_text.specs.Progress.{DidEnd}
-use Rattle.ion_text.specs.Views.{token_in}
+use Rattle.ion_tokens.specs.machine.Said.{said, says}
+use Rattle.ion_text.specs.machine.EachToken.{Reading, Turn, goes, gives, refuses, late, settle, turn}
+use Rattle.ion_text.specs.machine.Run.{end_settled, end_waiting, end_ready, end_turned, end_said}
+use Rattle.ion_text.specs.machine.Progress.{DidEnd}
+use Rattle.ion_text.specs.machine.Views.{token_in}
 use Rattle.ion_text.proofs.Meetings.{said_so, token_so}
 
 end_same : (used : ℕ) (a b : Result (Option Value) Refusal) (result : Result (Option Value) Reason) → a ≡ b → DidEnd used b result → DidEnd used a result

@@ -10,11 +10,11 @@ use Rattle.ion_symtab.specs.declared.items.Step.{Step}
 use Rattle.ion_symtab.specs.declared.limits.Limits.{Limits}
 use Rattle.ion_symtab.specs.declared.catalog.Catalog.{Catalog}
 use Rattle.ion_text.specs.declared.reader.TextReader.{TextReader}
-use Rattle.ion_text.specs.Run.{State, Run, run, run_on, once_more, eats, begun, trace, trace_of}
-use Rattle.ion_text.specs.Runs.{led, then_run, run-append, grows}
-use Rattle.ion_text.specs.Views.{state_of, IsFine}
-use Rattle.ion_text.specs.Stands.{behind, further}
-use Rattle.ion_text.specs.Progress.{resumed, BeginsWith, StopsBefore, Advances, Ran, Stands, SameSettings, StaysSteady, octets_used}
+use Rattle.ion_text.specs.machine.Run.{State, Run, run, run_on, once_more, eats, begun, trace, trace_of}
+use Rattle.ion_text.specs.machine.Pieces.{led, then_run, run-append, grows}
+use Rattle.ion_text.specs.machine.Views.{state_of, IsFine}
+use Rattle.ion_text.specs.laws.reading.Stands.{behind, further}
+use Rattle.ion_text.specs.machine.Progress.{resumed, BeginsWith, StopsBefore, Advances, Ran, Stands, SameSettings, StaysSteady, octets_used}
 
 module _ (g : Catalog) (l : Limits) where
   begins_take : (awaited : Option ℕ) (piece : List ℕ) (used : ℕ) → BeginsWith awaited piece → (is_some awaited ≡ true → 0 < used) → BeginsWith awaited (take used piece)

@@ -7,7 +7,7 @@ use Rattle.ion_model.specs.declared.value.Value.{Value}
 use Rattle.ion_model.specs.declared.refusal.Reason.{Reason}
 use Rattle.ion_text.specs.declared.state.Frame.{Frame}
 use Rattle.ion_text.specs.declared.state.Now.{Now}
-use Rattle.ion_text.specs.Views.{Puts}
+use Rattle.ion_text.specs.machine.Views.{Puts}
 
 pub innermost_is : (xs : List Frame) (n : ℕ) (x : Frame) → length xs ≡ n → 0 < n → x ≡ get_or xs (n - 1) x → (outer : List Frame) × (reverse xs ≡ x ∷ outer) × ((y : Frame) → reverse (slice_set xs (n - 1) y) ≡ y ∷ outer)
 innermost_is xs n x size some is = by (reverse xs) refl where

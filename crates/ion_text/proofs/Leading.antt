@@ -9,9 +9,9 @@ use Rattle.ion_model.specs.declared.refusal.Reason.TheVariants as reasons
 use Rattle.ion_model.specs.declared.refusal.Refusal.{Refusal}
 use Rattle.ion_symtab.specs.declared.limits.Limits.{Limits}
 use Rattle.ion_symtab.specs.declared.catalog.Catalog.{Catalog}
-use Rattle.ion_text.specs.Run.{State, Effect, uses, tells, leaves, fails, Run, run, run_on, once_more, with_value, eats}
-use Rattle.ion_text.specs.Runs.{led, then_run, run-append}
-use Rattle.ion_text.specs.Progress.{GaveLast, LedLeaving, resumed, Advances, BeginsWith}
+use Rattle.ion_text.specs.machine.Run.{State, Effect, uses, tells, leaves, fails, Run, run, run_on, once_more, with_value, eats}
+use Rattle.ion_text.specs.machine.Pieces.{led, then_run, run-append}
+use Rattle.ion_text.specs.machine.Progress.{GaveLast, LedLeaving, resumed, Advances, BeginsWith}
 
 no_cons : {A : Type 0} (x : A) (xs : List A) → x ∷ xs ≡ [] → ⊥
 no_cons x xs e = absurd cc

@@ -8,23 +8,23 @@ use Rattle.ion_symtab.specs.declared.catalog.Catalog.{Catalog}
 use Rattle.ion_tokens.specs.declared.mode.Place.{Place}
 use Rattle.ion_tokens.specs.declared.mode.Mode.{Mode}
 use Rattle.ion_tokens.specs.declared.token.Begun.{Begun}
-use Rattle.ion_tokens.specs.Ahead.{is_long_form, AtEach, OnNext}
-use Rattle.ion_tokens.specs.Bounds.{is_idle}
-use Rattle.ion_tokens.specs.Fronts.{goes_on, gone_on}
+use Rattle.ion_tokens.specs.machine.Ahead.{is_long_form, AtEach, OnNext}
+use Rattle.ion_tokens.specs.machine.Bounds.{is_idle}
+use Rattle.ion_tokens.specs.machine.AtOnce.{goes_on, gone_on}
 use Rattle.ion_tokens.specs.Lexemes.{Each}
-use Rattle.ion_tokens.specs.Scanning as scanning
-use Rattle.ion_tokens.specs.Scanning.{Known, Outcome, Next, feed}
-use Rattle.ion_tokens.specs.Views.{begun_in, behind, form_of}
+use Rattle.ion_tokens.specs.machine.Scanning as scanning
+use Rattle.ion_tokens.specs.machine.Scanning.{Known, Outcome, Next, feed}
+use Rattle.ion_tokens.specs.machine.Views.{begun_in, behind, form_of}
 use Rattle.ion_tokens.proofs.Runs.{next_used}
 use Rattle.ion_tokens.proofs.GoesOn.{one_on}
 use Rattle.ion_text.specs.declared.state.Frame.{Frame}
 use Rattle.ion_text.specs.declared.state.Now.{Now}
 use Rattle.ion_text.specs.declared.state.Now.TheVariants as nows
 use Rattle.ion_symtab.specs.Slots.{Slot}
-use Rattle.ion_text.specs.Machine.{Reading, Symbols, goes, at, place, settle, settled}
-use Rattle.ion_text.specs.Run.{uses, fails, noticed, shut, reaches, longest_top, is_long_begun, with_scan, waits, waits_now, is_top, run}
-use Rattle.ion_text.specs.Runs.{led, Quiet, Stays, Waiting, drive}
-use Rattle.ion_text.specs.Views.{lulls, ended_so_far, IsLull}
+use Rattle.ion_text.specs.machine.EachToken.{Reading, Symbols, goes, at, place, settle, settled}
+use Rattle.ion_text.specs.machine.Run.{uses, fails, noticed, shut, reaches, longest_top, is_long_begun, with_scan, waits, waits_now, is_top, run}
+use Rattle.ion_text.specs.machine.Pieces.{led, Quiet, Stays, Waiting, drive}
+use Rattle.ion_text.specs.machine.Views.{lulls, ended_so_far, IsLull}
 
 -- no token has begun that may not
 open_mode : (n : Now) (m : Mode) → lulls n m ≡ true → (shut n && not (is_idle m)) ≡ false

@@ -8,17 +8,17 @@ use Rattle.ion_symtab.specs.declared.catalog.Catalog.{Catalog}
 use Rattle.ion_tokens.specs.declared.token.Scan.{Scan}
 use Rattle.ion_tokens.specs.declared.token.Token.{Token as Found}
 use Rattle.ion_tokens.specs.Bodies.{Content, content}
-use Rattle.ion_tokens.specs.Scanning.{Known, Lexeme, Outcome, Next, Given, Left, Refused}
-use Rattle.ion_tokens.specs.Steps.{Answers, IsToken, GivesToken}
-use Rattle.ion_tokens.specs.Views.{scanned}
+use Rattle.ion_tokens.specs.machine.Scanning.{Known, Lexeme, Outcome, Next, Given, Left, Refused}
+use Rattle.ion_tokens.specs.machine.Steps.{Answers, IsToken, GivesToken}
+use Rattle.ion_tokens.specs.machine.Views.{scanned}
 use Rattle.ion_tokens.proofs.Cutting.{one_body}
 use Rattle.ion_text.specs.declared.reader.TextReader.{TextReader}
 use Rattle.ion_text.specs.declared.state.Met.{Met}
 use Rattle.ion_text.specs.declared.state.Met.TheVariants as met
-use Rattle.ion_tokens.specs.Said.{said, says}
-use Rattle.ion_text.specs.Machine.{Reading, turn}
-use Rattle.ion_text.specs.Run.{State, Effect, uses, tells, leaves, fails, noticed, behind_given, behind_left, on_said, on_scan, token_of}
-use Rattle.ion_text.specs.Views.{state_of, token_in, Told, DidMeet, IsBehind, is_left, decided, comes_again, Meets, MeetsWith}
+use Rattle.ion_tokens.specs.machine.Said.{said, says}
+use Rattle.ion_text.specs.machine.EachToken.{Reading, turn}
+use Rattle.ion_text.specs.machine.Run.{State, Effect, uses, tells, leaves, fails, noticed, behind_given, behind_left, on_said, on_scan, token_of}
+use Rattle.ion_text.specs.machine.Views.{state_of, token_in, Told, DidMeet, IsBehind, is_left, decided, comes_again, Meets, MeetsWith}
 
 told_same : (e f : Effect) (with_it : Value → State → Effect) (given : Option Value) (m : State) → e ≡ f → Told f with_it given m → Told e with_it given m
 told_same e f with_it None m h t = t

@@ -15,22 +15,22 @@ use Rattle.ion_tokens.specs.declared.scanner.Scanner.{Scanner}
 use Rattle.ion_tokens.specs.declared.whole.Rest.{Rest}
 use Rattle.ion_tokens.specs.Bodies.{Mark'}
 use Rattle.ion_tokens.specs.Places.{is_name}
-use Rattle.ion_tokens.specs.Bounds.{IsSteady}
-use Rattle.ion_tokens.specs.Scanning.{Known, Left, feed}
-use Rattle.ion_tokens.specs.Views.{scanned, looks, failure}
-use Rattle.ion_tokens.specs.Rests.{resting, past_token, lexeme_at, IsFound}
+use Rattle.ion_tokens.specs.machine.Bounds.{IsSteady}
+use Rattle.ion_tokens.specs.machine.Scanning.{Known, Left, feed}
+use Rattle.ion_tokens.specs.machine.Views.{scanned, looks, failure}
+use Rattle.ion_tokens.specs.machine.Rests.{resting, past_token, lexeme_at, IsFound}
 use Rattle.ion_tokens.proofs.WholeTokens.{list_open_found, list_close_found, sexp_open_found, sexp_close_found, fields_open_found, fields_close_found}
 use Rattle.ion_text.specs.declared.state.Frame.{Frame}
 use Rattle.ion_text.specs.declared.state.Frame.TheVariants as frames
 use Rattle.ion_text.specs.declared.state.Now.{Now}
 use Rattle.ion_text.specs.declared.state.Now.TheVariants as nows
 use Rattle.ion_text.specs.declared.reader.TextReader.{TextReader}
-use Rattle.ion_text.specs.Machine.{Reading, Turn, Symbols, goes, place, place_in, settle, turn, turn_now, begun_at, on_ready}
-use Rattle.ion_text.specs.Run.{is_top, with_scan, token_of}
-use Rattle.ion_text.specs.Runs.{Quiet}
-use Rattle.ion_text.specs.Nested.{Opens, OpensStruct, Closes, closes, close_octet, closed}
-use Rattle.ion_text.specs.Views.{reading_of, state_of, open_frames, IsCalm, SameSetting, SameReader}
-use Rattle.ion_text.specs.Passing.{Passes, IsStill, Inside, Strides}
+use Rattle.ion_text.specs.machine.EachToken.{Reading, Turn, Symbols, goes, place, place_in, settle, turn, turn_now, begun_at, on_ready}
+use Rattle.ion_text.specs.machine.Run.{is_top, with_scan, token_of}
+use Rattle.ion_text.specs.machine.Pieces.{Quiet}
+use Rattle.ion_text.specs.machine.Nested.{Opens, OpensStruct, Closes, closes, close_octet, closed}
+use Rattle.ion_text.specs.machine.Views.{reading_of, state_of, open_frames, IsCalm, SameSetting, SameReader}
+use Rattle.ion_text.specs.machine.AtOnce.{Passes, IsStill, Inside, Strides}
 use Rattle.ion_text.proofs.Passing.{passes_left, top_quiet}
 use Rattle.ion_text.proofs.Striding.{still_settles}
 use Rattle.ion_text.proofs.Arms.{StaysIn, Moved, with_scanner, went, ready_turns, ended_stays, mark_says, token_strides}

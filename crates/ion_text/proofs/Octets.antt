@@ -7,16 +7,16 @@ use Rattle.ion_model.specs.declared.refusal.Reason.TheVariants as reasons
 use Rattle.ion_symtab.specs.declared.limits.Limits.{Limits}
 use Rattle.ion_symtab.specs.declared.catalog.Catalog.{Catalog}
 use Rattle.ion_tokens.specs.declared.mode.Place.{Place}
-use Rattle.ion_tokens.specs.Scanning.{Known, Lexeme, Outcome, Next, Given, Left, Refused, feed, follow, run}
+use Rattle.ion_tokens.specs.machine.Scanning.{Known, Lexeme, Outcome, Next, Given, Left, Refused, feed, follow, run}
 use Rattle.ion_tokens.proofs.Runs.{feed_used, given_used, left_used}
 use Rattle.ion_text.specs.declared.reader.TextReader.{TextReader}
 use Rattle.ion_text.specs.declared.state.Taken.{Taken}
 use Rattle.ion_text.specs.declared.state.Taken.TheVariants as taken
 use Rattle.ion_text.specs.declared.state.Met.{Met}
 use Rattle.ion_text.specs.declared.state.Met.TheVariants as met
-use Rattle.ion_text.specs.Machine.{Reading, Turn, goes, gives, late, place, settle}
-use Rattle.ion_text.specs.Run.{State, Effect, tells, leaves, fails, lesser, or_worse, unsettled, with_scan, on_scan, on_settled, on_octet, takes}
-use Rattle.ion_text.specs.Views.{state_of, Told, DidTake, Gave, IsBehind, Meets, is_left, comes_again, worse}
+use Rattle.ion_text.specs.machine.EachToken.{Reading, Turn, goes, gives, late, place, settle}
+use Rattle.ion_text.specs.machine.Run.{State, Effect, tells, leaves, fails, lesser, or_worse, unsettled, with_scan, on_scan, on_settled, on_octet, takes}
+use Rattle.ion_text.specs.machine.Views.{state_of, Told, DidTake, Gave, IsBehind, Meets, is_left, comes_again, worse}
 
 told_same : (e f : Effect) (with_it : Value → State → Effect) (given : Option Value) (m : State) → e ≡ f → Told f with_it given m → Told e with_it given m
 told_same e f with_it None m h t = t

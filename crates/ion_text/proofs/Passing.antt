@@ -8,26 +8,26 @@ use Rattle.ion_symtab.specs.declared.limits.Limits.{Limits}
 use Rattle.ion_symtab.specs.declared.catalog.Catalog.{Catalog}
 use Rattle.ion_tokens.specs.declared.mode.Place.{Place}
 use Rattle.ion_tokens.specs.declared.mode.Mode.TheVariants as modes
-use Rattle.ion_tokens.specs.Scanning as scanning
-use Rattle.ion_tokens.specs.Scanning.{Known, Lexeme, Outcome, Next, Given, Left, Refused, feed, follow}
-use Rattle.ion_tokens.specs.Again.{blank_uses}
+use Rattle.ion_tokens.specs.machine.Scanning as scanning
+use Rattle.ion_tokens.specs.machine.Scanning.{Known, Lexeme, Outcome, Next, Given, Left, Refused, feed, follow}
+use Rattle.ion_tokens.specs.laws.Again.{blank_uses}
 use Rattle.ion_tokens.proofs.Runs.{feed_used, next_used}
-use Rattle.ion_tokens.specs.Bounds.{is_idle}
+use Rattle.ion_tokens.specs.machine.Bounds.{is_idle}
 use Rattle.ion_tokens.specs.Bodies.{Content}
-use Rattle.ion_tokens.specs.Said.{said}
-use Rattle.ion_tokens.specs.Ahead.{OnNext, IsUsed, is_sane, is_colons, symbol_waits}
+use Rattle.ion_tokens.specs.machine.Said.{said}
+use Rattle.ion_tokens.specs.machine.Ahead.{OnNext, IsUsed, is_sane, is_colons, symbol_waits}
 use Rattle.ion_model.specs.declared.refusal.Reason.TheVariants as reasons
 use Rattle.ion_text.specs.declared.state.Frame.{Frame}
 use Rattle.ion_text.specs.declared.state.Held.{Held}
 use Rattle.ion_text.specs.declared.state.Now.{Now}
 use Rattle.ion_text.specs.declared.state.Now.TheVariants as nows
-use Rattle.ion_text.specs.Machine.{Reading, Symbols, goes, place, settle, turn}
-use Rattle.ion_text.specs.Run.{State, Effect, uses, fails, is_top, shut, reaches, noticed, waits, waits_now, in_segment, unsettled, with_scan, eats, takes, on_scan, on_said, on_settled, behind_left, behind_given, token_of, run, run_on}
-use Rattle.ion_text.specs.Runs.{led, then_run, run-append, followed, Quiet, Waiting, Stays, drive, go_on}
-use Rattle.ion_text.specs.Fuel.{UsedThen, Twice, twice_fuel}
-use Rattle.ion_text.specs.Meets.{follows_as}
-use Rattle.ion_text.specs.Views.{floor, base, IsCalm}
-use Rattle.ion_text.specs.Passing.{Passes}
+use Rattle.ion_text.specs.machine.EachToken.{Reading, Symbols, goes, place, settle, turn}
+use Rattle.ion_text.specs.machine.Run.{State, Effect, uses, fails, is_top, shut, reaches, noticed, waits, waits_now, in_segment, unsettled, with_scan, eats, takes, on_scan, on_said, on_settled, behind_left, behind_given, token_of, run, run_on}
+use Rattle.ion_text.specs.machine.Pieces.{led, then_run, run-append, followed, Quiet, Waiting, Stays, drive, go_on}
+use Rattle.ion_text.specs.laws.reading.Fuel.{UsedThen, Twice, twice_fuel}
+use Rattle.ion_text.specs.laws.reading.Meets.{follows_as}
+use Rattle.ion_text.specs.machine.Views.{floor, base, IsCalm}
+use Rattle.ion_text.specs.machine.AtOnce.{Passes}
 use Rattle.ion_text.proofs.Stretches.{quiet_within}
 
 agree_less : (j k : ℕ) (w os : List ℕ) → j ≤ k → take k w ≡ take k os → take j w ≡ take j os

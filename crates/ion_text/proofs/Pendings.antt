@@ -8,17 +8,17 @@ use Rattle.ion_symtab.specs.declared.limits.Limits.{Limits}
 use Rattle.ion_symtab.specs.declared.catalog.Catalog.{Catalog}
 use Rattle.ion_tokens.specs.declared.mode.Mode.{Mode}
 use Rattle.ion_tokens.specs.declared.mode.Mode.TheVariants as modes
-use Rattle.ion_tokens.specs.Again.{blank_uses}
+use Rattle.ion_tokens.specs.laws.Again.{blank_uses}
 use Rattle.ion_text.specs.declared.state.Now.{Now}
 use Rattle.ion_text.specs.declared.state.Now.TheVariants as nows
 use Rattle.ion_text.specs.declared.reader.TextReader.{TextReader}
-use Rattle.ion_text.specs.Machine.{place}
-use Rattle.ion_text.specs.Run.{State, Effect, leaves, eats, Run}
-use Rattle.ion_text.specs.Runs.{led}
-use Rattle.ion_text.specs.Accepts.{ready_still}
-use Rattle.ion_text.specs.Fuel.{NotLeaves, eats_stays}
-use Rattle.ion_text.specs.Views.{state_of}
-use Rattle.ion_text.specs.Progress.{resumed, BeginsWith, StopsBefore, Advances, is_quiet, pending_by, pending, octets_used}
+use Rattle.ion_text.specs.machine.EachToken.{place}
+use Rattle.ion_text.specs.machine.Run.{State, Effect, leaves, eats, Run}
+use Rattle.ion_text.specs.machine.Pieces.{led}
+use Rattle.ion_text.specs.laws.reading.Accepts.{ready_still}
+use Rattle.ion_text.specs.laws.reading.Fuel.{NotLeaves, eats_stays}
+use Rattle.ion_text.specs.machine.Views.{state_of}
+use Rattle.ion_text.specs.machine.Progress.{resumed, BeginsWith, StopsBefore, Advances, is_quiet, pending_by, pending, octets_used}
 
 quiet_parts : (now : Now) (mode : Mode) → is_quiet now mode ≡ true → (now ≡ nows.Ready) × (mode ≡ modes.Blank)
 quiet_parts nows.Ready modes.Blank h = (refl, refl)

@@ -8,10 +8,10 @@ use Rattle.ion_symtab.specs.declared.catalog.Catalog.{Catalog}
 use Rattle.ion_text.specs.declared.reader.TextReader.{TextReader}
 use Rattle.ion_text.specs.declared.state.Taken.{Taken}
 use Rattle.ion_text.specs.declared.state.Taken.TheVariants as taken
-use Rattle.ion_text.specs.Run.{State, run, eats, leaves}
-use Rattle.ion_text.specs.Runs.{then_run, run-append}
-use Rattle.ion_text.specs.Views.{state_of, Told}
-use Rattle.ion_text.specs.Progress.{Took, GaveLast}
+use Rattle.ion_text.specs.machine.Run.{State, run, eats, leaves}
+use Rattle.ion_text.specs.machine.Pieces.{then_run, run-append}
+use Rattle.ion_text.specs.machine.Views.{state_of, Told}
+use Rattle.ion_text.specs.machine.Progress.{Took, GaveLast}
 
 module _ (g : Catalog) (l : Limits) (to : ℕ) (m : State) (piece : List ℕ) (n : ℕ) (within : n ≤ length piece) where
   size : length (take n piece) ≡ n

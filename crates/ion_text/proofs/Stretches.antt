@@ -18,29 +18,29 @@ use Rattle.ion_tokens.specs.declared.mode.TokenKind.TheVariants as kinds
 use Rattle.ion_tokens.specs.declared.mode.Action.{Action}
 use Rattle.ion_tokens.specs.declared.mode.Action.TheVariants as actions
 use Rattle.ion_tokens.specs.declared.token.Begun.{Begun}
-use Rattle.ion_tokens.specs.Bounds.{is_idle}
+use Rattle.ion_tokens.specs.machine.Bounds.{is_idle}
 use Rattle.ion_tokens.specs.Blobs.{blob_of}
-use Rattle.ion_tokens.specs.Table.{next}
-use Rattle.ion_tokens.specs.Views.{scanned, begun_in, behind, form_of}
-use Rattle.ion_tokens.specs.Scanning as scanning
-use Rattle.ion_tokens.specs.Scanning.{Known, Lexeme, Outcome, Next, Given, Left, Refused, start_of, go_to, cut, past, acts, blob_ends, feed, follow}
+use Rattle.ion_tokens.specs.machine.Table.{next}
+use Rattle.ion_tokens.specs.machine.Views.{scanned, begun_in, behind, form_of}
+use Rattle.ion_tokens.specs.machine.Scanning as scanning
+use Rattle.ion_tokens.specs.machine.Scanning.{Known, Lexeme, Outcome, Next, Given, Left, Refused, start_of, go_to, cut, past, acts, blob_ends, feed, follow}
 use Rattle.ion_tokens.proofs.Runs.{feed_used, next_used}
 use Rattle.ion_tokens.proofs.LastOctets.{IsLast, last_octet, refused_here}
 use Rattle.ion_text.specs.declared.state.Now.{Now}
 use Rattle.ion_text.specs.declared.state.Now.TheVariants as nows
 use Rattle.ion_text.specs.declared.state.Frame.{Frame}
-use Rattle.ion_text.specs.Machine.{Reading, Symbols, goes, at, place, settle, settled}
-use Rattle.ion_text.specs.Run.{State, Effect, or_worse, uses, tells, leaves, fails, noticed, shut, reaches, longest_top, is_long_begun, with_scan, eats, takes, on_scan, on_settled, unsettled, failed, run, run_on}
+use Rattle.ion_text.specs.machine.EachToken.{Reading, Symbols, goes, at, place, settle, settled}
+use Rattle.ion_text.specs.machine.Run.{State, Effect, or_worse, uses, tells, leaves, fails, noticed, shut, reaches, longest_top, is_long_begun, with_scan, eats, takes, on_scan, on_settled, unsettled, failed, run, run_on}
 use Rattle.ion_text.specs.declared.reader.TextReader.{TextReader}
 use Rattle.ion_text.specs.declared.state.Taken.{Taken}
 use Rattle.ion_text.specs.declared.state.Taken.TheVariants as taken
 use Rattle.ion_text.specs.declared.state.Met.{Met}
 use Rattle.ion_text.specs.declared.state.Met.TheVariants as met
-use Rattle.ion_text.specs.Views.{floor, IsCalm, base, worse, state_of, Told, DidTake, Meets, MeetsWith, comes_again}
-use Rattle.ion_text.specs.Progress.{GaveLast, LedLeaving}
+use Rattle.ion_text.specs.machine.Views.{floor, IsCalm, base, worse, state_of, Told, DidTake, Meets, MeetsWith, comes_again}
+use Rattle.ion_text.specs.machine.Progress.{GaveLast, LedLeaving}
 use Rattle.ion_text.proofs.Octets.{given_here, left_here, take_worse}
-use Rattle.ion_tokens.specs.Ahead.{OnNext}
-use Rattle.ion_text.specs.Runs.{led, then_run, run-append, Quiet, drive}
+use Rattle.ion_tokens.specs.machine.Ahead.{OnNext}
+use Rattle.ion_text.specs.machine.Pieces.{led, then_run, run-append, Quiet, drive}
 
 start_in : Outcome → ℕ → ℕ
 start_in (Next s) n = s.start

@@ -6,19 +6,19 @@ use Rattle.ion_model.specs.declared.refusal.Reason.{Reason}
 use Rattle.ion_model.specs.declared.refusal.Reason.TheVariants as reasons
 use Rattle.ion_symtab.specs.declared.limits.Limits.{Limits}
 use Rattle.ion_symtab.specs.declared.catalog.Catalog.{Catalog}
-use Rattle.ion_tokens.specs.Again.{blank_uses}
-use Rattle.ion_tokens.specs.Views.{scanned}
+use Rattle.ion_tokens.specs.laws.Again.{blank_uses}
+use Rattle.ion_tokens.specs.machine.Views.{scanned}
 use Rattle.ion_text.specs.declared.state.Now.{Now}
 use Rattle.ion_text.specs.declared.state.Now.TheVariants as nows
 use Rattle.ion_text.specs.declared.state.Taken.TheVariants as taken
 use Rattle.ion_text.specs.declared.reader.TextReader.{TextReader}
-use Rattle.ion_text.specs.Machine.{Reading, goes, at, place, settle}
-use Rattle.ion_text.specs.Run.{State, tells, leaves, fails, eats, run, run_on}
-use Rattle.ion_text.specs.Runs.{led}
-use Rattle.ion_text.specs.Fuel.{NotLeaves, eats_stays}
-use Rattle.ion_text.specs.Views.{state_of, reading_of, Told, DidTake, SameReader}
-use Rattle.ion_text.specs.Progress.{Took, GaveLast}
-use Rattle.ion_text.specs.Passing.{Passes, IsStill, IsResting, Inside, Strides}
+use Rattle.ion_text.specs.machine.EachToken.{Reading, goes, at, place, settle}
+use Rattle.ion_text.specs.machine.Run.{State, tells, leaves, fails, eats, run, run_on}
+use Rattle.ion_text.specs.machine.Pieces.{led}
+use Rattle.ion_text.specs.laws.reading.Fuel.{NotLeaves, eats_stays}
+use Rattle.ion_text.specs.machine.Views.{state_of, reading_of, Told, DidTake, SameReader}
+use Rattle.ion_text.specs.machine.Progress.{Took, GaveLast}
+use Rattle.ion_text.specs.machine.AtOnce.{Passes, IsStill, IsResting, Inside, Strides}
 use Rattle.ion_text.proofs.Passing.{passes_on, passes_none, next_octet}
 
 pub still_settles : (g : Catalog) (l : Limits) (r : Reading) → IsStill r.now → settle g l r ≡ goes r

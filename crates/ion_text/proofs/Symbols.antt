@@ -20,18 +20,18 @@ use Rattle.ion_tokens.specs.declared.mode.TokenKind.{TokenKind}
 use Rattle.ion_tokens.specs.declared.mode.TokenKind.TheVariants as kinds
 use Rattle.ion_tokens.specs.declared.scanner.Scanner.{Scanner}
 use Rattle.ion_tokens.specs.declared.whole.Rest.{Rest}
-use Rattle.ion_tokens.specs.Ahead.{symbol_waits}
+use Rattle.ion_tokens.specs.machine.Ahead.{symbol_waits}
 use Rattle.ion_tokens.specs.Bodies.{Content, Word, Id, Quoted, Short, Long, Number', TypedNull, Operator, Clob, Blob, Mark', SaysNumber, IsBody}
-use Rattle.ion_tokens.specs.Bounds.{is_idle}
+use Rattle.ion_tokens.specs.machine.Bounds.{is_idle}
 use Rattle.ion_tokens.specs.Octets.{is_white, begins_word, is_digit, is_operator_octet}
 use Rattle.ion_tokens.specs.Places.{is_name, is_sexp}
-use Rattle.ion_tokens.specs.Rests.{resting, past_blank, past_token, lexeme_at, IsPassed, IsFound}
-use Rattle.ion_tokens.specs.Said.{said, says}
-use Rattle.ion_tokens.specs.Scanning as scanning
-use Rattle.ion_tokens.specs.Scanning.{Known, Outcome, Next, feed, follow, acts, takes_colon}
-use Rattle.ion_tokens.specs.Table.{in_blank, begins_value}
+use Rattle.ion_tokens.specs.machine.Rests.{resting, past_blank, past_token, lexeme_at, IsPassed, IsFound}
+use Rattle.ion_tokens.specs.machine.Said.{said, says}
+use Rattle.ion_tokens.specs.machine.Scanning as scanning
+use Rattle.ion_tokens.specs.machine.Scanning.{Known, Outcome, Next, feed, follow, acts, takes_colon}
+use Rattle.ion_tokens.specs.machine.Table.{in_blank, begins_value}
 use Rattle.ion_tokens.specs.declared.mode.Action.{Action}
-use Rattle.ion_tokens.specs.Views.{scanned}
+use Rattle.ion_tokens.specs.machine.Views.{scanned}
 use Rattle.ion_tokens.proofs.Runs.{next_used}
 use Rattle.ion_tokens.proofs.WholeTokens.{colon_found, colons_found}
 use Rattle.ion_text.specs.Grammar.{is_keyword}
@@ -41,12 +41,12 @@ use Rattle.ion_text.specs.declared.state.Held.{Held}
 use Rattle.ion_text.specs.declared.state.Held.TheVariants as helds
 use Rattle.ion_text.specs.declared.state.Now.TheVariants as nows
 use Rattle.ion_text.specs.declared.reader.TextReader.{TextReader}
-use Rattle.ion_text.specs.FrontTokens.{ends_symbol, held_of, value_of, Pays, Names, BeginsSymbol, BeginsValue, BeginsName}
-use Rattle.ion_text.specs.Machine.{Reading, Symbols, goes, late, at, place, place_in, settle, turn, turn_now, on_ready, on_name, ended, paid, held_word, held_payload, held_symbol, noted, keyed, named}
-use Rattle.ion_text.specs.Passing.{Passes, IsStill, Inside, Strides}
-use Rattle.ion_text.specs.Run.{is_top, with_scan, token_of}
-use Rattle.ion_text.specs.Runs.{Quiet}
-use Rattle.ion_text.specs.Views.{reading_of, open_frames, IsCalm, SameSetting}
+use Rattle.ion_text.specs.laws.reading.FrontTokens.{ends_symbol, held_of, value_of, Pays, Names, BeginsSymbol, BeginsValue, BeginsName}
+use Rattle.ion_text.specs.machine.EachToken.{Reading, Symbols, goes, late, at, place, place_in, settle, turn, turn_now, on_ready, on_name, ended, paid, held_word, held_payload, held_symbol, noted, keyed, named}
+use Rattle.ion_text.specs.machine.AtOnce.{Passes, IsStill, Inside, Strides}
+use Rattle.ion_text.specs.machine.Run.{is_top, with_scan, token_of}
+use Rattle.ion_text.specs.machine.Pieces.{Quiet}
+use Rattle.ion_text.specs.machine.Views.{reading_of, open_frames, IsCalm, SameSetting}
 use Rattle.ion_text.proofs.Arms.{Moved, StaysIn, with_scanner, spelled_utf8, short_says, word_says, first_of, moved_strides, room, ready_turns, left_passes, given_leads, ended_stays, ended_place, named_stays, released_inner, same_place, name_place, value_strides, mark_says, blank_used, blank_colon, at_drop}
 use Rattle.ion_text.proofs.Passing.{passes_on, passes_blank, passes_waiting, passes_settled, passes_colons, calm_quiet, blank_quiet}
 use Rattle.ion_text.proofs.Striding.{still_settles}

@@ -9,7 +9,7 @@ use Rattle.ion_model.specs.declared.value.Value.{Value}
 use Rattle.ion_model.specs.declared.value.Payload.TheOpen.{Payload-F}
 use Rattle.ion_model.specs.declared.value.Payload.TheFolds.{fold-Value}
 use Rattle.ion_scalar.specs.declared.number.Number.TheVariants as numbers
-use Rattle.ion_scalar.specs.Texts.{number_text}
+use Rattle.ion_scalar.specs.text.Texts.{number_text}
 use Rattle.ion_tokens.specs.Ascii.{tab, line_feed, carriage_return, space, double_quote, single_quote, digit_0, backslash, underscore, lower_a, lower_n, lower_r, lower_t, delete}
 use Rattle.ion_tokens.specs.Octets.{is_letter, is_word_octet}
 use Rattle.ion_tokens.specs.Blobs.{base64_of}

@@ -2,7 +2,7 @@
 //! function appends to `out`, and its only fault is `Memory`, on which some of the octets may stand there.
 ghost use Rattle.std.specs.Prelude.{◌≡◌, ◌<◌, ◌≤◌, ◌++◌, OnOk, IsOkUnless, length, take};
 ghost use Rattle.ion_symtab.specs.declared.fault.Fault.TheVariants as faults;
-ghost use Rattle.ion_text.specs.RawRuns.{is_raw, AreRaw};
+ghost use Rattle.ion_text.specs.laws.writing.RawRuns.{is_raw, AreRaw};
 ghost use Rattle.ion_text.specs.Output.{hexadecimal_of, letter_for, stands_raw, escape, escaped_text, quoted};
 
 use ion_symtab::Fault;

@@ -1,5 +1,5 @@
 //! Laws of text documents. Each stands on an empty function: its contract is the law. What they say of
-//! reading is said of the definitions of `specs/Run.antt`, which read octet by octet; `TextReader` is
+//! reading is said of the definitions of `specs/machine/Run.antt`, which read octet by octet; `TextReader` is
 //! proved to answer what they say.
 ghost use Rattle.std.specs.Prelude.{◌≡◌, ◌↔◌, ◌++◌, ℕ, List, length, codes, Some, None, Err};
 ghost use Rattle.ion_model.specs.declared.value.Value.{Value};
@@ -9,12 +9,12 @@ ghost use Rattle.ion_symtab.specs.declared.limits.Limits.{Limits};
 ghost use Rattle.ion_symtab.specs.Tables.{Table};
 ghost use Rattle.ion_symtab.specs.Promises.{GivesNoTable, HasReasons, IsSmall, NoTables, Refuses, Shown, Shows};
 ghost use Rattle.ion_symtab.specs.Trace.{Grows, Streams, plain};
-ghost use Rattle.ion_symtab.specs.ContextTexts.{AreTextTables};
+ghost use Rattle.ion_symtab.specs.laws.ContextTexts.{AreTextTables};
 ghost use Rattle.ion_text.specs.Grammar.{Document, OpenRest, Whole};
 ghost use Rattle.ion_text.specs.Output.{text_of};
-ghost use Rattle.ion_text.specs.RoundTrip.{FitsIn};
-ghost use Rattle.ion_text.specs.Rows.{worked};
-ghost use Rattle.ion_text.specs.Run.{trace};
+ghost use Rattle.ion_text.specs.laws.writing.RoundTrip.{FitsIn};
+ghost use Rattle.ion_text.specs.laws.writing.Rows.{worked};
+ghost use Rattle.ion_text.specs.machine.Run.{trace};
 
 /// What is written of values that the types keep, none of them a local symbol table, is a document
 /// with these values, under every catalog and all limits that admit it; so what is written of the

@@ -1,9 +1,9 @@
 //! The reader of text documents: what it holds, and what each token does.
 ghost use Rattle.std.specs.Prelude.{◌≡◌, ◌∷◌, [], nat_lt, length, List, reverse, false, true};
 ghost use Rattle.ion_model.specs.Measures.{annotated};
-ghost use Rattle.ion_text.specs.Machine.{place, begun_at, ended};
-ghost use Rattle.ion_text.specs.Run.{is_top};
-ghost use Rattle.ion_text.specs.Views.{open_frames, reading_of, Does, Puts, SameSetting, is_named, has_field};
+ghost use Rattle.ion_text.specs.machine.EachToken.{place, begun_at, ended};
+ghost use Rattle.ion_text.specs.machine.Run.{is_top};
+ghost use Rattle.ion_text.specs.machine.Views.{open_frames, reading_of, Does, Puts, SameSetting, is_named, has_field};
 
 use crate::state::{Effect, Frame, Now};
 use ion_model::{Field, Payload, Reason, Refusal, Sequence, Symbol, Value};

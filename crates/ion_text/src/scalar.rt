@@ -3,7 +3,7 @@
 ghost use Rattle.std.specs.Prelude.{◌≡◌, ◌++◌, OnOk, IsOkUnless, IsUtf8, MatchResult, string_bytes};
 ghost use Rattle.std.specs.List.{list_all};
 ghost use Rattle.ion_model.specs.declared.refusal.Reason.TheVariants as reasons;
-ghost use Rattle.ion_scalar.specs.Texts.{number_text};
+ghost use Rattle.ion_scalar.specs.text.Texts.{number_text};
 ghost use Rattle.ion_symtab.specs.declared.fault.Fault.TheVariants as faults;
 ghost use Rattle.ion_tokens.specs.Octets.{is_word_octet};
 ghost use Rattle.ion_text.specs.Grammar.{is_keyword};
@@ -75,7 +75,7 @@ pub fn put_symbol(symbol: &Symbol, out: &mut Vec<u8>) -> Result<(), Fault>
 }
 
 /// Appends a symbol of this text.
-#[tactic(auto, using(crate::specs::QuotedLaws::known_utf8))]
+#[tactic(auto, using(crate::specs::laws::writing::Quoted::known_utf8))]
 fn put_known(text: &str, out: &mut Vec<u8>) -> Result<(), Fault>
     ensures ok { OnOk result (out.new.items ≡ out.old.items ++ known_text text.now) }
     ensures utf8 { IsUtf8 (known_text text.now) }

@@ -4,7 +4,7 @@ ghost use Rattle.std.specs.List.{list_all};
 ghost use Rattle.ion_model.specs.declared.refusal.Reason.TheVariants as reasons;
 ghost use Rattle.ion_tokens.specs.Octets.{is_digit};
 ghost use Rattle.ion_text.specs.Grammar.{is_keyword, is_version, version_parts, some_digits};
-ghost use Rattle.ion_text.specs.Machine.{held_word};
+ghost use Rattle.ion_text.specs.machine.EachToken.{held_word};
 
 use crate::state::Held;
 use ion_model::{Kind, Reason, Symbol};

@@ -4,8 +4,8 @@ use Rattle.ion_model.specs.declared.refusal.Refusal.{Refusal}
 use Rattle.ion_model.specs.declared.refusal.Reason.TheVariants.{Memory}
 use Rattle.ion_tokens.specs.declared.token.Scan.{Scan}
 use Rattle.ion_tokens.specs.declared.token.Token.{Token}
-use Rattle.ion_tokens.specs.Scanning.{Known, Lexeme, Outcome, Next, Given, Left, Refused}
-use Rattle.ion_tokens.specs.Steps.{Answers, GivesToken, IsWithin}
+use Rattle.ion_tokens.specs.machine.Scanning.{Known, Lexeme, Outcome, Next, Given, Left, Refused}
+use Rattle.ion_tokens.specs.machine.Steps.{Answers, GivesToken, IsWithin}
 use Rattle.ion_tokens.proofs.Runs.{Between}
 
 pub used_within : (x : Outcome) (r : Result Scan Refusal) (before n : ℕ) (now : Known) → Between x before n → Answers before x r now

@@ -5,8 +5,8 @@ use Rattle.std.specs.List.{list_all, take_while, prefix_len}
 use Rattle.std.proofs.lemmas.Bool.{false≢true}
 use Rattle.std.proofs.lemmas.List.Folds.{length-prefix_len}
 use Rattle.ion_tokens.specs.declared.mode.Style.{Style}
-use Rattle.ion_tokens.specs.Table.{is_long, quote_of}
-use Rattle.ion_tokens.specs.Fronts.{is_between, is_plain}
+use Rattle.ion_tokens.specs.machine.Table.{is_long, quote_of}
+use Rattle.ion_tokens.specs.machine.AtOnce.{is_between, is_plain}
 use Rattle.ion_tokens.proofs.GoesOn.{rest_is}
 
 both : (b c : Bool) → (b && c) ≡ true → (b ≡ true) × (c ≡ true)

@@ -5,7 +5,7 @@ use Rattle.ion_model.specs.declared.kind.Kind.{Kind}
 use Rattle.ion_model.specs.declared.refusal.Refusal.{Refusal}
 use Rattle.ion_model.specs.declared.refusal.Reason.{Reason}
 use Rattle.ion_model.specs.declared.refusal.Reason.TheVariants as reasons
-use Rattle.ion_scalar.specs.Numbers.{ReadsNumber}
+use Rattle.ion_scalar.specs.text.Numbers.{ReadsNumber}
 use Rattle.ion_tokens.specs.declared.mode.Place.{Place}
 use Rattle.ion_tokens.specs.declared.mode.Mode.TheVariants as modes
 use Rattle.ion_tokens.specs.declared.mode.TokenKind.{TokenKind}
@@ -13,12 +13,12 @@ use Rattle.ion_tokens.specs.declared.mode.TokenKind.TheVariants as kinds
 use Rattle.ion_tokens.specs.declared.mode.Action.{Action}
 use Rattle.ion_tokens.specs.declared.mode.Action.TheVariants as actions
 use Rattle.ion_tokens.specs.declared.token.Scan.{Scan}
-use Rattle.ion_tokens.specs.Table.{next}
+use Rattle.ion_tokens.specs.machine.Table.{next}
 use Rattle.ion_tokens.specs.Blobs.{blob_of}
-use Rattle.ion_tokens.specs.Scanning.{Known, Outcome, Next, Given, Left, Refused, go_to, cut, past, blob_ends, acts, feed, follow, run}
+use Rattle.ion_tokens.specs.machine.Scanning.{Known, Outcome, Next, Given, Left, Refused, go_to, cut, past, blob_ends, acts, feed, follow, run}
 use Rattle.ion_tokens.specs.Bodies.{IsWordBody, IsBody, null_of, kind_named, id_of}
-use Rattle.ion_tokens.specs.Bounds.{is_idle, unkept, debt}
-use Rattle.ion_tokens.specs.Steps.{Answers, is_step_reason}
+use Rattle.ion_tokens.specs.machine.Bounds.{is_idle, unkept, debt}
+use Rattle.ion_tokens.specs.machine.Steps.{Answers, is_step_reason}
 use Rattle.ion_tokens.proofs.Fits.{Fits, is_octet_reason, table_fits}
 
 -- what octets come to is refused for their own sake

@@ -7,15 +7,15 @@ use Rattle.base64.specs.GeneralPurpose.{decode_of, decoded_of}
 use Rattle.base64.proofs.EngineFacts.{decode_of_iff}
 use Rattle.ion_model.specs.declared.refusal.Reason.{Reason}
 use Rattle.ion_scalar.specs.declared.number.Number.{Number}
-use Rattle.ion_scalar.specs.Numbers.{ReadsNumber}
-use Rattle.ion_scalar.specs.OneNumber.{one_answer}
+use Rattle.ion_scalar.specs.text.Numbers.{ReadsNumber}
+use Rattle.ion_scalar.specs.text.laws.OneNumber.{one_answer}
 use Rattle.ion_tokens.specs.declared.mode.Place.{Place}
 use Rattle.ion_tokens.specs.declared.mode.TokenKind.{TokenKind}
 use Rattle.ion_tokens.specs.declared.mode.TokenKind.TheVariants as kinds
 use Rattle.ion_tokens.specs.Blobs.{AreOctets, base64_of, blob_of}
-use Rattle.ion_tokens.specs.BlobLaws.{octet_at}
+use Rattle.ion_tokens.specs.laws.Blobs.{octet_at}
 use Rattle.ion_tokens.specs.Bodies.{Content, Word, Number', Spells, IsWordBody, SaysNumber, IsBody, id_of}
-use Rattle.ion_tokens.specs.Scanning.{Known, Outcome, Next, Given, Left, Refused, feed, follow, run}
+use Rattle.ion_tokens.specs.machine.Scanning.{Known, Outcome, Next, Given, Left, Refused, feed, follow, run}
 
 follow_follow : (x : Outcome) (f g : Known → Outcome) → follow (follow x f) g ≡ follow x (λ s. follow (f s) g)
 follow_follow (Next s) f g = refl

@@ -19,15 +19,15 @@ use Rattle.ion_tokens.specs.declared.mode.Mode.{Mode}
 use Rattle.ion_tokens.specs.declared.mode.Mode.TheVariants as modes
 use Rattle.ion_tokens.specs.declared.mode.TokenKind.{TokenKind}
 use Rattle.ion_tokens.specs.declared.mode.TokenKind.TheVariants as kinds
-use Rattle.ion_tokens.specs.Table.{end_of, is_sexp}
-use Rattle.ion_tokens.specs.Scanning.{Known, Lexeme, kept_after, ends_at, at_end}
+use Rattle.ion_tokens.specs.machine.Table.{end_of, is_sexp}
+use Rattle.ion_tokens.specs.machine.Scanning.{Known, Lexeme, kept_after, ends_at, at_end}
 use Rattle.ion_tokens.specs.Bodies.{Content, Spells, IsWordBody, IsBody, null_of, kind_named, id_of}
 use Rattle.ion_tokens.specs.Lexed.{Placed}
-use Rattle.ion_tokens.specs.Scanned.{Scanned}
-use Rattle.ion_tokens.specs.Steps.{Ends, is_end_reason}
+use Rattle.ion_tokens.specs.machine.Scanned.{Scanned}
+use Rattle.ion_tokens.specs.machine.Steps.{Ends, is_end_reason}
 use Rattle.ion_tokens.proofs.Opens.{IsOpen}
 use Rattle.ion_tokens.proofs.Holds.{InMode}
-use Rattle.ion_tokens.specs.EachLaws.{each_last}
+use Rattle.ion_tokens.specs.laws.Each.{each_last}
 use Rattle.ion_tokens.proofs.Begins.{begun_holds}
 
 -- octets of a class of ASCII are UTF-8

@@ -5,9 +5,9 @@ use Rattle.ion_model.specs.declared.refusal.Reason.{Reason}
 use Rattle.ion_tokens.specs.declared.mode.Place.{Place}
 use Rattle.ion_tokens.specs.declared.mode.End.{End}
 use Rattle.ion_tokens.specs.declared.mode.End.TheVariants as ends
-use Rattle.ion_tokens.specs.Table.{end_of}
+use Rattle.ion_tokens.specs.machine.Table.{end_of}
 use Rattle.ion_tokens.specs.Blobs.{AreOctets}
-use Rattle.ion_tokens.specs.Scanning.{Known, Lexeme, Outcome, Next, Given, Left, Refused, run, at_end, ends_at}
+use Rattle.ion_tokens.specs.machine.Scanning.{Known, Lexeme, Outcome, Next, Given, Left, Refused, run, at_end, ends_at}
 use Rattle.ion_tokens.specs.Lexed.{Placed, LexesBefore, BeginsLexed, Stands, Begun, Gave, Leaved, AllPass}
 use Rattle.ion_tokens.proofs.Found.{FindsUpTo, Last, Gives, Leaves, Unclosed}
 use Rattle.ion_tokens.proofs.Runs.{next_used}

@@ -16,10 +16,10 @@ use Rattle.ion_tokens.specs.declared.mode.Mode.TheVariants as modes
 use Rattle.ion_tokens.specs.declared.mode.Lob.{Lob}
 use Rattle.ion_tokens.specs.declared.mode.Lob.TheVariants as lobs
 use Rattle.ion_tokens.specs.declared.mode.Action.TheVariants as actions
-use Rattle.ion_tokens.specs.Table.{add}
+use Rattle.ion_tokens.specs.machine.Table.{add}
 use Rattle.ion_tokens.specs.Blobs.{AreOctets}
 use Rattle.ion_tokens.specs.Lexemes.{Each}
-use Rattle.ion_tokens.specs.Scanning.{Known, Lexeme, Next, Given, Refused, acts, follow, run, at_end}
+use Rattle.ion_tokens.specs.machine.Scanning.{Known, Lexeme, Next, Given, Refused, acts, follow, run, at_end}
 use Rattle.ion_tokens.proofs.Moves.{at}
 use Rattle.ion_tokens.proofs.Holds.{InMode, Holds, one_to_three}
 

@@ -23,8 +23,8 @@ use Rattle.ion_tokens.specs.declared.mode.Keep.TheVariants as keeps
 use Rattle.ion_tokens.specs.declared.mode.Action.{Action}
 use Rattle.ion_tokens.specs.declared.mode.Action.TheVariants as actions
 use Rattle.ion_tokens.specs.Octets.{hexadecimal_digit, escaped, is_digit, is_white, begins_word, is_word_octet, is_operator_octet, is_stop, is_base64, is_line_end}
-use Rattle.ion_tokens.specs.Table.{next, in_blank, begins_value, in_slash, in_number, in_number_slash, in_operator, digit_behind, in_operator_slash, in_infinity, in_text, in_lob, raw, lead, in_utf8, in_escape, meant, with_digit, after_digits, character, grow, close, close_long, is_long, in_blob, is_sexp, is_name, is_other, quote_of, stands, is_clob, is_high, is_low}
-use Rattle.ion_tokens.specs.Bounds.{is_idle, unkept, debt}
+use Rattle.ion_tokens.specs.machine.Table.{next, in_blank, begins_value, in_slash, in_number, in_number_slash, in_operator, digit_behind, in_operator_slash, in_infinity, in_text, in_lob, raw, lead, in_utf8, in_escape, meant, with_digit, after_digits, character, grow, close, close_long, is_long, in_blob, is_sexp, is_name, is_other, quote_of, stands, is_clob, is_high, is_low}
+use Rattle.ion_tokens.specs.machine.Bounds.{is_idle, unkept, debt}
 
 abbrev pub is_nothing : Keep → Bool
 is_nothing keeps.Nothing = true

@@ -4,7 +4,7 @@ use Rattle.ion_model.specs.declared.refusal.Reason.TheVariants.{Incomplete}
 use Rattle.ion_tokens.specs.declared.mode.Place.{Place}
 use Rattle.ion_tokens.specs.declared.mode.Mode.TheVariants as modes
 use Rattle.ion_tokens.specs.declared.mode.TokenKind.TheVariants as kinds
-use Rattle.ion_tokens.specs.Scanning.{Known, Next, Given, Left, run, at_end}
+use Rattle.ion_tokens.specs.machine.Scanning.{Known, Next, Given, Left, run, at_end}
 use Rattle.ion_tokens.specs.Lexed.{Placed}
 
 -- in a word that begins at `start`, behind these letters of it

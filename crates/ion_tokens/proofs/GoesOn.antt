@@ -18,11 +18,11 @@ use Rattle.ion_tokens.specs.declared.mode.Within.TheVariants as within
 use Rattle.ion_tokens.specs.declared.mode.Lob.TheVariants as lobs
 use Rattle.ion_tokens.specs.declared.mode.Keep.TheVariants as keeps
 use Rattle.ion_tokens.specs.declared.mode.Action.TheVariants as actions
-use Rattle.ion_tokens.specs.Table.{next, stands, is_long, quote_of, in_lob, in_blank}
-use Rattle.ion_tokens.specs.Scanning.{Known, Outcome, Next, Given, Left, Refused, kept_after, start_of, go_to, acts, feed, follow, run}
+use Rattle.ion_tokens.specs.machine.Table.{next, stands, is_long, quote_of, in_lob, in_blank}
+use Rattle.ion_tokens.specs.machine.Scanning.{Known, Outcome, Next, Given, Left, Refused, kept_after, start_of, go_to, acts, feed, follow, run}
 use Rattle.ion_tokens.specs.Lexemes.{Each}
-use Rattle.ion_tokens.specs.Bounds.{IsSteady, StaysSteady}
-use Rattle.ion_tokens.specs.Fronts.{goes_on, keeps_them, gone_on}
+use Rattle.ion_tokens.specs.machine.Bounds.{IsSteady, StaysSteady}
+use Rattle.ion_tokens.specs.machine.AtOnce.{goes_on, keeps_them, gone_on}
 use Rattle.ion_tokens.proofs.Runs.{feed_used, next_used}
 use Rattle.ion_tokens.proofs.Steady.{feed_steady}
 use Rattle.ion_tokens.proofs.Cutting.{run-append}

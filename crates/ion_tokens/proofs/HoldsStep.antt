@@ -15,7 +15,7 @@ use Rattle.ion_tokens.specs.declared.mode.Lob.TheVariants as lobs
 use Rattle.ion_tokens.specs.declared.mode.TokenKind.TheVariants as kinds
 use Rattle.ion_tokens.specs.declared.mode.Action.TheVariants as actions
 use Rattle.ion_tokens.specs.Blobs.{blob_of}
-use Rattle.ion_tokens.specs.Scanning.{Known, Next, Given, Left, acts, kept_after, takes_colon, past, cut, go_to, blob_ends, start_of}
+use Rattle.ion_tokens.specs.machine.Scanning.{Known, Next, Given, Left, acts, kept_after, takes_colon, past, cut, go_to, blob_ends, start_of}
 use Rattle.ion_tokens.specs.Blanks.{IsBlank}
 use Rattle.ion_tokens.specs.Lexemes.{IsWord}
 use Rattle.ion_tokens.proofs.Moves.{at, Stays}

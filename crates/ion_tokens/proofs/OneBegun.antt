@@ -8,7 +8,7 @@ use Rattle.ion_tokens.specs.declared.token.Begun.{Begun}
 use Rattle.ion_tokens.specs.declared.token.Form.{Form}
 use Rattle.ion_tokens.specs.declared.token.Form.TheVariants as forms
 use Rattle.ion_tokens.specs.Lexed.{Placed, colon_behind, Lexes, LexesTo, LooksIn}
-use Rattle.ion_tokens.specs.Scanned.{IsForm, Covers, MayComment, HasBegun, BegunSo, ShowsBegun}
+use Rattle.ion_tokens.specs.machine.Scanned.{IsForm, Covers, MayComment, HasBegun, BegunSo, ShowsBegun}
 
 -- fronts of one length leave the same
 same_rest : (xs ys r q : List ℕ) → xs ++ r ≡ ys ++ q → length xs ≡ length ys → r ≡ q

@@ -17,8 +17,8 @@ use Rattle.ion_tokens.specs.declared.mode.Mode.TheVariants as modes
 use Rattle.ion_tokens.specs.declared.mode.Lob.TheVariants as lobs
 use Rattle.ion_tokens.specs.declared.mode.TokenKind.TheVariants as kinds
 use Rattle.ion_tokens.specs.declared.mode.Action.TheVariants as actions
-use Rattle.ion_tokens.specs.Table.{is_name, is_sexp}
-use Rattle.ion_tokens.specs.Scanning.{kept_after}
+use Rattle.ion_tokens.specs.machine.Table.{is_name, is_sexp}
+use Rattle.ion_tokens.specs.machine.Scanning.{kept_after}
 use Rattle.ion_tokens.specs.Lexemes.{Each, begins, ends, begins_number, comment_within, IsWord, IsLexeme, IsBlobContent, Segment, IsSegment, segment_spelling, IsClobContent}
 use Rattle.ion_tokens.specs.Lexed.{Passes}
 use Rattle.ion_tokens.proofs.TextsSound.{Reads}

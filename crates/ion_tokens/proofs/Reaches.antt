@@ -20,11 +20,11 @@ use Rattle.ion_tokens.specs.declared.mode.TokenKind.TheVariants as kinds
 use Rattle.ion_tokens.specs.declared.mode.Action.{Action}
 use Rattle.ion_tokens.specs.declared.mode.Action.TheVariants as actions
 use Rattle.ion_tokens.specs.Octets.{hexadecimal_digit, escaped, is_digit, is_white, is_word_octet, is_operator_octet, is_stop, is_base64}
-use Rattle.ion_tokens.specs.Table.{next, in_number, in_number_slash, in_operator, digit_behind, in_operator_slash, in_infinity, in_text, in_lob, raw, lead, in_utf8, in_escape, meant, with_digit, after_digits, character, grow, close, close_long, is_long, in_blob, is_sexp, is_other, quote_of, stands, is_clob, is_high, is_low}
+use Rattle.ion_tokens.specs.machine.Table.{next, in_number, in_number_slash, in_operator, digit_behind, in_operator_slash, in_infinity, in_text, in_lob, raw, lead, in_utf8, in_escape, meant, with_digit, after_digits, character, grow, close, close_long, is_long, in_blob, is_sexp, is_other, quote_of, stands, is_clob, is_high, is_low}
 use Rattle.ion_tokens.specs.Blobs.{blob_of}
-use Rattle.ion_tokens.specs.Bounds.{is_idle}
-use Rattle.ion_tokens.specs.Views.{behind}
-use Rattle.ion_tokens.specs.Scanning.{Known, Outcome, Next, Given, Left, Refused, cut, go_to, past, left_of, start_of, acts, blob_ends, feed, follow, run}
+use Rattle.ion_tokens.specs.machine.Bounds.{is_idle}
+use Rattle.ion_tokens.specs.machine.Views.{behind}
+use Rattle.ion_tokens.specs.machine.Scanning.{Known, Outcome, Next, Given, Left, Refused, cut, go_to, past, left_of, start_of, acts, blob_ends, feed, follow, run}
 
 -- The token goes on, or ends so late: so many octets at its end may turn out to be part of a comment.
 abbrev late : ℕ → Action → Bool

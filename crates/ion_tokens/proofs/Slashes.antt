@@ -12,12 +12,12 @@ use Rattle.ion_tokens.specs.declared.mode.TokenKind.TheVariants as kinds
 use Rattle.ion_tokens.specs.declared.mode.Keep.TheVariants as keeps
 use Rattle.ion_tokens.specs.declared.mode.Action.TheVariants as actions
 use Rattle.ion_tokens.specs.Octets.{is_stop}
-use Rattle.ion_tokens.specs.Table.{next, end_of, in_number, in_number_slash, add, go, before}
-use Rattle.ion_tokens.specs.Views.{behind}
-use Rattle.ion_tokens.specs.Scanning.{Known, Lexeme, Outcome, Next, Given, Left, Refused, cut, past, go_to, start_of, acts, feed, follow, run, ends_at}
+use Rattle.ion_tokens.specs.machine.Table.{next, end_of, in_number, in_number_slash, add, go, before}
+use Rattle.ion_tokens.specs.machine.Views.{behind}
+use Rattle.ion_tokens.specs.machine.Scanning.{Known, Lexeme, Outcome, Next, Given, Left, Refused, cut, past, go_to, start_of, acts, feed, follow, run, ends_at}
 use Rattle.ion_tokens.specs.Lexemes.{Each, IsLexeme}
 use Rattle.ion_tokens.specs.Lexed.{Placed, Lexes, LooksIn, Stands, Leaved, Passes}
-use Rattle.ion_tokens.specs.Scanned.{Scanned}
+use Rattle.ion_tokens.specs.machine.Scanned.{Scanned}
 use Rattle.ion_tokens.proofs.Found.{Finds, Nothing, Last, Gives, Leaves, Unclosed}
 use Rattle.ion_tokens.proofs.Runs.{next_used}
 use Rattle.ion_tokens.proofs.Wholes.{run_behind}

@@ -12,14 +12,14 @@ use Rattle.ion_tokens.specs.declared.mode.Mode.TheVariants as modes
 use Rattle.ion_tokens.specs.declared.mode.TokenKind.TheVariants as kinds
 use Rattle.ion_tokens.specs.declared.mode.Keep.TheVariants as keeps
 use Rattle.ion_tokens.specs.declared.mode.End.TheVariants as ends'
-use Rattle.ion_tokens.specs.Table.{end_of, operator_end, is_sexp}
-use Rattle.ion_tokens.specs.Scanning.{Known, Lexeme, kept_after, ends_at, at_end}
+use Rattle.ion_tokens.specs.machine.Table.{end_of, operator_end, is_sexp}
+use Rattle.ion_tokens.specs.machine.Scanning.{Known, Lexeme, kept_after, ends_at, at_end}
 use Rattle.ion_tokens.specs.Blanks.{IsBlank, IsLastBlank}
 use Rattle.ion_tokens.specs.Lexemes.{IsOperator, comment_within}
 use Rattle.ion_tokens.proofs.Moves.{at, Stays}
 use Rattle.ion_tokens.proofs.Opens.{IsOpen, IsOpenRun, IsFound}
 use Rattle.ion_tokens.proofs.Holds.{InMode, IsBegun, Holds}
-use Rattle.ion_tokens.specs.EachLaws.{each_last}
+use Rattle.ion_tokens.specs.laws.Each.{each_last}
 use Rattle.ion_tokens.proofs.TurnsWords.{number_found, slash_in, empty_symbol}
 use Rattle.ion_tokens.proofs.TurnsOperators.{found_run, comment_append, both_false, apart_more, not_empty}
 

@@ -3,7 +3,7 @@ use Rattle.std.proofs.Common.{◌≡◌, ℕ, ◌+◌, Bool, false, List, [], �
 use Rattle.std.specs.Prelude.{Option, Some, None, Result, Ok, Err}
 use Rattle.std.specs.List.{AllByRecursion}
 use Rattle.ion_tokens.specs.declared.mode.Place.{Place}
-use Rattle.ion_tokens.specs.Scanning.{Known, Lexeme, Next, Given, Left, run}
+use Rattle.ion_tokens.specs.machine.Scanning.{Known, Lexeme, Next, Given, Left, run}
 use Rattle.ion_tokens.specs.Lexed.{Placed, BeginsWith, colon_behind, LexesTo, Stands, Begun, Gave, Leaved, Passes, AllPass}
 use Rattle.ion_tokens.specs.declared.mode.Mode.TheVariants as modes
 use Rattle.ion_tokens.proofs.Moves.{at}

@@ -1,8 +1,8 @@
 -- Where in a piece a token came.
 use Rattle.std.proofs.Common.{◌≡◌, ℕ, ◌+◌, ◌≤◌, List, [], ◌∷◌, ◌++◌, length, refl, ap, ◌∙◌, subst, arith}
 use Rattle.ion_tokens.specs.declared.mode.Place.{Place}
-use Rattle.ion_tokens.specs.Table.{next}
-use Rattle.ion_tokens.specs.Scanning.{Known, Lexeme, Outcome, Next, Given, Left, Refused, feed, follow, run}
+use Rattle.ion_tokens.specs.machine.Table.{next}
+use Rattle.ion_tokens.specs.machine.Scanning.{Known, Lexeme, Outcome, Next, Given, Left, Refused, feed, follow, run}
 use Rattle.ion_tokens.proofs.Runs.{Between, acts_between, feed_used}
 
 -- the octets up to the one that ended the token, and the rest

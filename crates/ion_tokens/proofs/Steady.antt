@@ -20,10 +20,10 @@ use Rattle.ion_tokens.specs.declared.mode.Keep.{Keep}
 use Rattle.ion_tokens.specs.declared.mode.Keep.TheVariants as keeps
 use Rattle.ion_tokens.specs.declared.mode.Action.{Action}
 use Rattle.ion_tokens.specs.declared.mode.Action.TheVariants as actions
-use Rattle.ion_tokens.specs.Table.{next}
+use Rattle.ion_tokens.specs.machine.Table.{next}
 use Rattle.ion_tokens.specs.Blobs.{blob_of}
-use Rattle.ion_tokens.specs.Scanning.{Known, Outcome, Next, Left, kept_after, start_of, left_of, go_to, cut, past, blob_ends, acts, feed}
-use Rattle.ion_tokens.specs.Bounds.{is_idle, unkept, debt, IsSteady, StaysSteady}
+use Rattle.ion_tokens.specs.machine.Scanning.{Known, Outcome, Next, Left, kept_after, start_of, left_of, go_to, cut, past, blob_ends, acts, feed}
+use Rattle.ion_tokens.specs.machine.Bounds.{is_idle, unkept, debt, IsSteady, StaysSteady}
 use Rattle.ion_tokens.proofs.Fits.{Fits, is_nothing, added, is_fresh, table_fits}
 
 length_encoded : (c : ℕ) → length (encode_utf8 c) ≤ 4

@@ -9,11 +9,11 @@ use Rattle.ion_model.specs.declared.refusal.Reason.TheVariants as reasons
 use Rattle.ion_tokens.specs.declared.mode.Place.{Place}
 use Rattle.ion_tokens.specs.declared.token.Scan.{Scan}
 use Rattle.ion_tokens.specs.declared.token.Token.{Token}
-use Rattle.ion_tokens.specs.Scanning.{Known, Lexeme, Outcome, Next, Given, Left, Refused, follow, run, at_end, initial}
+use Rattle.ion_tokens.specs.machine.Scanning.{Known, Lexeme, Outcome, Next, Given, Left, Refused, follow, run, at_end, initial}
 use Rattle.ion_tokens.specs.Bodies.{IsBody}
-use Rattle.ion_tokens.specs.Steps.{Answers, Ends, IsToken, GivesToken, deciding}
+use Rattle.ion_tokens.specs.machine.Steps.{Answers, Ends, IsToken, GivesToken, deciding}
 use Rattle.ion_tokens.specs.Lexed.{Placed, Lexes, LexesTo, BeginsLexed, Stands, Begun, Gave, Leaved, Passes, AllPass, IsNext}
-use Rattle.ion_tokens.specs.Scanned.{Scanned, IsAhead, Continues, AllSay, Tells, GoesWith, NoDocument, EndsSo, NoEnd}
+use Rattle.ion_tokens.specs.machine.Scanned.{Scanned, IsAhead, Continues, AllSay, Tells, GoesWith, NoDocument, EndsSo, NoEnd}
 use Rattle.ion_tokens.proofs.Runs.{next_used}
 use Rattle.ion_tokens.proofs.Cutting.{one_body}
 use Rattle.ion_tokens.proofs.Wholes.{run_behind}

@@ -10,8 +10,8 @@ use Rattle.ion_tokens.specs.declared.mode.Mode.{Mode}
 use Rattle.ion_tokens.specs.declared.mode.Mode.TheVariants as modes
 use Rattle.ion_tokens.specs.declared.mode.Keep.TheVariants as keeps
 use Rattle.ion_tokens.specs.declared.mode.Action.TheVariants as actions
-use Rattle.ion_tokens.specs.Table.{next, in_blank, go}
-use Rattle.ion_tokens.specs.Scanning.{Known, Next, acts, follow, run, at_end}
+use Rattle.ion_tokens.specs.machine.Table.{next, in_blank, go}
+use Rattle.ion_tokens.specs.machine.Scanning.{Known, Next, acts, follow, run, at_end}
 use Rattle.ion_tokens.specs.Blanks.{BlankPiece, White, LineComment, BlockComment, HasNoClose, HasNoLineEnd, IsBlankPiece, blank_spelling, IsBlank, IsLastBlank}
 use Rattle.ion_tokens.proofs.Moves.{at, Moves, moves_one, moves_then, moves_past, blank, Opens, opens_then}
 use Rattle.ion_tokens.proofs.TextsComplete.{eq_or}

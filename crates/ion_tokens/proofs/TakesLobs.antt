@@ -15,14 +15,14 @@ use Rattle.ion_tokens.specs.declared.mode.Lob.TheVariants as lobs
 use Rattle.ion_tokens.specs.declared.mode.TokenKind.TheVariants as kinds
 use Rattle.ion_tokens.specs.declared.mode.Keep.TheVariants as keeps
 use Rattle.ion_tokens.specs.declared.mode.Action.TheVariants as actions
-use Rattle.ion_tokens.specs.Table.{in_text, in_lob, lob_start, after_short, after_long, is_name}
+use Rattle.ion_tokens.specs.machine.Table.{in_text, in_lob, lob_start, after_short, after_long, is_name}
 use Rattle.ion_tokens.specs.Blobs.{IsBase64, blob_of}
-use Rattle.ion_tokens.specs.BlobLaws.{octet_at}
+use Rattle.ion_tokens.specs.laws.Blobs.{octet_at}
 use Rattle.base64.specs.Engines.{standard}
 use Rattle.base64.specs.GeneralPurpose.{decode_of, decoded_of}
 use Rattle.std.specs.Result.{result_ok}
 use Rattle.base64.proofs.EngineFacts.{decode_of-encode_of}
-use Rattle.ion_tokens.specs.Scanning.{follow, run, kept_after, blob_ends}
+use Rattle.ion_tokens.specs.machine.Scanning.{follow, run, kept_after, blob_ends}
 use Rattle.ion_tokens.specs.Quoted.{IsQuoted}
 use Rattle.ion_tokens.specs.Lexemes.{Each, IsBlobContent, Segment, IsSegment, segment_spelling, IsClobContent, ShortText, LongTexts}
 use Rattle.ion_tokens.proofs.Moves.{at, Moves, moves_none, moves_one, moves_then, moves_to, moves_past, Opens, opens_then, Takes, takes_now}

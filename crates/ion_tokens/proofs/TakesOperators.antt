@@ -12,8 +12,8 @@ use Rattle.ion_tokens.specs.declared.mode.Mode.TheVariants as modes
 use Rattle.ion_tokens.specs.declared.mode.TokenKind.TheVariants as kinds
 use Rattle.ion_tokens.specs.declared.mode.Keep.TheVariants as keeps
 use Rattle.ion_tokens.specs.declared.mode.Action.TheVariants as actions
-use Rattle.ion_tokens.specs.Table.{next, in_blank, in_slash, in_operator, in_operator_slash, in_infinity, is_sexp, run_ending}
-use Rattle.ion_tokens.specs.Scanning.{Next, Left, acts, follow, run, past}
+use Rattle.ion_tokens.specs.machine.Table.{next, in_blank, in_slash, in_operator, in_operator_slash, in_infinity, is_sexp, run_ending}
+use Rattle.ion_tokens.specs.machine.Scanning.{Next, Left, acts, follow, run, past}
 use Rattle.ion_tokens.specs.Lexemes.{Each, begins, ends, begins_comment, comment_within, begins_infinity, IsOperator}
 use Rattle.ion_tokens.proofs.Moves.{at, Moves, moves_none, moves_one, moves_then, moves_to, blank, Opens, opens_one, opens_then, Takes, Now, Later, AtEnd, Open, Resumes, lexeme, takes_left, takes_end}
 use Rattle.ion_tokens.proofs.TakesWords.{takes_before_slash}
@@ -111,7 +111,7 @@ other_ends e x d i s o = by (is_digit x) (x == 105) (x == 47) (is_operator_octet
   not_is a b n = grind (arith, nat_tests)
 
   by : (d i s o : Bool) → d ≡ false → i ≡ false → s ≡ false → o ≡ false
-      → cond d (Rattle.ion_tokens.specs.Table.digit_behind places.Sexp e x) (cond (i && not (Rattle.ion_tokens.specs.Table.is_other e)) (Rattle.ion_tokens.specs.Table.go (modes.Infinity 1)) (cond s (Rattle.ion_tokens.specs.Table.go modes.OperatorSlash) (cond o (Rattle.ion_tokens.specs.Table.add (modes.Operator (run_ending x)) x) (Rattle.ion_tokens.specs.Table.before kinds.Operator))))
+      → cond d (Rattle.ion_tokens.specs.machine.Table.digit_behind places.Sexp e x) (cond (i && not (Rattle.ion_tokens.specs.machine.Table.is_other e)) (Rattle.ion_tokens.specs.machine.Table.go (modes.Infinity 1)) (cond s (Rattle.ion_tokens.specs.machine.Table.go modes.OperatorSlash) (cond o (Rattle.ion_tokens.specs.machine.Table.add (modes.Operator (run_ending x)) x) (Rattle.ion_tokens.specs.machine.Table.before kinds.Operator))))
       ≡ actions.Before kinds.Operator keeps.Nothing modes.Blank
   by false false false false a b c d = refl
   by true i s o a b c d = absurd (true≢false a)

@@ -16,9 +16,9 @@ use Rattle.ion_tokens.specs.declared.mode.Mode.TheVariants as modes
 use Rattle.ion_tokens.specs.declared.mode.TokenKind.TheVariants as kinds
 use Rattle.ion_tokens.specs.declared.mode.Keep.TheVariants as keeps
 use Rattle.ion_tokens.specs.declared.mode.Action.TheVariants as actions
-use Rattle.ion_tokens.specs.Table.{next, in_text, raw, is_long, go}
+use Rattle.ion_tokens.specs.machine.Table.{next, in_text, raw, is_long, go}
 use Rattle.ion_tokens.specs.declared.mode.Action.{Action}
-use Rattle.ion_tokens.specs.Scanning.{Known, Outcome, acts, follow, run, kept_after}
+use Rattle.ion_tokens.specs.machine.Scanning.{Known, Outcome, acts, follow, run, kept_after}
 use Rattle.ion_tokens.specs.Quoted.{IsQuoted, Element, Raw, RawLine, Simple, Hidden, Hex, Pair, IsElement, spelling, LineEnd, Lf, Cr, CrLf}
 use Rattle.ion_tokens.specs.Lexemes.{begins}
 use Rattle.ion_tokens.proofs.Moves.{at, Moves, moves_one, moves_then, Opens, opens_one, opens_then, Takes, takes_now, takes_left, takes_end}

@@ -16,8 +16,8 @@ use Rattle.ion_tokens.specs.declared.mode.Mode.TheVariants as modes
 use Rattle.ion_tokens.specs.declared.mode.TokenKind.TheVariants as kinds
 use Rattle.ion_tokens.specs.declared.mode.Keep.TheVariants as keeps
 use Rattle.ion_tokens.specs.declared.mode.Action.TheVariants as actions
-use Rattle.ion_tokens.specs.Table.{next, in_blank, in_word, in_kind_name, in_number, in_number_slash, in_operator, is_name, add, go, give, before}
-use Rattle.ion_tokens.specs.Scanning.{Known, Next, Left, acts, follow, run, past, go_to, cut}
+use Rattle.ion_tokens.specs.machine.Table.{next, in_blank, in_word, in_kind_name, in_number, in_number_slash, in_operator, is_name, add, go, give, before}
+use Rattle.ion_tokens.specs.machine.Scanning.{Known, Next, Left, acts, follow, run, past, go_to, cut}
 use Rattle.ion_tokens.specs.Lexemes.{Each, begins, begins_comment, begins_number, IsWord, IsNumeric, mark_spelling, MarkStands, MarkEnds}
 use Rattle.ion_tokens.proofs.Moves.{at, Moves, moves_one, moves_each, Stays, blank, Opens, opens_one, opens_then, Takes, Now, Later, Resumes, resumes_none, lexeme, takes_now, takes_left, takes_end}
 

@@ -17,8 +17,8 @@ use Rattle.ion_tokens.specs.declared.mode.Within.TheVariants as within
 use Rattle.ion_tokens.specs.declared.mode.Mode.TheVariants as modes
 use Rattle.ion_tokens.specs.declared.mode.Keep.TheVariants as keeps
 use Rattle.ion_tokens.specs.declared.mode.Action.TheVariants as actions
-use Rattle.ion_tokens.specs.Table.{in_text, raw, in_escape, after_digits, grow, is_clob, quote_of}
-use Rattle.ion_tokens.specs.Scanning.{Known, acts, follow, run, kept_after}
+use Rattle.ion_tokens.specs.machine.Table.{in_text, raw, in_escape, after_digits, grow, is_clob, quote_of}
+use Rattle.ion_tokens.specs.machine.Scanning.{Known, acts, follow, run, kept_after}
 use Rattle.ion_tokens.specs.Quoted.{Hex, Pair, IsElement, meaning, IsHexAfter, hex_length}
 use Rattle.ion_tokens.proofs.TextSteps.{Stands, raw_one, raw_two, raw_three, raw_four, least_three, most_three, least_four, most_four, utf8_last, utf8_more, quote_small, Admits, as_raw, Caps, caps_grow, exact, in_digit, last_digit, more_digits, char_is, after_unit, after_high, after_low}
 

@@ -2,7 +2,7 @@
 use Rattle.std.proofs.Common.{◌≡◌, ℕ, ◌+◌, ◌<◌, Bool, true, false, List, [], ◌∷◌, ◌++◌, refl, sym, ap, ◌∙◌, subst, arith, append_assoc, append-nil, cond}
 use Rattle.std.specs.List.{flat_map, AllByRecursion}
 use Rattle.ion_tokens.specs.declared.mode.Style.{Style}
-use Rattle.ion_tokens.specs.Table.{is_long}
+use Rattle.ion_tokens.specs.machine.Table.{is_long}
 use Rattle.ion_tokens.specs.Quoted.{Element, IsElement, spelling, meaning, ends_in_cr, is_raw_lf, is_raw_quote, quotes, CrTakesLf, ClosesFirst, IsQuoted}
 
 -- the last element is there, and is so

@@ -15,7 +15,7 @@ use Rattle.ion_tokens.specs.declared.mode.Mode.TheVariants as modes
 use Rattle.ion_tokens.specs.declared.mode.Keep.TheVariants as keeps
 use Rattle.ion_tokens.specs.declared.mode.Action.TheVariants as actions
 use native.Mathlib.Decide.{dec_lt}
-use Rattle.ion_tokens.specs.Table.{in_text, raw, in_utf8, in_escape, with_digit, meant, character, after_digits, grow, is_long, is_clob, quote_of}
+use Rattle.ion_tokens.specs.machine.Table.{in_text, raw, in_utf8, in_escape, with_digit, meant, character, after_digits, grow, is_long, is_clob, quote_of}
 
 -- an ASCII character that stands for itself
 abbrev pub Stands : ℕ → Type 0

@@ -11,7 +11,7 @@ use Rattle.ion_tokens.specs.declared.mode.Within.{Within}
 use Rattle.ion_tokens.specs.declared.mode.Style.TheVariants as styles
 use Rattle.ion_tokens.specs.declared.mode.Within.TheVariants as within
 use Rattle.ion_tokens.specs.declared.mode.Keep.TheVariants as keeps
-use Rattle.ion_tokens.specs.Table.{is_long, quote_of}
+use Rattle.ion_tokens.specs.machine.Table.{is_long, quote_of}
 use Rattle.ion_tokens.specs.Quoted.{Element, Raw, RawLine, Simple, Hidden, Hex, Pair, IsElement, spelling, meaning, ends_in_cr, is_raw_lf, quotes, CrTakesLf, ClosesFirst, IsQuoted, IsRaw, LineEnd, Lf, Cr, CrLf}
 use Rattle.ion_tokens.proofs.TextSteps.{raw_quote, raw_lf, raw_cr, Admits, as_raw, in_simple}
 use Rattle.ion_tokens.proofs.TextElements.{Goes, goes_none, goes_one, goes_then, goes_to, goes_slash, read_raw, read_hex, read_pair}

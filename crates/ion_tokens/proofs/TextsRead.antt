@@ -20,8 +20,8 @@ use Rattle.ion_tokens.specs.declared.mode.Mode.TheVariants as modes
 use Rattle.ion_tokens.specs.declared.mode.Keep.TheVariants as keeps
 use Rattle.ion_tokens.specs.declared.mode.Action.TheVariants as actions
 use Rattle.ion_tokens.specs.Quoted.{Element, Raw, RawLine, Simple, Hidden, Hex, Pair, Lf, Cr, CrLf, IsElement, spelling, meaning, IsHexAfter, IsQuoted, hex_length, is_raw_lf, is_raw_quote, ends_in_cr}
-use Rattle.ion_tokens.specs.Table.{in_text, raw, close_long, in_utf8, in_escape, with_digit, meant, character, after_digits, grow, is_long, is_clob, quote_of}
-use Rattle.ion_tokens.specs.Scanning.{kept_after}
+use Rattle.ion_tokens.specs.machine.Table.{in_text, raw, close_long, in_utf8, in_escape, with_digit, meant, character, after_digits, grow, is_long, is_clob, quote_of}
+use Rattle.ion_tokens.specs.machine.Scanning.{kept_after}
 use Rattle.ion_tokens.proofs.TextSteps.{utf8_last, utf8_more, utf8_wrong, Caps, caps_grow, exact, as_raw, letter_only, more_digits, after_low, after_high, quote_low}
 use Rattle.ion_tokens.proofs.TextElements.{below_max, digit_small}
 use Rattle.ion_tokens.proofs.TextsComplete.{eq_or}

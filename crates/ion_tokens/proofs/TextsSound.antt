@@ -26,8 +26,8 @@ use Rattle.ion_tokens.specs.declared.mode.TokenKind.TheVariants as kinds
 use Rattle.ion_tokens.specs.declared.mode.Keep.TheVariants as keeps
 use Rattle.ion_tokens.specs.declared.mode.Action.TheVariants as actions
 use Rattle.ion_tokens.specs.Quoted.{Element, Raw, RawLine, Lf, IsElement, IsRaw, spelling, meaning, IsHexAfter, IsQuoted, is_raw_lf, is_raw_quote, ends_in_cr}
-use Rattle.ion_tokens.specs.Table.{raw, is_long, is_clob, quote_of}
-use Rattle.ion_tokens.specs.Scanning.{kept_after}
+use Rattle.ion_tokens.specs.machine.Table.{raw, is_long, is_clob, quote_of}
+use Rattle.ion_tokens.specs.machine.Scanning.{kept_after}
 use Rattle.ion_tokens.proofs.TextSteps.{Stands, raw_one, raw_two, raw_three, raw_four, least_three, most_three, least_four, most_four, raw_quote, raw_lf, raw_cr, quote_small, Caps}
 use Rattle.ion_tokens.proofs.TextsComplete.{eq_or, bool_cases, long_quote}
 use Rattle.ion_tokens.proofs.TextOrders.{last_is, last_is_last, Base, base_more, flat_last, quoted}

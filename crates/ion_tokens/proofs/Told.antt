@@ -2,7 +2,7 @@
 use Rattle.std.proofs.Common.{◌≡◌, ℕ, ◌+◌, Bool, false, List, [], ◌∷◌, ◌++◌, length, refl, sym, ap, ◌∙◌, subst, append_assoc, append-nil}
 use Rattle.std.specs.Prelude.{Some, None, Ok}
 use Rattle.ion_tokens.specs.declared.mode.Place.{Place}
-use Rattle.ion_tokens.specs.Scanning.{Known, Lexeme, Next, run, at_end}
+use Rattle.ion_tokens.specs.machine.Scanning.{Known, Lexeme, Next, run, at_end}
 use Rattle.ion_tokens.specs.Blanks.{IsLastBlank}
 use Rattle.ion_tokens.specs.Lexed.{Placed, colon_behind, Lexes, LexesTo, Stands, Passes, AllPass}
 use Rattle.ion_tokens.proofs.Holds.{blank_none}

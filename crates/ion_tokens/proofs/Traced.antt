@@ -14,15 +14,15 @@ use Rattle.ion_tokens.specs.declared.mode.Action.{Action}
 use Rattle.ion_tokens.specs.declared.mode.Action.TheVariants as actions
 use Rattle.ion_tokens.specs.declared.token.Scan.{Scan}
 use Rattle.ion_tokens.specs.declared.token.Token.{Token}
-use Rattle.ion_tokens.specs.Table.{next}
+use Rattle.ion_tokens.specs.machine.Table.{next}
 use Rattle.ion_tokens.specs.Blobs.{blob_of}
-use Rattle.ion_tokens.specs.Bounds.{is_idle, unkept, debt}
-use Rattle.ion_tokens.specs.Scanning.{Known, Lexeme, Outcome, Next, Given, Left, Refused, initial, cut, past, go_to, blob_ends, acts, feed, follow, run, at_end}
+use Rattle.ion_tokens.specs.machine.Bounds.{is_idle, unkept, debt}
+use Rattle.ion_tokens.specs.machine.Scanning.{Known, Lexeme, Outcome, Next, Given, Left, Refused, initial, cut, past, go_to, blob_ends, acts, feed, follow, run, at_end}
 use Rattle.ion_tokens.specs.Bodies.{Content, content}
-use Rattle.ion_tokens.specs.Said.{said, says}
-use Rattle.ion_tokens.specs.Steps.{deciding, Answers, Ends, IsToken, GivesToken, RefusesToken}
-use Rattle.ion_tokens.specs.Scanned.{Continues}
-use Rattle.ion_tokens.specs.Traces.{Told, Places, Trail, Leads, Stops, then_by, judged, comes, takes, over, over_pieces, last_judged, end_judged, traced, trace, IsTraced, told_as, told_by, last_of, left_by, AnswersTrace, EndsTrace}
+use Rattle.ion_tokens.specs.machine.Said.{said, says}
+use Rattle.ion_tokens.specs.machine.Steps.{deciding, Answers, Ends, IsToken, GivesToken, RefusesToken}
+use Rattle.ion_tokens.specs.machine.Scanned.{Continues}
+use Rattle.ion_tokens.specs.machine.Traces.{Told, Places, Trail, Leads, Stops, then_by, judged, comes, takes, over, over_pieces, last_judged, end_judged, traced, trace, IsTraced, told_as, told_by, last_of, left_by, AnswersTrace, EndsTrace}
 use Rattle.ion_tokens.proofs.Fits.{Fits, table_fits}
 use Rattle.ion_tokens.proofs.Runs.{next_used}
 use Rattle.ion_tokens.proofs.Splits.{given_one, left_one}

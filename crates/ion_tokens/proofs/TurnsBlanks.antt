@@ -15,8 +15,8 @@ use Rattle.ion_tokens.specs.declared.mode.Mode.TheVariants as modes
 use Rattle.ion_tokens.specs.declared.mode.TokenKind.TheVariants as kinds
 use Rattle.ion_tokens.specs.declared.mode.Keep.TheVariants as keeps
 use Rattle.ion_tokens.specs.declared.mode.Action.TheVariants as actions
-use Rattle.ion_tokens.specs.Table.{in_blank, in_slash, begins_value, run_ending, refused, add, go, give, is_name, is_sexp}
-use Rattle.ion_tokens.specs.Scanning.{kept_after}
+use Rattle.ion_tokens.specs.machine.Table.{in_blank, in_slash, begins_value, run_ending, refused, add, go, give, is_name, is_sexp}
+use Rattle.ion_tokens.specs.machine.Scanning.{kept_after}
 use Rattle.ion_tokens.specs.Lexemes.{IsLexeme, mark_spelling, MarkStands, MarkEnds}
 use Rattle.ion_tokens.proofs.Opens.{IsOpen, IsOpenNumber, IsOpenRun, IsFound}
 use Rattle.ion_tokens.proofs.TextsRead.{reads_none}

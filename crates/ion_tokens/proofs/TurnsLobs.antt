@@ -15,11 +15,11 @@ use Rattle.ion_tokens.specs.declared.mode.Lob.TheVariants as lobs
 use Rattle.ion_tokens.specs.declared.mode.TokenKind.TheVariants as kinds
 use Rattle.ion_tokens.specs.declared.mode.Keep.TheVariants as keeps
 use Rattle.ion_tokens.specs.declared.mode.Action.TheVariants as actions
-use Rattle.ion_tokens.specs.Table.{in_lob, lob_start, in_blob, after_short, after_long, third_quote, second_brace, refused, go, add, is_name}
+use Rattle.ion_tokens.specs.machine.Table.{in_lob, lob_start, in_blob, after_short, after_long, third_quote, second_brace, refused, go, add, is_name}
 use Rattle.ion_tokens.specs.Lexemes.{Each, Segment, IsSegment, segment_spelling, ShortText, LongTexts}
 use Rattle.ion_tokens.proofs.Opens.{IsOpen, InLob, IsLongText, solid, AnyBlob, Turns}
 use Rattle.ion_tokens.proofs.TextsRead.{reads_none}
-use Rattle.ion_tokens.specs.EachLaws.{each_last}
+use Rattle.ion_tokens.specs.laws.Each.{each_last}
 use Rattle.ion_tokens.proofs.TurnsTexts.{segments_last}
 
 -- an action behind {{ and more

@@ -13,10 +13,10 @@ use Rattle.ion_tokens.specs.declared.mode.Mode.TheVariants as modes
 use Rattle.ion_tokens.specs.declared.mode.TokenKind.TheVariants as kinds
 use Rattle.ion_tokens.specs.declared.mode.Keep.TheVariants as keeps
 use Rattle.ion_tokens.specs.declared.mode.Action.TheVariants as actions
-use Rattle.ion_tokens.specs.Table.{in_operator, in_operator_slash, in_infinity, digit_behind, is_other, run_ending, refused, add, go, before, is_name, is_sexp}
+use Rattle.ion_tokens.specs.machine.Table.{in_operator, in_operator_slash, in_infinity, digit_behind, is_other, run_ending, refused, add, go, before, is_name, is_sexp}
 use Rattle.ion_tokens.specs.Lexemes.{begins, ends, begins_comment, comment_within, begins_infinity, IsOperator, IsLexeme}
 use Rattle.ion_tokens.proofs.Opens.{IsOpen, IsOpenNumber, IsOpenRun, EndsSo, Turns}
-use Rattle.ion_tokens.specs.EachLaws.{each_last}
+use Rattle.ion_tokens.specs.laws.Each.{each_last}
 
 eq_of : (a b : ℕ) → (a == b) ≡ true → a ≡ b
 eq_of a b h = grind (arith, nat_tests)

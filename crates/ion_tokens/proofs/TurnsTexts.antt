@@ -15,8 +15,8 @@ use Rattle.ion_tokens.specs.declared.mode.Mode.TheVariants as modes
 use Rattle.ion_tokens.specs.declared.mode.Lob.TheVariants as lobs
 use Rattle.ion_tokens.specs.declared.mode.TokenKind.TheVariants as kinds
 use Rattle.ion_tokens.specs.declared.mode.Action.TheVariants as actions
-use Rattle.ion_tokens.specs.Table.{in_text, in_quote, in_quotes, raw, go, before, is_name}
-use Rattle.ion_tokens.specs.Scanning.{kept_after}
+use Rattle.ion_tokens.specs.machine.Table.{in_text, in_quote, in_quotes, raw, go, before, is_name}
+use Rattle.ion_tokens.specs.machine.Scanning.{kept_after}
 use Rattle.ion_tokens.specs.Lexemes.{Each, begins, Segment, segment_spelling}
 use Rattle.ion_tokens.proofs.Opens.{IsOpen, InText, IsLongFront, IsLongText, Turns}
 use Rattle.ion_tokens.proofs.TextsSound.{Closes, EndsText}

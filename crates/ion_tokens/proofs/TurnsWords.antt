@@ -13,10 +13,10 @@ use Rattle.ion_tokens.specs.declared.mode.Lob.TheVariants as lobs
 use Rattle.ion_tokens.specs.declared.mode.TokenKind.TheVariants as kinds
 use Rattle.ion_tokens.specs.declared.mode.Keep.TheVariants as keeps
 use Rattle.ion_tokens.specs.declared.mode.Action.TheVariants as actions
-use Rattle.ion_tokens.specs.Table.{in_word, in_kind_name, in_number, in_number_slash, in_colon, in_brace, add, go, give, before}
+use Rattle.ion_tokens.specs.machine.Table.{in_word, in_kind_name, in_number, in_number_slash, in_colon, in_brace, add, go, give, before}
 use Rattle.ion_tokens.specs.Quoted.{IsQuoted}
 use Rattle.ion_tokens.specs.Lexemes.{Each, begins, begins_number, begins_comment}
-use Rattle.ion_tokens.specs.EachLaws.{each_last, begins_more}
+use Rattle.ion_tokens.specs.laws.Each.{each_last, begins_more}
 use Rattle.ion_tokens.proofs.Opens.{IsOpen, IsOpenNumber, Turns, IsFound}
 
 -- words

@@ -24,11 +24,11 @@ use Rattle.ion_tokens.specs.declared.mode.TokenKind.TheVariants as kinds
 use Rattle.ion_tokens.specs.declared.mode.Keep.TheVariants as keeps
 use Rattle.ion_tokens.specs.declared.mode.Action.TheVariants as actions
 use Rattle.ion_tokens.specs.declared.whole.Rest.{Rest}
-use Rattle.ion_tokens.specs.Table.{next, in_blank}
-use Rattle.ion_tokens.specs.Scanning.{Known, Next, Given, Left, feed, run, acts, past, cut, go_to, kept_after}
+use Rattle.ion_tokens.specs.machine.Table.{next, in_blank}
+use Rattle.ion_tokens.specs.machine.Scanning.{Known, Next, Given, Left, feed, run, acts, past, cut, go_to, kept_after}
 use Rattle.ion_tokens.specs.Lexemes.{Each, begins, begins_number, IsWord}
-use Rattle.ion_tokens.specs.Fronts.{is_plain, is_numeric}
-use Rattle.ion_tokens.specs.Rests.{resting, past_blank, IsPassed, IsFound}
+use Rattle.ion_tokens.specs.machine.AtOnce.{is_plain, is_numeric}
+use Rattle.ion_tokens.specs.machine.Rests.{resting, past_blank, IsPassed, IsFound}
 use Rattle.ion_tokens.proofs.Moves.{at, Opens, opens_one, opens_then, Moves, moves_each, Stays}
 use Rattle.ion_tokens.proofs.GoesOn.{stays, front_on, each_front, front_all, rest_is}
 use Rattle.ion_tokens.proofs.TakesWords.{opens_word, opens_number, opens_brace, opens_colon, word_ends, no_dot, number_stops, brace_ends, colon_ends}

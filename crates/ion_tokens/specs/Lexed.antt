@@ -1,7 +1,7 @@
 -- The tokens of octets: which they are, where, with blanks alone between them; and what the scanner has told so far.
 use Rattle.std.specs.Prelude.{◌≡◌, ℕ, ◌+◌, ◌==◌, Bool, false, List, [], ◌∷◌, ◌++◌, length}
 use Rattle.ion_tokens.specs.declared.mode.Place.{Place}
-use Rattle.ion_tokens.specs.Scanning.{Known, Lexeme, Given, Left, run, initial, takes_colon}
+use Rattle.ion_tokens.specs.machine.Scanning.{Known, Lexeme, Given, Left, run, initial, takes_colon}
 use Rattle.ion_tokens.specs.Blanks.{IsBlank, IsLastBlank}
 use Rattle.std.specs.List.{list_any, AllByRecursion}
 use Rattle.ion_tokens.specs.declared.mode.TokenKind.{TokenKind}

@@ -3,9 +3,9 @@
 ghost use Rattle.std.specs.Prelude.{◌≡◌, ◌≢◌, ◌+◌, ◌<◌, ◌^◌, length, Ok, Err, IfOk, IfErr, IfSome};
 ghost use Rattle.ion_model.specs.declared.refusal.Reason.TheVariants.{Memory};
 ghost use Rattle.ion_tokens.specs.Bodies.{content};
-ghost use Rattle.ion_tokens.specs.Rests.{resting, past_token, lexeme_at, IsFound};
-ghost use Rattle.ion_tokens.specs.Said.{said};
-ghost use Rattle.ion_tokens.specs.Views.{known, lexeme_in, octets_in};
+ghost use Rattle.ion_tokens.specs.machine.Rests.{resting, past_token, lexeme_at, IsFound};
+ghost use Rattle.ion_tokens.specs.machine.Said.{said};
+ghost use Rattle.ion_tokens.specs.machine.Views.{known, lexeme_in, octets_in};
 
 use crate::body::body_of;
 use crate::machine::{Lexeme, Machine, Taken, takes_colon};

@@ -2,8 +2,8 @@
 ghost use Rattle.std.specs.Prelude.{◌≡◌, ◌+◌, ◌-◌, ◌^◌, ◌<◌, ◌≤◌, true, min, length, take, IfOk};
 ghost use Rattle.std.specs.List.{list_all, take_while};
 ghost use Rattle.ion_tokens.specs.Octets.{is_white, is_word_octet};
-ghost use Rattle.ion_tokens.specs.Fronts.{is_between, is_plain, is_numeric, goes_on, keeps_them, gone_on};
-ghost use Rattle.ion_tokens.specs.Views.{known};
+ghost use Rattle.ion_tokens.specs.machine.AtOnce.{is_between, is_plain, is_numeric, goes_on, keeps_them, gone_on};
+ghost use Rattle.ion_tokens.specs.machine.Views.{known};
 
 use crate::machine::{Machine, start_of};
 use crate::mode::{Lob, Mode, Style, Within};

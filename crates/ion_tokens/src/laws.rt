@@ -6,9 +6,9 @@ ghost use Rattle.ion_tokens.specs.declared.mode.Place.{Place};
 ghost use Rattle.ion_tokens.specs.declared.mode.TokenKind.{TokenKind};
 ghost use Rattle.ion_tokens.specs.Blobs.{AreOctets, base64_of, blob_of};
 ghost use Rattle.ion_tokens.specs.Bodies.{Content, IsBody};
-ghost use Rattle.ion_tokens.specs.Scanning.{Known, feed, follow, run};
-ghost use Rattle.ion_tokens.specs.Traces.{Told, Places, over, over_pieces, IsTraced};
-ghost use Rattle.ion_tokens.specs.TokenLaws.{TellsRightly, ToldAll, OneBegun};
+ghost use Rattle.ion_tokens.specs.machine.Scanning.{Known, feed, follow, run};
+ghost use Rattle.ion_tokens.specs.machine.Traces.{Told, Places, over, over_pieces, IsTraced};
+ghost use Rattle.ion_tokens.specs.laws.Tokens.{TellsRightly, ToldAll, OneBegun};
 
 /// It doesn't matter how octets are cut: pieces lead to the tokens, totals and refusal to which the whole leads; and what comes of octets
 /// in one place is what comes of the second part behind the first, unless a token or a refusal came of the first.

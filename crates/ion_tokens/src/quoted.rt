@@ -1,6 +1,6 @@
 //! Quoted texts: raw characters and escapes (Ion 1.0, "Ion Text Encoding", strings, symbols and clobs).
 ghost use Rattle.std.specs.Prelude.{◌≡◌, ◌<◌};
-ghost use Rattle.ion_tokens.specs.Table.{is_long, is_clob, quote_of, stands, close, close_long, raw, lead, in_utf8, in_escape, grow, character, after_digits, in_hexadecimal, in_text, is_high, is_low};
+ghost use Rattle.ion_tokens.specs.machine.Table.{is_long, is_clob, quote_of, stands, close, close_long, raw, lead, in_utf8, in_escape, grow, character, after_digits, in_hexadecimal, in_text, is_high, is_low};
 
 use crate::mode::{Action, Digits, Keep, Lob, Mode, Style, TokenKind, Within, add, go, unexpected};
 use crate::octets::{escaped, hexadecimal_digit};

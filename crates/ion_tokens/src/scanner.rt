@@ -2,17 +2,17 @@
 ghost use Rattle.std.specs.Prelude.{◌≡◌, ◌≢◌, ◌+◌, ◌-◌, ◌*◌, ◌≤◌, ◌<◌, ◌^◌, length, ◌++◌, [], OnOk, IfOk, IfErr, IfSome, IfNone, IsNone, None, List, ℕ, true, take};
 ghost use Rattle.ion_model.specs.declared.refusal.Reason.TheVariants.{Memory};
 ghost use Rattle.ion_tokens.specs.declared.mode.Place.{Place};
-ghost use Rattle.ion_tokens.specs.Scanning.{Known, Next, run, at_end, initial, cut, acts, feed, start_of};
-ghost use Rattle.ion_tokens.specs.Bounds.{is_idle, IsSteady, StaysSteady};
+ghost use Rattle.ion_tokens.specs.machine.Scanning.{Known, Next, run, at_end, initial, cut, acts, feed, start_of};
+ghost use Rattle.ion_tokens.specs.machine.Bounds.{is_idle, IsSteady, StaysSteady};
 ghost use Rattle.ion_tokens.specs.Bodies.{content, IsBody};
-ghost use Rattle.ion_tokens.specs.Views.{known, lexeme_in, scanned, failure, looks, behind, form_of, begun_in, held_in, open_in, foresight};
-ghost use Rattle.ion_tokens.specs.Fronts.{goes_on};
+ghost use Rattle.ion_tokens.specs.machine.Views.{known, lexeme_in, scanned, failure, looks, behind, form_of, begun_in, held_in, open_in, foresight};
+ghost use Rattle.ion_tokens.specs.machine.AtOnce.{goes_on};
 ghost use Rattle.ion_tokens.specs.Lexemes.{Each};
 ghost use Rattle.ion_tokens.specs.Lexed.{Placed};
-ghost use Rattle.ion_tokens.specs.Rests.{resting};
-ghost use Rattle.ion_tokens.specs.Scanned.{Scanned, Goes, RefusesAt, EndsWith, NeverEnds, EndsFor, AlwaysShows};
-ghost use Rattle.ion_tokens.specs.Traces.{Places, IsTraced, AnswersTrace, EndsTrace};
-ghost use Rattle.ion_tokens.specs.Steps.{Answers, Ends, IsToken, GivesToken, RefusesToken, IsWithin, deciding, is_step_reason};
+ghost use Rattle.ion_tokens.specs.machine.Rests.{resting};
+ghost use Rattle.ion_tokens.specs.machine.Scanned.{Scanned, Goes, RefusesAt, EndsWith, NeverEnds, EndsFor, AlwaysShows};
+ghost use Rattle.ion_tokens.specs.machine.Traces.{Places, IsTraced, AnswersTrace, EndsTrace};
+ghost use Rattle.ion_tokens.specs.machine.Steps.{Answers, Ends, IsToken, GivesToken, RefusesToken, IsWithin, deciding, is_step_reason};
 
 use crate::body::body_of;
 use crate::machine::{Lexeme, Machine, Taken, start_of};

@@ -2,7 +2,7 @@
 //! here: the scanner takes it up octet by octet.
 ghost use Rattle.std.specs.Prelude.{◌≡◌, ◌+◌, ◌-◌, ◌<◌, ◌≤◌, ◌^◌, false, true, length, take, drop, IfSome, IsUtf8};
 ghost use Rattle.ion_tokens.specs.Places.{is_name};
-ghost use Rattle.ion_tokens.specs.Rests.{past_blank, past_token, IsPassed, IsFound};
+ghost use Rattle.ion_tokens.specs.machine.Rests.{past_blank, past_token, IsPassed, IsFound};
 ghost use Rattle.ion_tokens.specs.declared.mode.Place.{Place};
 
 use crate::front::{of_number, of_word, plain, white};

@@ -2,8 +2,8 @@
 #![tactic(auto)]
 
 ghost use Rattle.std.specs.Prelude.{◌≤◌, length, IfOk};
-ghost use Rattle.ion_tokens.specs.Views.{scanned, looks};
-ghost use Rattle.ion_tokens.specs.Bounds.{IsSteady};
+ghost use Rattle.ion_tokens.specs.machine.Views.{scanned, looks};
+ghost use Rattle.ion_tokens.specs.machine.Bounds.{IsSteady};
 
 use ion_model::Refusal;
 use ion_tokens::{Body, Mark, Place, Scan, Scanner};

@@ -4,8 +4,8 @@ ghost use Rattle.ion_model.specs.declared.refusal.Reason.{Reason};
 ghost use Rattle.ion_model.specs.declared.value.Payload.{Payload};
 ghost use Rattle.ion_symtab.specs.Outcome.{Gives};
 ghost use Rattle.ion_binary.specs.declared.form.Form.TheVariants as forms;
-ghost use Rattle.ion_binary.specs.Machine.{judged, open_struct, begin, sized, on_body, on_pad};
-ghost use Rattle.ion_binary.specs.Views.{open_frames, Does, SameSetting};
+ghost use Rattle.ion_binary.specs.machine.EachOctet.{judged, open_struct, begin, sized, on_body, on_pad};
+ghost use Rattle.ion_binary.specs.machine.Views.{open_frames, Does, SameSetting};
 
 use super::BinaryReader;
 use crate::form::{Form, Listing, Scalar};

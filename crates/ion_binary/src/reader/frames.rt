@@ -2,8 +2,8 @@
 ghost use Rattle.std.specs.Prelude.{◌≡◌, [], ◌∷◌, IfOk, IfSome};
 ghost use Rattle.ion_model.specs.Measures.{bare};
 ghost use Rattle.ion_binary.specs.declared.state.Frame.TheVariants as frames;
-ghost use Rattle.ion_binary.specs.Machine.{deliver, proceed};
-ghost use Rattle.ion_binary.specs.Views.{open_frames, Does, Puts, SameSetting};
+ghost use Rattle.ion_binary.specs.machine.EachOctet.{deliver, proceed};
+ghost use Rattle.ion_binary.specs.machine.Views.{open_frames, Does, Puts, SameSetting};
 
 use super::BinaryReader;
 use crate::form::Listing;

@@ -1,11 +1,11 @@
 //! Octets of a piece that are taken up at once: of a body, a pad or a value, or else one.
 ghost use Rattle.std.specs.Prelude.{◌≡◌, ◌+◌, ◌-◌, ◌≤◌, ◌<◌, ◌^◌, ◌++◌, true, length, take, IfOk, IfErr, IfSome};
 ghost use Rattle.ion_model.specs.declared.refusal.Reason.TheVariants.{Memory};
-ghost use Rattle.ion_binary.specs.Judge.{judge};
-ghost use Rattle.ion_binary.specs.Machine.{judged};
-ghost use Rattle.ion_binary.specs.Run.{run};
-ghost use Rattle.ion_binary.specs.Runs.{led};
-ghost use Rattle.ion_binary.specs.Views.{machine_of, open_frames, goes_on, Does, Took, SameSetting};
+ghost use Rattle.ion_binary.specs.machine.Judge.{judge};
+ghost use Rattle.ion_binary.specs.machine.EachOctet.{judged};
+ghost use Rattle.ion_binary.specs.machine.Run.{run};
+ghost use Rattle.ion_binary.specs.machine.Pieces.{led};
+ghost use Rattle.ion_binary.specs.machine.Views.{machine_of, open_frames, goes_on, Does, Took, SameSetting};
 ghost use Rattle.ion_binary.specs.declared.state.Phase.TheVariants as phases;
 
 use super::BinaryReader;

@@ -1,8 +1,8 @@
 //! The reader as `Items`: steps over pieces, and the end.
 ghost use Rattle.std.specs.Prelude.{◌≡◌, ◌+◌, ◌<◌, ◌^◌, [], length, IfOk, IfErr, None};
 ghost use Rattle.ion_model.specs.declared.refusal.Reason.TheVariants.{Memory};
-ghost use Rattle.ion_binary.specs.Run.{run, whole, Advances};
-ghost use Rattle.ion_binary.specs.Views.{machine_of, open_frames, SameSetting};
+ghost use Rattle.ion_binary.specs.machine.Run.{run, whole, Advances};
+ghost use Rattle.ion_binary.specs.machine.Views.{machine_of, open_frames, SameSetting};
 
 use super::BinaryReader;
 use crate::state::{Effect, Mark, Phase};
@@ -99,10 +99,10 @@ impl Items for BinaryReader<'_> {
     ghost use Rattle.std.specs.Prelude.{List, ℕ, None, length};
     ghost use Rattle.ion_symtab.specs.declared.limits.Limits.{Limits};
     ghost use Rattle.ion_binary.specs.Grammar.{Document, Whole, OpenRest};
-    ghost use Rattle.ion_binary.specs.Run.{trace};
-    ghost use Rattle.ion_binary.specs.Views.{Stands, body_so_far};
-    ghost use Rattle.ion_binary.specs.Laws.{exact, one_stream, one_shown, refused, shown, unfinished, reasons, small, grows, no_tables};
-    ghost use Rattle.ion_binary.specs.StandsLaws.{given_of, not_failed, not_refused, bounded};
+    ghost use Rattle.ion_binary.specs.machine.Run.{trace};
+    ghost use Rattle.ion_binary.specs.machine.Views.{Stands, body_so_far};
+    ghost use Rattle.ion_binary.specs.laws.reading.Promises.{exact, one_stream, one_shown, refused, shown, unfinished, reasons, small, grows, no_tables};
+    ghost use Rattle.ion_binary.specs.laws.reading.Standing.{given_of, not_failed, not_refused, bounded};
 
     ghost catalog = { λ r. r.catalog.now };
 

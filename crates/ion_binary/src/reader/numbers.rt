@@ -1,8 +1,8 @@
 //! VarUInts: lengths, and the ids of field names and annotations.
 ghost use Rattle.std.specs.Prelude.{◌≡◌, ◌<◌, ◌^◌, ◌∷◌};
 ghost use Rattle.ion_symtab.specs.Slots.{resolve};
-ghost use Rattle.ion_binary.specs.Machine.{longer, unsized, name_came, count_came, annotation_came, number_came, on_number};
-ghost use Rattle.ion_binary.specs.Views.{open_frames, Does, SameSetting};
+ghost use Rattle.ion_binary.specs.machine.EachOctet.{longer, unsized, name_came, count_came, annotation_came, number_came, on_number};
+ghost use Rattle.ion_binary.specs.machine.Views.{open_frames, Does, SameSetting};
 
 use super::BinaryReader;
 use crate::form::Form;

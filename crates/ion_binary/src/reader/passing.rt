@@ -2,8 +2,8 @@
 ghost use Rattle.std.specs.Prelude.{◌≡◌, ◌+◌, ◌<◌, ◌^◌, [], true, length, IfSome, IsNone, Ok, Some};
 ghost use Rattle.ion_model.specs.declared.value.Value.{Value};
 ghost use Rattle.ion_model.specs.Outlines.{outline_of};
-ghost use Rattle.ion_binary.specs.Run.{Advances};
-ghost use Rattle.ion_binary.specs.Views.{machine_of, run_of, open_frames, SameSetting};
+ghost use Rattle.ion_binary.specs.machine.Run.{Advances};
+ghost use Rattle.ion_binary.specs.machine.Views.{machine_of, run_of, open_frames, SameSetting};
 ghost use Rattle.ion_binary.specs.declared.state.Phase.TheVariants as phases;
 
 use super::BinaryReader;

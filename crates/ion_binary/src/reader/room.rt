@@ -1,7 +1,7 @@
 //! Where a value, a pad or a number may stand, and how far it may reach.
 ghost use Rattle.std.specs.Prelude.{◌≡◌, nat_lt};
-ghost use Rattle.ion_binary.specs.Machine.{levels, too_long, misfits, stray, nameless, unending, outside, past, unfit};
-ghost use Rattle.ion_binary.specs.Views.{open_frames, malformed_unless};
+ghost use Rattle.ion_binary.specs.machine.EachOctet.{levels, too_long, misfits, stray, nameless, unending, outside, past, unfit};
+ghost use Rattle.ion_binary.specs.machine.Views.{open_frames, malformed_unless};
 
 use super::BinaryReader;
 use crate::form::Form;

@@ -1,7 +1,7 @@
 //! Values that lie whole in a piece.
 ghost use Rattle.std.specs.Prelude.{◌≡◌, ◌+◌, ◌≤◌, ◌<◌, ◌^◌, true, length, take, [], IfSome};
-ghost use Rattle.ion_binary.specs.Runs.{after};
-ghost use Rattle.ion_binary.specs.Views.{run_of, delivers, Does, SameSetting};
+ghost use Rattle.ion_binary.specs.machine.Pieces.{after};
+ghost use Rattle.ion_binary.specs.machine.Views.{run_of, delivers, Does, SameSetting};
 ghost use Rattle.ion_binary.specs.declared.state.Phase.TheVariants as phases;
 
 use super::BinaryReader;

@@ -1,8 +1,8 @@
 //! Two documents whose next values are seen to be the same where they lie.
 ghost use Rattle.std.specs.Prelude.{◌≡◌, ◌+◌, ◌-◌, ◌<◌, ◌≤◌, ◌^◌, true, false};
 ghost use Rattle.ion_model.specs.declared.value.Value.{Value};
-ghost use Rattle.ion_docs.specs.Alongside.{WentPast};
-ghost use Rattle.ion_docs.specs.Reading.{IsReady};
+ghost use Rattle.ion_docs.specs.reading.Alongside.{WentPast};
+ghost use Rattle.ion_docs.specs.reading.Read.{IsReady};
 
 use super::Source;
 use ion_symtab::Items;

@@ -7,12 +7,12 @@ ghost use Rattle.ion_symtab.specs.declared.catalog.Catalog.{Catalog};
 ghost use Rattle.ion_symtab.specs.declared.limits.Limits.{Limits};
 ghost use Rattle.ion_symtab.specs.Cause.{IsReadCause};
 ghost use Rattle.ion_docs.specs.Formats.{format_of};
-ghost use Rattle.ion_docs.specs.Reading.{left_of, Begins, IsReady, IsWithin, work, Went, Reads, ReadsEach, GaveSoFar};
-ghost use Rattle.ion_docs.specs.Reached.{IfValue, IfEnd, IsSpent, Reaches};
+ghost use Rattle.ion_docs.specs.reading.Read.{left_of, Begins, IsReady, IsWithin, work, Went, Reads, ReadsEach, GaveSoFar};
+ghost use Rattle.ion_docs.specs.reading.Reached.{IfValue, IfEnd, IsSpent, Reaches};
 ghost use Rattle.ion_docs.specs.Outcomes.{EndsRefused};
 ghost use Rattle.ion_docs.specs.Checked.{IsChecked, counted};
 
-use super::{Place, Source, last};
+use super::{Source, Standing, last};
 use ion_model::{Outline, Reason, Refusal};
 use ion_symtab::{Fault, Inlet, Items, Passed};
 
@@ -140,12 +140,12 @@ pub(crate) fn pass_all<I: Items + Drop, R: Inlet>(
 }
 
 /// How many values there are, with one that the end may have shown, or the refusal of the end.
-fn counted<I: Drop>(values: u64, place: Place<I>, some: bool) -> Result<u64, Refusal>
+fn counted<I: Drop>(values: u64, place: Standing<I>, some: bool) -> Result<u64, Refusal>
     requires { values + 1 < 2 ^ 64 }
     ensures { result ≡ counted values some place }
 {
     match place {
-        Place::Refused(refusal) => Err(refusal),
+        Standing::Refused(refusal) => Err(refusal),
         _ => Ok(if some { values + 1 } else { values }),
     }
 }

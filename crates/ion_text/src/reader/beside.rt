@@ -3,13 +3,13 @@
 ghost use Rattle.std.specs.Prelude.{◌≡◌, [], length, Some, IfOk, IfErr, IfSome};
 ghost use Rattle.ion_model.specs.declared.refusal.Reason.TheVariants.{Memory};
 ghost use Rattle.ion_tokens.specs.Bodies.{content};
-ghost use Rattle.ion_tokens.specs.Rests.{resting};
-ghost use Rattle.ion_tokens.specs.Views.{scanned};
+ghost use Rattle.ion_tokens.specs.machine.Rests.{resting};
+ghost use Rattle.ion_tokens.specs.machine.Views.{scanned};
 ghost use Rattle.ion_text.specs.declared.state.Now.TheVariants as nows;
-ghost use Rattle.ion_text.specs.FrontTokens.{held_of, value_of, Names, Pays, BeginsValue};
-ghost use Rattle.ion_text.specs.Machine.{place};
-ghost use Rattle.ion_text.specs.Passing.{Inside, Strides};
-ghost use Rattle.ion_text.specs.Views.{reading_of, SameReader};
+ghost use Rattle.ion_text.specs.laws.reading.FrontTokens.{held_of, value_of, Names, Pays, BeginsValue};
+ghost use Rattle.ion_text.specs.machine.EachToken.{place};
+ghost use Rattle.ion_text.specs.machine.AtOnce.{Inside, Strides};
+ghost use Rattle.ion_text.specs.machine.Views.{reading_of, SameReader};
 
 use super::TextReader;
 use crate::state::Effect;

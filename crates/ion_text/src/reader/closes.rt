@@ -3,8 +3,8 @@ ghost use Rattle.std.specs.Prelude.{◌≡◌, [], ◌∷◌, None};
 ghost use Rattle.ion_text.specs.declared.state.Frame.TheVariants as frames;
 ghost use Rattle.ion_text.specs.declared.state.Now.TheVariants as nows;
 ghost use Rattle.ion_model.specs.declared.refusal.Reason.TheVariants as reasons;
-ghost use Rattle.ion_text.specs.Machine.{at, goes, late, refuses, deeper, list_closed, sexp_closed, struct_closed, on_comma, named};
-ghost use Rattle.ion_text.specs.Views.{open_frames, Does, SameSetting};
+ghost use Rattle.ion_text.specs.machine.EachToken.{at, goes, late, refuses, deeper, list_closed, sexp_closed, struct_closed, on_comma, named};
+ghost use Rattle.ion_text.specs.machine.Views.{open_frames, Does, SameSetting};
 
 use super::TextReader;
 use crate::state::{Effect, Frame, Now};

@@ -2,13 +2,13 @@
 ghost use Rattle.std.specs.Prelude.{◌≡◌, ℕ, Result, Option, Ok, Err};
 ghost use Rattle.ion_model.specs.declared.refusal.Reason.{Reason};
 ghost use Rattle.ion_symtab.specs.declared.catalog.Catalog.{Catalog};
-ghost use Rattle.ion_tokens.specs.Scanning.{at_end, Lexeme};
-ghost use Rattle.ion_tokens.specs.Views.{scanned};
-ghost use Rattle.ion_tokens.specs.Steps.{Ends};
-ghost use Rattle.ion_text.specs.Machine.{settle, turn};
-ghost use Rattle.ion_text.specs.Run.{is_fresh, end_late, end_settled, end_waiting, end_ready, end_turned, ends};
-ghost use Rattle.ion_text.specs.Progress.{DidEnd};
-ghost use Rattle.ion_text.specs.Views.{reading_of, state_of, token_in, IsFine};
+ghost use Rattle.ion_tokens.specs.machine.Scanning.{at_end, Lexeme};
+ghost use Rattle.ion_tokens.specs.machine.Views.{scanned};
+ghost use Rattle.ion_tokens.specs.machine.Steps.{Ends};
+ghost use Rattle.ion_text.specs.machine.EachToken.{settle, turn};
+ghost use Rattle.ion_text.specs.machine.Run.{is_fresh, end_late, end_settled, end_waiting, end_ready, end_turned, ends};
+ghost use Rattle.ion_text.specs.machine.Progress.{DidEnd};
+ghost use Rattle.ion_text.specs.machine.Views.{reading_of, state_of, token_in, IsFine};
 
 use super::TextReader;
 use crate::state::{Effect, Now};

@@ -1,7 +1,7 @@
 //! The reader as `Items`: steps over pieces, and the end.
 ghost use Rattle.std.specs.Prelude.{◌≡◌, [], IfOk, IfErr, None};
 ghost use Rattle.ion_model.specs.declared.refusal.Reason.TheVariants.{Memory};
-ghost use Rattle.ion_text.specs.Progress.{failed};
+ghost use Rattle.ion_text.specs.machine.Progress.{failed};
 
 use super::TextReader;
 use crate::state::Now;
@@ -60,17 +60,17 @@ impl TextReader<'_> {
 
 impl Items for TextReader<'_> {
     ghost use Rattle.ion_text.specs.Grammar.{Document, Whole, OpenRest};
-    ghost use Rattle.ion_text.specs.Run.{trace};
-    ghost use Rattle.ion_text.specs.Runs.{grows};
-    ghost use Rattle.ion_text.specs.Progress.{Stands, failed, octets_used, octets_kept, pending};
-    ghost use Rattle.ion_text.specs.Laws.{exact, one_stream, has_reasons};
-    ghost use Rattle.ion_text.specs.Stops.{unfinished, no_tables};
-    ghost use Rattle.ion_text.specs.Small.{is_small};
-    ghost use Rattle.ion_text.specs.Stands.{not_failed, not_refused, given_so_far, given_with_next};
-    ghost use Rattle.ion_text.specs.Bounded.{bounded};
-    ghost use Rattle.ion_text.specs.showing.Once.{one_shown};
-    ghost use Rattle.ion_text.specs.showing.Given.{shown};
-    ghost use Rattle.ion_text.specs.showing.Refusing.{refuses};
+    ghost use Rattle.ion_text.specs.machine.Run.{trace};
+    ghost use Rattle.ion_text.specs.machine.Pieces.{grows};
+    ghost use Rattle.ion_text.specs.machine.Progress.{Stands, failed, octets_used, octets_kept, pending};
+    ghost use Rattle.ion_text.specs.laws.reading.Promises.{exact, one_stream, has_reasons};
+    ghost use Rattle.ion_text.specs.laws.reading.Stops.{unfinished, no_tables};
+    ghost use Rattle.ion_text.specs.laws.reading.Small.{is_small};
+    ghost use Rattle.ion_text.specs.laws.reading.Stands.{not_failed, not_refused, given_so_far, given_with_next};
+    ghost use Rattle.ion_text.specs.laws.reading.Bounded.{bounded};
+    ghost use Rattle.ion_text.specs.laws.showing.Once.{one_shown};
+    ghost use Rattle.ion_text.specs.laws.showing.Given.{shown};
+    ghost use Rattle.ion_text.specs.laws.showing.Refusing.{refuses};
 
     ghost catalog = { λ r. r.catalog.now };
 

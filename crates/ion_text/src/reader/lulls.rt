@@ -2,13 +2,13 @@
 //! a comment, and of a further segment of a long string.
 ghost use Rattle.std.specs.Prelude.{◌≡◌, ◌+◌, ◌<◌, ◌≤◌, ◌^◌, length, take, OnOk, IfErr};
 ghost use Rattle.ion_model.specs.declared.refusal.Reason.TheVariants.{Memory};
-ghost use Rattle.ion_tokens.specs.Fronts.{goes_on};
+ghost use Rattle.ion_tokens.specs.machine.AtOnce.{goes_on};
 ghost use Rattle.ion_tokens.specs.Lexemes.{Each};
-ghost use Rattle.ion_tokens.specs.Views.{scanned};
-ghost use Rattle.ion_text.specs.Run.{run};
-ghost use Rattle.ion_text.specs.Runs.{led};
-ghost use Rattle.ion_text.specs.Views.{reading_of, state_of, lulls, ended_so_far, IsFine, IsLull, SameReader};
-ghost use Rattle.ion_text.specs.Progress.{StaysSteady};
+ghost use Rattle.ion_tokens.specs.machine.Views.{scanned};
+ghost use Rattle.ion_text.specs.machine.Run.{run};
+ghost use Rattle.ion_text.specs.machine.Pieces.{led};
+ghost use Rattle.ion_text.specs.machine.Views.{reading_of, state_of, lulls, ended_so_far, IsFine, IsLull, SameReader};
+ghost use Rattle.ion_text.specs.machine.Progress.{StaysSteady};
 
 use super::TextReader;
 use crate::state::Now;

@@ -2,14 +2,14 @@
 //! limit on depth is left to the octets.
 ghost use Rattle.std.specs.Prelude.{◌≡◌, ◌<◌, [], length, false, Ok, IfOk, IfErr, IfSome};
 ghost use Rattle.ion_model.specs.declared.refusal.Reason.TheVariants.{Memory};
-ghost use Rattle.ion_tokens.specs.Views.{scanned};
+ghost use Rattle.ion_tokens.specs.machine.Views.{scanned};
 ghost use Rattle.ion_tokens.specs.Places.{is_name};
-ghost use Rattle.ion_tokens.specs.Rests.{resting};
+ghost use Rattle.ion_tokens.specs.machine.Rests.{resting};
 ghost use Rattle.ion_text.specs.declared.state.Now.TheVariants as nows;
-ghost use Rattle.ion_text.specs.Machine.{place};
-ghost use Rattle.ion_text.specs.Nested.{Opens, Closes, closed};
-ghost use Rattle.ion_text.specs.Views.{open_frames, reading_of, Does, SameReader, SameSetting};
-ghost use Rattle.ion_text.specs.Passing.{Inside, Strides};
+ghost use Rattle.ion_text.specs.machine.EachToken.{place};
+ghost use Rattle.ion_text.specs.machine.Nested.{Opens, Closes, closed};
+ghost use Rattle.ion_text.specs.machine.Views.{open_frames, reading_of, Does, SameReader, SameSetting};
+ghost use Rattle.ion_text.specs.machine.AtOnce.{Inside, Strides};
 
 use super::TextReader;
 use crate::state::{Effect, Frame, Now};

@@ -1,12 +1,12 @@
 //! What each octet does: the scanner takes it up, and behind it the reader of tokens.
 ghost use Rattle.std.specs.Prelude.{◌≡◌, ◌≢◌, ◌+◌, ◌<◌, ◌≤◌, ◌^◌, length, get_or, Ok, Err, IfOk, IfErr, true, false};
 ghost use Rattle.ion_model.specs.declared.refusal.Reason.TheVariants.{Memory};
-ghost use Rattle.ion_tokens.specs.Views.{begun_in, scanned, failure};
-ghost use Rattle.ion_tokens.specs.Scanning.{run, feed};
-ghost use Rattle.ion_text.specs.Machine.{turn};
-ghost use Rattle.ion_text.specs.Run.{has_segment, is_top, reaches, noticed, unsettled, lesser, behind_given, behind_left, on_scan, takes};
-ghost use Rattle.ion_text.specs.Progress.{StaysSteady};
-ghost use Rattle.ion_text.specs.Views.{comes_again, count_of, worse, open_frames, reading_of, state_of, goes_on_symbol, goes_on_long, token_in, IsFine, MeetsWith, Notices, DidTake, DidMeet, SameSetting, SameReader};
+ghost use Rattle.ion_tokens.specs.machine.Views.{begun_in, scanned, failure};
+ghost use Rattle.ion_tokens.specs.machine.Scanning.{run, feed};
+ghost use Rattle.ion_text.specs.machine.EachToken.{turn};
+ghost use Rattle.ion_text.specs.machine.Run.{has_segment, is_top, reaches, noticed, unsettled, lesser, behind_given, behind_left, on_scan, takes};
+ghost use Rattle.ion_text.specs.machine.Progress.{StaysSteady};
+ghost use Rattle.ion_text.specs.machine.Views.{comes_again, count_of, worse, open_frames, reading_of, state_of, goes_on_symbol, goes_on_long, token_in, IsFine, MeetsWith, Notices, DidTake, DidMeet, SameSetting, SameReader};
 
 use super::TextReader;
 use crate::state::{Effect, Met, Now, Taken};

@@ -2,9 +2,9 @@
 ghost use Rattle.std.specs.Prelude.{◌≡◌, ◌≢◌, ◌+◌, ◌<◌, ◌^◌, length, IfOk, IfErr};
 ghost use Rattle.std.specs.Option.{is_some};
 ghost use Rattle.ion_model.specs.declared.refusal.Reason.TheVariants.{Memory};
-ghost use Rattle.ion_tokens.specs.Views.{scanned};
-ghost use Rattle.ion_text.specs.Views.{state_of, IsFine, SameReader};
-ghost use Rattle.ion_text.specs.Progress.{Took, Advances, BeginsWith, SameSettings, StaysSteady};
+ghost use Rattle.ion_tokens.specs.machine.Views.{scanned};
+ghost use Rattle.ion_text.specs.machine.Views.{state_of, IsFine, SameReader};
+ghost use Rattle.ion_text.specs.machine.Progress.{Took, Advances, BeginsWith, SameSettings, StaysSteady};
 
 use super::TextReader;
 use crate::state::Taken;

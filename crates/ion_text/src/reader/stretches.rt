@@ -1,9 +1,9 @@
 //! Octets that are handed to the scanner at once: up to the next token, where nothing has to be looked at
 //! before it.
 ghost use Rattle.std.specs.Prelude.{◌≡◌, ◌+◌, ◌<◌, ◌≤◌, ◌^◌, length, IfOk};
-ghost use Rattle.ion_tokens.specs.Views.{scanned};
-ghost use Rattle.ion_text.specs.Views.{open_frames, state_of, floor, base, IsCalm, IsFine, SameReader};
-ghost use Rattle.ion_text.specs.Progress.{Took, StaysSteady};
+ghost use Rattle.ion_tokens.specs.machine.Views.{scanned};
+ghost use Rattle.ion_text.specs.machine.Views.{open_frames, state_of, floor, base, IsCalm, IsFine, SameReader};
+ghost use Rattle.ion_text.specs.machine.Progress.{Took, StaysSteady};
 
 use super::TextReader;
 use super::octets::worse;

@@ -1,12 +1,12 @@
 //! A struct of the top level: its open, and the tokens behind it that lie whole in the piece.
 ghost use Rattle.std.specs.Prelude.{◌≡◌, ◌+◌, ◌<◌, ◌≤◌, ◌^◌, length, false, OnOk, IfOk, IfErr, IfSome};
 ghost use Rattle.ion_model.specs.declared.refusal.Reason.TheVariants.{Memory};
-ghost use Rattle.ion_tokens.specs.Views.{scanned};
-ghost use Rattle.ion_text.specs.Run.{is_top};
-ghost use Rattle.ion_text.specs.Nested.{OpensStruct};
-ghost use Rattle.ion_text.specs.Views.{open_frames, state_of, IsFine, SameReader};
-ghost use Rattle.ion_text.specs.Progress.{Took, StaysSteady};
-ghost use Rattle.ion_text.specs.Passing.{Strides};
+ghost use Rattle.ion_tokens.specs.machine.Views.{scanned};
+ghost use Rattle.ion_text.specs.machine.Run.{is_top};
+ghost use Rattle.ion_text.specs.machine.Nested.{OpensStruct};
+ghost use Rattle.ion_text.specs.machine.Views.{open_frames, state_of, IsFine, SameReader};
+ghost use Rattle.ion_text.specs.machine.Progress.{Took, StaysSteady};
+ghost use Rattle.ion_text.specs.machine.AtOnce.{Strides};
 
 use super::TextReader;
 use crate::state::{Effect, Now, Taken};

@@ -1,15 +1,15 @@
 //! Symbols, annotations and names of fields that lie whole in a piece, where a container is open.
 ghost use Rattle.std.specs.Prelude.{◌≡◌, ◌≢◌, ◌+◌, ◌-◌, ◌<◌, [], length, get_or, take, drop, true, Some, Ok, IfOk, IfErr, IfSome, IsUtf8};
 ghost use Rattle.ion_model.specs.declared.refusal.Reason.TheVariants.{Memory};
-ghost use Rattle.ion_tokens.specs.Rests.{resting, IsPassed};
-ghost use Rattle.ion_tokens.specs.Views.{scanned};
+ghost use Rattle.ion_tokens.specs.machine.Rests.{resting, IsPassed};
+ghost use Rattle.ion_tokens.specs.machine.Views.{scanned};
 ghost use Rattle.ion_tokens.specs.declared.mode.Place.{Place};
 ghost use Rattle.ion_tokens.specs.declared.whole.Rest.{Rest};
 ghost use Rattle.ion_text.specs.declared.state.Now.TheVariants as nows;
-ghost use Rattle.ion_text.specs.FrontTokens.{ends_symbol, BeginsSymbol, BeginsName};
-ghost use Rattle.ion_text.specs.Machine.{place, held_word, held_payload};
-ghost use Rattle.ion_text.specs.Passing.{Inside, Strides};
-ghost use Rattle.ion_text.specs.Views.{reading_of, SameReader};
+ghost use Rattle.ion_text.specs.laws.reading.FrontTokens.{ends_symbol, BeginsSymbol, BeginsName};
+ghost use Rattle.ion_text.specs.machine.EachToken.{place, held_word, held_payload};
+ghost use Rattle.ion_text.specs.machine.AtOnce.{Inside, Strides};
+ghost use Rattle.ion_text.specs.machine.Views.{reading_of, SameReader};
 
 use super::TextReader;
 use crate::state::{Effect, Held, Now};

@@ -2,9 +2,9 @@
 ghost use Rattle.std.specs.Prelude.{◌≡◌, [], ◌∷◌, ◌++◌, MatchResult};
 ghost use Rattle.ion_model.specs.declared.refusal.Reason.TheVariants as reasons;
 ghost use Rattle.ion_text.specs.declared.state.Now.TheVariants as nows;
-ghost use Rattle.ion_text.specs.Machine.{at, goes, turn, on_ready, on_pending, on_long, on_name, on_long_name, on_after, on_keyed, number_payload};
+ghost use Rattle.ion_text.specs.machine.EachToken.{at, goes, turn, on_ready, on_pending, on_long, on_name, on_long_name, on_after, on_keyed, number_payload};
 ghost use Rattle.ion_tokens.specs.Bodies.{content, Word, Mark'};
-ghost use Rattle.ion_text.specs.Views.{open_frames, reading_of, token_in, Does, SameSetting};
+ghost use Rattle.ion_text.specs.machine.Views.{open_frames, reading_of, token_in, Does, SameSetting};
 
 use super::TextReader;
 use crate::state::{Effect, Held, Now};

@@ -2,8 +2,8 @@
 ghost use Rattle.std.specs.Prelude.{◌≡◌, ℕ, List, [], ◌∷◌, Option};
 ghost use Rattle.ion_text.specs.declared.state.Held.TheVariants as helds;
 ghost use Rattle.ion_text.specs.declared.state.Now.TheVariants as nows;
-ghost use Rattle.ion_text.specs.Machine.{released, settle};
-ghost use Rattle.ion_text.specs.Views.{open_frames, reading_of, Does, SameSetting};
+ghost use Rattle.ion_text.specs.machine.EachToken.{released, settle};
+ghost use Rattle.ion_text.specs.machine.Views.{open_frames, reading_of, Does, SameSetting};
 
 use super::TextReader;
 use crate::state::{Effect, Held, Now};

@@ -3,15 +3,15 @@
 //! memory that ran out, which says nothing of the octets.
 ghost use Rattle.std.specs.Prelude.{◌≡◌, ◌+◌, ◌<◌, ◌≤◌, ◌^◌, [], length, true, false, not, IfOk, IfErr};
 ghost use Rattle.ion_model.specs.declared.refusal.Reason.TheVariants.{Memory};
-ghost use Rattle.ion_tokens.specs.Views.{scanned};
+ghost use Rattle.ion_tokens.specs.machine.Views.{scanned};
 ghost use Rattle.ion_tokens.specs.Places.{is_name};
-ghost use Rattle.ion_tokens.specs.Rests.{resting, IsPassed};
+ghost use Rattle.ion_tokens.specs.machine.Rests.{resting, IsPassed};
 ghost use Rattle.ion_text.specs.declared.state.Now.TheVariants as nows;
-ghost use Rattle.ion_text.specs.Machine.{place};
-ghost use Rattle.ion_text.specs.Run.{is_top};
-ghost use Rattle.ion_text.specs.Views.{open_frames, reading_of, state_of, IsFine, SameReader};
-ghost use Rattle.ion_text.specs.Progress.{Took, StaysSteady};
-ghost use Rattle.ion_text.specs.Passing.{IsResting, Inside, Strides};
+ghost use Rattle.ion_text.specs.machine.EachToken.{place};
+ghost use Rattle.ion_text.specs.machine.Run.{is_top};
+ghost use Rattle.ion_text.specs.machine.Views.{open_frames, reading_of, state_of, IsFine, SameReader};
+ghost use Rattle.ion_text.specs.machine.Progress.{Took, StaysSteady};
+ghost use Rattle.ion_text.specs.machine.AtOnce.{IsResting, Inside, Strides};
 
 use super::TextReader;
 use super::turns::number_payload;

@@ -1,5 +1,5 @@
-use Rattle.ion_tokens.specs.Views.{scanned, looks}
-use Rattle.ion_tokens.specs.Bounds.{IsSteady}
+use Rattle.ion_tokens.specs.machine.Views.{scanned, looks}
+use Rattle.ion_tokens.specs.machine.Bounds.{IsSteady}
 use Rattle.scan_speed.proofs.main.Given as goal
 
 abbrev pub invariant-loop : goal.invariant-loop

@@ -6,7 +6,7 @@ use Rattle.ion_binary.specs.declared.form.Form.TheVariants as forms
 use Rattle.ion_binary.specs.declared.form.Opening.TheVariants.{Null, Truth, Sized}
 use Rattle.ion_binary.specs.Grammar.{nothing, no_fields}
 use Rattle.ion_binary.specs.Opening.{opening_of}
-use Rattle.ion_binary.specs.Alike.{Alike, AlikePlain}
+use Rattle.ion_binary.specs.machine.Alike.{Alike, AlikePlain}
 use Rattle.ion_binary.proofs.Leading.{whole_rest}
 use Rattle.ion_binary.proofs.Wholes.{slice_of, plain_null, plain_truth, flat_null, flat_truth, headed, within_more, sequence_more, sequence_padded, fields_more, fields_padded, depths_more, field_depths_more}
 use Rattle.ion_binary.proofs.Alikes.{both_scalar, both_listing, both_struct, both_ordered, alike_bare, alike_wrapper}

@@ -2,7 +2,7 @@ use Rattle.std.proofs.Common.{◌+◌, ◌*◌, ◌-◌, ◌≤◌, List, length
 use Rattle.ion_model.specs.declared.value.Value.{Value}
 use Rattle.ion_model.specs.declared.value.Field.{Field}
 use Rattle.ion_binary.specs.Grammar.{Sequence, Fields}
-use Rattle.ion_binary.specs.Stands.{depths, field_depths}
+use Rattle.ion_binary.specs.laws.reading.Stands.{depths, field_depths}
 use Rattle.ion_binary.proofs.alike.+alike.Given as goal
 
 abbrev pub decreases-alike_value : goal.decreases-alike_value

@@ -1,6 +1,6 @@
 use Rattle.std.proofs.Common.{◌≤◌, ℕ, List, Option, length, take}
 use Rattle.ion_binary.specs.Grammar.{Ids}
-use Rattle.ion_binary.specs.Walked.{NoTable}
+use Rattle.ion_binary.specs.machine.Walked.{NoTable}
 use Rattle.ion_binary.proofs.alike.alike_annotations.Given as goal
 
 -- the octets before both places are ids of the same annotations

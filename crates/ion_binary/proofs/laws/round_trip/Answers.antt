@@ -1,5 +1,5 @@
-use Rattle.ion_binary.specs.RoundTrip.{round_trip}
-use Rattle.ion_binary.specs.DocumentKept.{written_again}
+use Rattle.ion_binary.specs.laws.writing.RoundTrip.{round_trip}
+use Rattle.ion_binary.specs.laws.reading.DocumentKept.{written_again}
 use Rattle.ion_binary.proofs.laws.round_trip.Goals as goal
 
 pub returns : goal.returns

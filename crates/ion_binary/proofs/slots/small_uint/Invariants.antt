@@ -1,5 +1,5 @@
 use Rattle.std.proofs.Common.{◌≡◌, take}
-use Rattle.ion_scalar.specs.Fields.{positional}
+use Rattle.ion_scalar.specs.binary.Fields.{positional}
 use Rattle.ion_binary.proofs.slots.small_uint.Given as goal
 
 abbrev pub invariant-loop-octet : goal.invariant-loop-octet

@@ -5,11 +5,11 @@ use Rattle.ion_model.specs.declared.value.Payload.TheVariants as payloads
 use Rattle.ion_binary.specs.declared.form.Form.TheVariants as forms
 use Rattle.ion_binary.specs.declared.form.Opening.TheVariants.{Sized}
 use Rattle.ion_binary.specs.Grammar.{Sequence, nothing, Fields, no_fields}
-use Rattle.ion_binary.specs.Walked.{Walked, WalkedPlain}
+use Rattle.ion_binary.specs.machine.Walked.{Walked, WalkedPlain}
 use Rattle.ion_binary.proofs.Leading.{whole_rest}
 use Rattle.ion_binary.proofs.Wholes.{slice_of, plain_null, plain_truth, flat_null, flat_truth, headed, within_more, take_whole, sequence_more, sequence_padded, fields_more, fields_padded, depths_more, field_depths_more}
-use Rattle.ion_model.specs.MeasureLaws.{nodes-more}
-use Rattle.ion_binary.specs.Small.{fields-more, ids_long}
+use Rattle.ion_model.specs.laws.Measures.{nodes-more}
+use Rattle.ion_binary.specs.laws.reading.Small.{fields-more, ids_long}
 use Rattle.ion_binary.proofs.Walks.{few_items, few_fields, some_octets, least_more, least_field, noted_null, noted_truth, noted_own, some_scalar, some_listing, some_struct, some_ordered, walked_bare, walked_wrapper}
 use Rattle.ion_binary.proofs.walk.+walk.Goals as goal
 

@@ -3,7 +3,7 @@ use Rattle.ion_model.specs.Measures.{nodes}
 use Rattle.ion_model.specs.declared.value.Value.{Value}
 use Rattle.ion_model.specs.declared.value.Field.{Field}
 use Rattle.ion_binary.specs.Grammar.{Sequence, Fields}
-use Rattle.ion_binary.specs.Stands.{depths, field_depths}
+use Rattle.ion_binary.specs.laws.reading.Stands.{depths, field_depths}
 use Rattle.ion_binary.proofs.walk.+walk.Given as goal
 
 abbrev pub decreases-walk_value : goal.decreases-walk_value

@@ -5,9 +5,9 @@ use Rattle.std.specs.Vec.{vec_len}
 use Rattle.ion_model.specs.Measures.{depth, bare, field_of}
 use Rattle.ion_model.specs.declared.value.Payload.TheVariants as payloads
 use Rattle.ion_binary.specs.declared.form.Form.TheVariants as forms
-use Rattle.ion_binary.specs.Stands.{depths, field_depths}
+use Rattle.ion_binary.specs.laws.reading.Stands.{depths, field_depths}
 use Rattle.ion_binary.specs.Grammar.{Plain, Binary, Ids, listed, Sequence, nothing, Fields, no_fields}
-use Rattle.ion_binary.specs.Judged.{scalar_flat}
+use Rattle.ion_binary.specs.laws.reading.Judged.{scalar_flat}
 use Rattle.ion_binary.proofs.Leading.{whole_rest}
 use Rattle.ion_binary.proofs.Wholes.{slice_of, plain_null, plain_truth, flat_null, flat_truth, headed, framed_scalar, framed_listing, framed_struct, framed_ordered, bare_some, set_last, last_was, within_more, take_whole, sequence_more, fields_more, depths_more, field_depths_more, depth_listing, depth_struct, wraps, depth_wrapped, sequence_padded, fields_padded}
 use Rattle.ion_binary.proofs.whole.+whole.Goals as goal

@@ -1,5 +1,5 @@
 use Rattle.std.proofs.Common.{◌<◌, length, take, get_or, sym, subst, arith}
-use Rattle.ion_scalar.specs.Fields.{VarUInt}
+use Rattle.ion_scalar.specs.binary.Fields.{VarUInt}
 use Rattle.ion_binary.proofs.Wholes.{one_digit}
 use Rattle.ion_binary.proofs.whole.number.Goals as goal
 

@@ -1,5 +1,5 @@
 use Rattle.std.proofs.Common.{refl, ap}
-use Rattle.ion_symtab.specs.TookLaws.{Took-nil}
+use Rattle.ion_symtab.specs.laws.Took.{Took-nil}
 use Rattle.ion_words.specs.Asked.{told}
 use Rattle.ion_cmd.specs.declared.run.Ending.TheVariants.{Accepted, Different}
 use Rattle.ion_cmd.specs.Owed.{code_of, answered, stopped}

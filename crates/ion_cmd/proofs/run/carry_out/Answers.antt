@@ -1,6 +1,6 @@
 use Rattle.std.proofs.Common.{refl}
 use Rattle.std.proofs.lemmas.Result.{IfOk-weaker, IfErr-weaker, on_err_weaker}
-use Rattle.ion_symtab.specs.TookLaws.{Took-nil}
+use Rattle.ion_symtab.specs.laws.Took.{Took-nil}
 use Rattle.ion_words.specs.Asked.{told}
 use Rattle.ion_cmd.specs.Owed.{no_catalog}
 use Rattle.ion_cmd.proofs.Owing.{answered_behind, stopped_behind, front_behind}

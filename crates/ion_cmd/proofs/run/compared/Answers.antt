@@ -1,6 +1,6 @@
 use Rattle.std.proofs.Common.{refl, inr}
 use Rattle.ion_symtab.specs.Took.{Took, TookFront}
-use Rattle.ion_symtab.specs.TookLaws.{Took-nil}
+use Rattle.ion_symtab.specs.laws.Took.{Took-nil}
 use Rattle.ion_docs.specs.declared.comparison.Verdict.TheVariants.{Equivalent, Different, Refused}
 use Rattle.ion_cmd.specs.Lines.{equivalent_line, different_line}
 use Rattle.ion_cmd.proofs.Writes.{on_err}

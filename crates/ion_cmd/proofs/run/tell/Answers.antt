@@ -1,4 +1,4 @@
-use Rattle.ion_symtab.specs.TookLaws.{Front-all}
+use Rattle.ion_symtab.specs.laws.Took.{Front-all}
 use Rattle.ion_cmd.proofs.Writes.{on_err}
 use Rattle.ion_cmd.proofs.run.tell.Goals as goal
 

@@ -1,6 +1,6 @@
 use Rattle.std.proofs.Common.{◌≡◌, ℕ, List, [], Ok}
 use Rattle.ion_model.specs.declared.value.Value.{Value}
-use Rattle.ion_docs.specs.Reading.{IsReady, IsWithin, work, ReadsEach}
+use Rattle.ion_docs.specs.reading.Read.{IsReady, IsWithin, work, ReadsEach}
 use Rattle.ion_docs.specs.Loaded.{catalog_of}
 use Rattle.ion_docs.proofs.catalogs.load_items.Given as goal
 

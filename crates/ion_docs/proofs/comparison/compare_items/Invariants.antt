@@ -1,8 +1,8 @@
 use Rattle.std.proofs.Common.{◌+◌, ◌*◌, ◌≤◌, ◌^◌, ◌⊎◌, List}
 use Rattle.ion_model.specs.declared.value.Value.{Value}
-use Rattle.ion_docs.specs.Reading.{IsReady, IsWithin}
-use Rattle.ion_docs.specs.Place.{IfOpen, IsOpen, work_of, Stood}
-use Rattle.ion_docs.specs.Courses.{count_of}
+use Rattle.ion_docs.specs.reading.Read.{IsReady, IsWithin}
+use Rattle.ion_docs.specs.reading.Standing.{IfOpen, IsOpen, work_of, Stood}
+use Rattle.ion_docs.specs.reading.Courses.{count_of}
 use Rattle.ion_docs.proofs.Courses.{Meets}
 use Rattle.ion_docs.proofs.comparison.compare_items.Given as goal
 

@@ -2,7 +2,7 @@ use Rattle.std.proofs.Common.{◌≡◌, ◌+◌, ◌*◌, ◌≤◌, ◌^◌, L
 use Rattle.ion_symtab.specs.Took.{Took}
 use Rattle.ion_model.specs.declared.value.Value.{Value}
 use Rattle.ion_model.specs.Kept.{AreKept}
-use Rattle.ion_docs.specs.Reading.{IsReady, IsWithin, work, Reads}
+use Rattle.ion_docs.specs.reading.Read.{IsReady, IsWithin, work, Reads}
 use Rattle.ion_docs.proofs.conversion.convert_items.Given as goal
 
 abbrev pub invariant-loop-encoder : goal.invariant-loop-encoder

@@ -1,11 +1,11 @@
 use Rattle.std.proofs.Common.{rules, [], ◌≡◌, IfOk}
-use Rattle.ion_symtab.specs.TookLaws.{Front-none}
+use Rattle.ion_symtab.specs.laws.Took.{Front-none}
 use Rattle.ion_docs.specs.Converted.{at_start}
 use Rattle.ion_docs.proofs.Steps.{on_err}
 use Rattle.ion_docs.specs.Encodings.{encoding_of}
 use Rattle.ion_docs.specs.Formats.{documents}
 use Rattle.ion_docs.specs.Conversion.{WritesKept}
-use Rattle.ion_docs.specs.ConversionLaws.{keeps_if}
+use Rattle.ion_docs.specs.laws.Conversion.{keeps_if}
 use Rattle.ion_docs.proofs.documents.convert.Goals as goal
 
 pub returns-in_ok-encoder-in-Binary-clause-same : goal.returns-in_ok-encoder-in-Binary-clause-same

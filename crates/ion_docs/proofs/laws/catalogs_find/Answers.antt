@@ -3,7 +3,7 @@ use Rattle.ion_model.specs.declared.value.Value.{Value}
 use Rattle.ion_symtab.specs.Shared.{shared_table}
 use Rattle.ion_symtab.specs.Tables.{Table}
 use Rattle.ion_symtab.specs.declared.limits.Limits.{Limits}
-use Rattle.ion_docs.specs.DocLaws.{one_document}
+use Rattle.ion_docs.specs.laws.Documents.{one_document}
 use Rattle.ion_docs.specs.Documents.{Denotes}
 use Rattle.ion_docs.specs.Formats.{documents}
 use Rattle.ion_docs.specs.Loaded.{AreApart, IsCatalog}

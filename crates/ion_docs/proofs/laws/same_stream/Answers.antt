@@ -1,4 +1,4 @@
-use Rattle.ion_docs.specs.ConversionLaws.{written_denotes, again_denotes}
+use Rattle.ion_docs.specs.laws.Conversion.{written_denotes, again_denotes}
 use Rattle.ion_docs.proofs.laws.same_stream.Goals as goal
 
 pub returns : goal.returns

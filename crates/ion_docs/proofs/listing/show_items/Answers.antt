@@ -1,7 +1,7 @@
 use Rattle.std.proofs.Common.{◌≡◌, ◌+◌, ◌++◌, ◌∷◌, [], length-append, true, false, inl, arith, refl, ap, sym, subst, ◌∙◌, ℕ, option_to_list}
 use Rattle.ion_symtab.specs.Took.{Took, TookFront}
-use Rattle.ion_symtab.specs.TookLaws.{Took-nil, Took-trans, Took-kept, Front-all, Front-behind}
-use Rattle.ion_docs.specs.Reading.{left_of}
+use Rattle.ion_symtab.specs.laws.Took.{Took-nil, Took-trans, Took-kept, Front-all, Front-behind}
+use Rattle.ion_docs.specs.reading.Read.{left_of}
 use Rattle.ion_docs.specs.Listing.{lines_of, accepted_line, in_reading, at_refusal, at_end}
 use Rattle.std.proofs.lemmas.Result.{err_from_is_err_and}
 use Rattle.ion_docs.proofs.Pieces.{between_nil}

@@ -1,7 +1,7 @@
 use Rattle.std.proofs.Common.{◌≡◌, ◌+◌, ◌*◌, ◌≤◌, ◌^◌, List, length}
 use Rattle.ion_symtab.specs.Took.{Took}
 use Rattle.ion_model.specs.declared.value.Value.{Value}
-use Rattle.ion_docs.specs.Reading.{IsReady, IsWithin, work, Reads}
+use Rattle.ion_docs.specs.reading.Read.{IsReady, IsWithin, work, Reads}
 use Rattle.ion_docs.specs.Listing.{lines_of}
 use Rattle.ion_docs.proofs.listing.show_items.Given as goal
 

@@ -6,7 +6,7 @@ use Rattle.ion_symtab.specs.declared.limits.Limits.{Limits}
 use Rattle.ion_symtab.specs.Heard.{Heard}
 use Rattle.ion_symtab.specs.Cause.{WereMade}
 use Rattle.ion_docs.specs.Formats.{format_of}
-use Rattle.ion_docs.specs.Reading.{left_of, GaveEach, ReadsEach}
+use Rattle.ion_docs.specs.reading.Read.{left_of, GaveEach, ReadsEach}
 use Rattle.ion_docs.specs.Outcomes.{ToldRefusedEach}
 use Rattle.ion_docs.proofs.Pieces.{between_nil, begins_any}
 use Rattle.ion_docs.proofs.Steps.{gave_so_far, reads_went, reads_kept, reads_failed, reads_on, last_for, on_err}

@@ -24,7 +24,7 @@ returns-in_err-place-clause-cause g c =
 
 pub returns-in-Ended-clause-stream : goal.returns-in-Ended-clause-stream
 returns-in-Ended-clause-stream g c =
-    rw c.in_ok-put_next.ensures.more (rw c.in-Ended.is at (c.in_ok-place.ensures.gives _ _ _ c.loop-values.values.items c.loop-values.invariant.reads))
+    rw c.in_ok-keep_next.ensures.more (rw c.in-Ended.is at (c.in_ok-place.ensures.gives _ _ _ c.loop-values.values.items c.loop-values.invariant.reads))
 
 pub returns-in-Refused-clause-stream : goal.returns-in-Refused-clause-stream
 returns-in-Refused-clause-stream g c =
@@ -36,5 +36,5 @@ loop-values-preserved g c =
     record {
       ready = rw c.in-Open.is at c.in_ok-place.ensures.ready;
       within = rw c.in-Open.is at (c.in_ok-place.ensures.within c.args.reader.now c.args.reads i.within);
-      reads = rw c.in_ok-put_next.ensures.more (rw c.in-Open.is at (c.in_ok-place.ensures.gives _ _ _ c.loop-values.values.items i.reads));
+      reads = rw c.in_ok-keep_next.ensures.more (rw c.in-Open.is at (c.in_ok-place.ensures.gives _ _ _ c.loop-values.values.items i.reads));
     }

@@ -1,4 +1,4 @@
-use Rattle.ion_docs.specs.Reading.{IsReady, IsWithin, work, Reads}
+use Rattle.ion_docs.specs.reading.Read.{IsReady, IsWithin, work, Reads}
 use Rattle.ion_docs.proofs.whole.read_items.Given as goal
 
 abbrev pub invariant-loop-values : goal.invariant-loop-values

@@ -1,7 +1,7 @@
 use Rattle.std.proofs.Common.{◌∙◌, arith, rules}
 use Rattle.ion_model.specs.Order.{order, field_cmp}
 use Rattle.ion_model.specs.declared.value.Payload.TheViews.{out-Payload}
-use Rattle.ion_model.specs.OrderLaws.{order-is, prefix_first}
+use Rattle.ion_model.specs.laws.Order.{order-is, prefix_first}
 use Rattle.ion_model.proofs.Heads.{heads_decide}
 use Rattle.ion_model.proofs.compare.+order.Goals as goal
 

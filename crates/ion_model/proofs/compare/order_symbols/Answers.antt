@@ -1,6 +1,6 @@
 use Rattle.std.proofs.Common.{◌∙◌}
 use Rattle.ion_model.specs.Symbols.{symbol_cmp}
-use Rattle.ion_model.specs.OrderLaws.{prefix_first}
+use Rattle.ion_model.specs.laws.Order.{prefix_first}
 use Rattle.ion_model.proofs.compare.order_symbols.Goals as goal
 
 pub returns-then-a-b : goal.returns-then-a-b

@@ -1,5 +1,5 @@
 use Rattle.std.proofs.Common.{sym, ◌∙◌}
-use Rattle.ion_model.specs.EquivLaws.{same-equiv}
+use Rattle.ion_model.specs.laws.Equivalence.{same-equiv}
 use Rattle.ion_model.proofs.laws.equivalence.Goals as goal
 
 pub returns-clause-reflexive : goal.returns-clause-reflexive

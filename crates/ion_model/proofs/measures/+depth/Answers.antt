@@ -1,5 +1,5 @@
 use Rattle.std.proofs.Common.{arith, rules}
-use Rattle.ion_model.specs.MeasureLaws.{depth-out, depth-at-List, depth-at-Sexp, depth-at-Fields}
+use Rattle.ion_model.specs.laws.Measures.{depth-out, depth-at-List, depth-at-Sexp, depth-at-Fields}
 use Rattle.ion_model.proofs.measures.+depth.Goals as goal
 
 pub value_depth-returns-in-List : goal.value_depth-returns-in-List

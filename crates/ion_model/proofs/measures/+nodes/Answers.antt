@@ -1,5 +1,5 @@
 use Rattle.std.proofs.Common.{arith, rules}
-use Rattle.ion_model.specs.MeasureLaws.{nodes-out, nodes-at-List, nodes-at-Sexp, nodes-at-Fields}
+use Rattle.ion_model.specs.laws.Measures.{nodes-out, nodes-at-List, nodes-at-Sexp, nodes-at-Fields}
 use Rattle.ion_model.proofs.measures.+nodes.Goals as goal
 
 pub value_nodes-returns-in-List : goal.value_nodes-returns-in-List

@@ -6,9 +6,9 @@ use Rattle.ion_model.specs.Measures.{depth}
 use Rattle.ion_model.specs.Same.{same, field_same}
 use Rattle.ion_model.specs.Normal.{IsNormal}
 use Rattle.ion_model.specs.declared.value.Payload.TheViews.{roll-Field}
-use Rattle.ion_model.specs.Counts.{both}
-use Rattle.ion_model.specs.MeasureLaws.{depth-at, greatest-at}
-use Rattle.ion_model.specs.EquivLaws.{same-equiv, field_same-equiv, symbol_same-equiv}
+use Rattle.ion_model.specs.laws.Counts.{both}
+use Rattle.ion_model.specs.laws.Measures.{depth-at, greatest-at}
+use Rattle.ion_model.specs.laws.Equivalence.{same-equiv, field_same-equiv, symbol_same-equiv}
 use Rattle.ion_model.proofs.NormalLaws.{normal_from, same_with, fields_moved, walked, later_more, done_more, always_ok}
 use Rattle.ion_model.proofs.normal.+tidy.Goals as goal
 

@@ -6,7 +6,7 @@ use Rattle.ion_model.specs.Normal.{IsNormal}
 use Rattle.ion_model.specs.declared.value.Value.{Value}
 use Rattle.ion_model.specs.declared.value.Field.{Field}
 use Rattle.ion_model.specs.declared.value.Payload.TheViews.{out-Payload}
-use Rattle.ion_model.specs.MeasureLaws.{layer_depth}
+use Rattle.ion_model.specs.laws.Measures.{layer_depth}
 use Rattle.ion_model.proofs.normal.+tidy.Given as goal
 
 abbrev pub decreases-tidy : goal.decreases-tidy

@@ -4,9 +4,9 @@ use Rattle.ion_model.specs.declared.path.Part.TheVariants as parts
 use Rattle.ion_model.specs.declared.value.Field.{Field}
 use Rattle.ion_model.specs.declared.value.Payload.TheViews.{out-Payload}
 use Rattle.ion_model.specs.Measures.{depth, greatest}
-use Rattle.ion_model.specs.MeasureLaws.{greatest-at, depth-at-List, depth-at-Sexp, depth-at-Fields}
+use Rattle.ion_model.specs.laws.Measures.{greatest-at, depth-at-List, depth-at-Sexp, depth-at-Fields}
 use Rattle.ion_model.specs.Parting.{IsPath, LeastParting, once_named}
-use Rattle.ion_model.specs.PartingSteps.{AgreeTo}
+use Rattle.ion_model.specs.laws.PartingSteps.{AgreeTo}
 use Rattle.ion_model.specs.Same.{same, fields_same}
 use Rattle.ion_model.specs.Symbols.{symbol_same}
 use Rattle.ion_model.proofs.PartingLaws.{both_hold, ends_here, list_parts, sexp_parts, struct_parts, differ_at, one_ends, once_parts, once_deep}

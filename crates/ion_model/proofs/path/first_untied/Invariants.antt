@@ -1,5 +1,5 @@
 use Rattle.std.proofs.Common.{◌≡◌, ◌≤◌, length, drop}
-use Rattle.ion_model.specs.PartingSteps.{first_untied}
+use Rattle.ion_model.specs.laws.PartingSteps.{first_untied}
 use Rattle.ion_model.proofs.path.first_untied.Given as goal
 
 abbrev pub invariant-loop-i : goal.invariant-loop-i

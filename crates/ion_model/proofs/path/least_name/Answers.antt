@@ -2,7 +2,7 @@ use Rattle.std.proofs.Common.{◌≡◌, MatchOption, None, Some, Option, List, 
 use Rattle.ion_model.specs.declared.value.Field.{Field}
 use Rattle.ion_model.specs.Normal.{AreNormalOf}
 use Rattle.ion_model.specs.Parting.{LeastParting}
-use Rattle.ion_model.specs.PartingSteps.{first_untied}
+use Rattle.ion_model.specs.laws.PartingSteps.{first_untied}
 use Rattle.ion_model.specs.Same.{same, fields_same}
 use Rattle.ion_model.proofs.PartingLeast.{least-name}
 use Rattle.ion_model.proofs.path.least_name.Goals as goal

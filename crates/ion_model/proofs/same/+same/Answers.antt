@@ -1,8 +1,8 @@
 use Rattle.std.proofs.Common.{◌≡◌, ◌<◌, suc, map, length, arith, ap, sym, ◌∙◌}
 use Rattle.ion_model.specs.Measures.{depth, greatest}
 use Rattle.ion_model.specs.Same.{same}
-use Rattle.ion_model.specs.MeasureLaws.{greatest-at, depth-at-List, depth-at-Sexp, depth-at-Fields}
-use Rattle.ion_model.specs.SameLaws.{same-is, counts_agree_fails, counts_agree_more}
+use Rattle.ion_model.specs.laws.Measures.{greatest-at, depth-at-List, depth-at-Sexp, depth-at-Fields}
+use Rattle.ion_model.specs.laws.Same.{same-is, counts_agree_fails, counts_agree_more}
 use Rattle.ion_model.proofs.same.+same.Goals as goal
 
 pub same_items-same_value-requires : goal.same_items-same_value-requires

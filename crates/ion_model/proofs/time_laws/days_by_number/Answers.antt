@@ -1,4 +1,4 @@
-use Rattle.ion_model.specs.CalendarLaws.{first-le, le-last, day_number-injective}
+use Rattle.ion_model.specs.laws.Calendar.{first-le, le-last, day_number-injective}
 use Rattle.ion_model.proofs.time_laws.days_by_number.Goals as goal
 
 pub returns-clause-first : goal.returns-clause-first

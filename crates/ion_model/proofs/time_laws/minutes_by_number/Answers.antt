@@ -1,4 +1,4 @@
-use Rattle.ion_model.specs.CalendarLaws.{minute-in_years, minute_number-injective}
+use Rattle.ion_model.specs.laws.Calendar.{minute-in_years, minute_number-injective}
 use Rattle.ion_model.proofs.time_laws.minutes_by_number.Goals as goal
 
 pub returns-clause-within : goal.returns-clause-within

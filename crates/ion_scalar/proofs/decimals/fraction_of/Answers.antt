@@ -1,6 +1,6 @@
 use Rattle.std.proofs.Common.{take}
 use Rattle.std.proofs.lemmas.List.{take_rest}
-use Rattle.ion_scalar.specs.Tails.{fraction_is, no_fraction}
+use Rattle.ion_scalar.specs.text.laws.DecimalTails.{fraction_is, no_fraction}
 use Rattle.ion_scalar.proofs.decimals.fraction_of.Goals as goal
 
 pub returns-in-Some-clause-some : goal.returns-in-Some-clause-some

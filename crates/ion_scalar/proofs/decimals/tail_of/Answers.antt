@@ -1,5 +1,5 @@
 use Rattle.std.proofs.lemmas.List.{take_rest}
-use Rattle.ion_scalar.specs.Tails.{no_tail, no_tail_pointed}
+use Rattle.ion_scalar.specs.text.laws.DecimalTails.{no_tail, no_tail_pointed}
 use Rattle.ion_scalar.proofs.decimals.tail_of.Goals as goal
 
 pub returns-in-None-clause-none : goal.returns-in-None-clause-none

@@ -1,5 +1,5 @@
 use Rattle.std.proofs.Common.{arith}
-use Rattle.ion_scalar.specs.Bodies.{one_whole, no_zero_first}
+use Rattle.ion_scalar.specs.text.laws.DecimalCuts.{one_whole, no_zero_first}
 use Rattle.ion_scalar.proofs.decimals.whole_of.Goals as goal
 
 pub returns-clause-only : goal.returns-clause-only

@@ -1,7 +1,7 @@
 use Rattle.std.proofs.Common.{ℕ, inl, inr, drop, subst, arith}
 use Rattle.std.proofs.lemmas.Bool.{false≢true}
-use Rattle.ion_scalar.specs.Tokens.{BeginsWithNone}
-use Rattle.ion_scalar.specs.OneRun.{all_used, none_begins}
+use Rattle.ion_scalar.specs.text.Ints.{BeginsWithNone}
+use Rattle.ion_scalar.specs.text.laws.OneRun.{all_used, none_begins}
 use Rattle.ion_scalar.proofs.digits.all_digits.Goals as goal
 
 pub returns-then-digits-octets-clause-digits : goal.returns-then-digits-octets-clause-digits

@@ -1,6 +1,6 @@
 use Rattle.std.proofs.Common.{ℕ, ◌<◌, ◌≤◌, inl, inr, refl, arith}
 use Rattle.std.proofs.lemmas.Bool.{cases_lt}
-use Rattle.ion_scalar.specs.Runs.{run_step, run_end, Run_more}
+use Rattle.ion_scalar.specs.text.laws.DigitRuns.{run_step, run_end, Run_more}
 use Rattle.ion_scalar.proofs.digits.digits_at.Goals as goal
 use Rattle.ion_scalar.proofs.digits.digits_at.Goals.{else-at-octets-via-then-at-octets+else-octets-at-eq95, else-at-octets-via-else-at-octets}
 

@@ -1,4 +1,4 @@
-use Rattle.ion_scalar.specs.DecimalLaws.{decimal_read}
+use Rattle.ion_scalar.specs.binary.laws.Decimal.{decimal_read}
 use Rattle.ion_scalar.proofs.laws.decimal_is_read.Goals as goal
 
 pub returns : goal.returns

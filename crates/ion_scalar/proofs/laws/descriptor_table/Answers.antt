@@ -1,4 +1,4 @@
-use Rattle.ion_scalar.specs.RowLaws.{table}
+use Rattle.ion_scalar.specs.binary.laws.Descriptor.{table}
 use Rattle.ion_scalar.proofs.laws.descriptor_table.Goals as goal
 
 pub returns : goal.returns

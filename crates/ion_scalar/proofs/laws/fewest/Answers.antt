@@ -1,4 +1,4 @@
-use Rattle.ion_scalar.specs.FewestLaws.{var_uint_fewest, var_int_fewest, uint_fewest, int_fewest}
+use Rattle.ion_scalar.specs.binary.laws.Fewest.{var_uint_fewest, var_int_fewest, uint_fewest, int_fewest}
 use Rattle.ion_scalar.proofs.laws.fewest.Goals as goal
 
 pub returns : goal.returns

@@ -1,4 +1,4 @@
-use Rattle.ion_scalar.specs.ShiftedLaws.{moved_is, moved_out}
+use Rattle.ion_scalar.specs.binary.laws.Shifted.{moved_is, moved_out}
 use Rattle.ion_scalar.proofs.laws.moved_by_number.Goals as goal
 
 pub returns-clause-number : goal.returns-clause-number

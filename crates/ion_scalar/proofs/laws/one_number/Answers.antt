@@ -1,4 +1,4 @@
-use Rattle.ion_scalar.specs.OneNumber.{one_number, number_no_float}
+use Rattle.ion_scalar.specs.text.laws.OneNumber.{one_number, number_no_float}
 use Rattle.ion_scalar.proofs.laws.one_number.Goals as goal
 
 pub returns-clause-one : goal.returns-clause-one

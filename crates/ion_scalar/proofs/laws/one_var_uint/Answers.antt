@@ -1,4 +1,4 @@
-use Rattle.ion_scalar.specs.VarUIntLaws.{one_var_uint}
+use Rattle.ion_scalar.specs.binary.laws.VarUInt.{one_var_uint}
 use Rattle.ion_scalar.proofs.laws.one_var_uint.Goals as goal
 
 pub returns : goal.returns

@@ -1,5 +1,5 @@
-use Rattle.ion_scalar.specs.TextLaws.{int_reads, decimal_reads}
-use Rattle.ion_scalar.specs.TimeTextLaws.{timestamp_reads}
+use Rattle.ion_scalar.specs.text.laws.Texts.{int_reads, decimal_reads}
+use Rattle.ion_scalar.specs.text.laws.TimestampTexts.{timestamp_reads}
 use Rattle.ion_scalar.proofs.laws.text_is_read.Goals as goal
 
 pub returns : goal.returns

@@ -1,4 +1,4 @@
-use Rattle.ion_scalar.specs.OneNumber.{stamp_answer}
+use Rattle.ion_scalar.specs.text.laws.OneNumber.{stamp_answer}
 use Rattle.ion_scalar.proofs.number.answer_of.Goals as goal
 
 pub returns-in-Err-Malformed : goal.returns-in-Err-Malformed

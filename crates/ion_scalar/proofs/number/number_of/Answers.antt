@@ -1,4 +1,4 @@
-use Rattle.ion_scalar.specs.OneNumber.{one_answer}
+use Rattle.ion_scalar.specs.text.laws.OneNumber.{one_answer}
 use Rattle.ion_scalar.proofs.number.number_of.Goals as goal
 
 pub returns-clause-only : goal.returns-clause-only

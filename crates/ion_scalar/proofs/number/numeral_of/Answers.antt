@@ -1,4 +1,4 @@
-use Rattle.ion_scalar.specs.Behind.{token_answer}
+use Rattle.ion_scalar.specs.text.laws.Unsigned.{token_answer}
 use Rattle.ion_scalar.proofs.number.numeral_of.Goals as goal
 
 pub returns : goal.returns

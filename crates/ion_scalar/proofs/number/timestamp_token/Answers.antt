@@ -1,4 +1,4 @@
-use Rattle.ion_scalar.specs.Stamps.{short_parts, none_there, made}
+use Rattle.ion_scalar.specs.text.laws.TimestampForms.{short_parts, none_there, made}
 use Rattle.ion_scalar.proofs.number.timestamp_token.Goals as goal
 
 pub returns-in-Some-new : goal.returns-in-Some-new

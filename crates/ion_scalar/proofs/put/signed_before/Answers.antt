@@ -4,7 +4,7 @@ use Rattle.std.proofs.lemmas.Bool.{lt-ltb, le-ltb}
 use Rattle.std.proofs.lemmas.List.{drop-set}
 use Rattle.std.proofs.Math.Seq.{drop-cons}
 use Rattle.std.specs.Int.Digits.{digits_of}
-use Rattle.ion_scalar.specs.Spellings.{sign_bit, signed_digits}
+use Rattle.ion_scalar.specs.binary.Spellings.{sign_bit, signed_digits}
 use Rattle.ion_scalar.proofs.Places.{filled}
 use Rattle.ion_scalar.proofs.put.signed_before.Goals as goal
 use Rattle.ion_scalar.proofs.put.signed_before.Goals.{else-start-end-via-then-start-end+else-octets-start, else-start-end-via-else-start-end}

@@ -1,6 +1,6 @@
 use Rattle.std.proofs.Common.{◌≡◌, ◌∙◌, ◌∷◌, ◌++◌, ◌/◌, ◌%◌, [], List, ℕ, drop, ap, arith}
 use Rattle.std.proofs.lemmas.List.{drop_all}
-use Rattle.ion_scalar.specs.Texts.{two_digits}
+use Rattle.ion_scalar.specs.text.Texts.{two_digits}
 use Rattle.ion_scalar.proofs.text.clock_before.Goals as goal
 
 pub returns-clause-text : goal.returns-clause-text

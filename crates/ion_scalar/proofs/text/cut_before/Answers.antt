@@ -1,6 +1,6 @@
 use Rattle.std.proofs.Common.{◌≡◌, [], drop, arith}
 use Rattle.std.proofs.lemmas.List.{drop_all}
-use Rattle.ion_scalar.specs.TimeTextLaws.{year_end, month_end, day_end}
+use Rattle.ion_scalar.specs.text.laws.TimestampTexts.{year_end, month_end, day_end}
 use Rattle.ion_scalar.proofs.text.cut_before.Goals as goal
 
 pub returns-in-Year-clause-text : goal.returns-in-Year-clause-text

@@ -1,8 +1,8 @@
 use Rattle.std.proofs.Common.{◌≡◌, ◌++◌, drop, arith}
 use Rattle.std.specs.Fmt.{decimal, signed_decimal}
 use Rattle.std.proofs.lemmas.List.{drop_all}
-use Rattle.ion_scalar.specs.Tokens.{minus}
-use Rattle.ion_scalar.specs.TextLaws.{decimal_reads, signed_end, decimal_end, power_parts}
+use Rattle.ion_scalar.specs.text.Ints.{minus}
+use Rattle.ion_scalar.specs.text.laws.Texts.{decimal_reads, signed_end, decimal_end, power_parts}
 use Rattle.ion_scalar.proofs.text.decimal_before.Goals as goal
 
 pub returns-clause-text : goal.returns-clause-text

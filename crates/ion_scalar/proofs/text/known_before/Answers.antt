@@ -1,5 +1,5 @@
 use Rattle.std.proofs.Common.{Some, refl}
-use Rattle.ion_scalar.specs.TimeTextLaws.{offset_ahead}
+use Rattle.ion_scalar.specs.text.laws.TimestampTexts.{offset_ahead}
 use Rattle.ion_scalar.proofs.text.known_before.Goals as goal
 
 pub returns-then-ahead-gt0-clause-text : goal.returns-then-ahead-gt0-clause-text

@@ -1,5 +1,5 @@
 use Rattle.std.proofs.Common.{◌≡◌, ◌∙◌, ◌+◌, ◌-◌, suc, drop, arith}
-use Rattle.ion_scalar.specs.TimeTextLaws.{padded_step}
+use Rattle.ion_scalar.specs.text.laws.TimestampTexts.{padded_step}
 use Rattle.ion_scalar.proofs.text.padded_before.Goals as goal
 
 pub loop-preserved : goal.loop-preserved

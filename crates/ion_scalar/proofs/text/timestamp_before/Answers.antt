@@ -1,4 +1,4 @@
-use Rattle.ion_scalar.specs.TimeTextLaws.{timestamp_reads}
+use Rattle.ion_scalar.specs.text.laws.TimestampTexts.{timestamp_reads}
 use Rattle.ion_scalar.proofs.text.timestamp_before.Goals as goal
 
 pub returns-clause-again : goal.returns-clause-again

@@ -1,5 +1,5 @@
 use Rattle.std.proofs.Common.{sym}
-use Rattle.ion_scalar.specs.TimestampLaws.{fields_told, fields_are}
+use Rattle.ion_scalar.specs.binary.laws.Timestamp.{fields_told, fields_are}
 use Rattle.ion_scalar.proofs.timestamp_body.with_offset.Goals as goal
 
 pub show-requires-clause-utc : goal.show-requires-clause-utc

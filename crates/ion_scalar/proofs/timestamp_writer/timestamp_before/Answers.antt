@@ -1,6 +1,6 @@
 use Rattle.std.proofs.Common.{◌≡◌, [], drop, arith}
 use Rattle.std.proofs.lemmas.List.{drop_all}
-use Rattle.ion_scalar.specs.TimestampSpellingLaws.{octets_are, timestamp_again}
+use Rattle.ion_scalar.specs.binary.laws.TimestampSpellings.{octets_are, timestamp_again}
 use Rattle.ion_scalar.proofs.timestamp_writer.timestamp_before.Goals as goal
 
 pub returns-clause-octets : goal.returns-clause-octets

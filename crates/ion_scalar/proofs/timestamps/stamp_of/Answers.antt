@@ -1,5 +1,5 @@
-use Rattle.ion_scalar.specs.Timestamps.{year, month, day}
-use Rattle.ion_scalar.specs.Stamps.{shown_by}
+use Rattle.ion_scalar.specs.text.Timestamps.{year, month, day}
+use Rattle.ion_scalar.specs.text.laws.TimestampForms.{shown_by}
 use Rattle.ion_scalar.proofs.timestamps.stamp_of.Goals as goal
 
 pub returns-in-5-clause-some : goal.returns-in-5-clause-some

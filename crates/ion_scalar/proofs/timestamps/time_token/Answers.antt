@@ -1,7 +1,7 @@
 use Rattle.std.proofs.lemmas.Bool.{false≢true}
 use Rattle.std.proofs.Common.{refl}
 use Rattle.std.proofs.lemmas.List.{take_rest}
-use Rattle.ion_scalar.specs.Stamps.{minute_some, second_some, fraction_some, none_some, none_map, no_minute, no_second_digits, no_second, no_fraction_end}
+use Rattle.ion_scalar.specs.text.laws.TimestampForms.{minute_some, second_some, fraction_some, none_some, none_map, no_minute, no_second_digits, no_second, no_fraction_end}
 use Rattle.ion_scalar.proofs.timestamps.time_token.Goals as goal
 
 pub returns-then-not-is_at-clause-some : goal.returns-then-not-is_at-clause-some

@@ -1,4 +1,4 @@
-use Rattle.ion_symtab.specs.ContextLaws.{next_follows, next_begins}
+use Rattle.ion_symtab.specs.laws.Contexts.{next_follows, next_begins}
 use Rattle.ion_symtab.proofs.laws.behind_a_table.Goals as goal
 
 pub returns : goal.returns

@@ -1,4 +1,4 @@
-use Rattle.ion_symtab.specs.TableLaws.{find_is, find_some}
+use Rattle.ion_symtab.specs.laws.Tables.{find_is, find_some}
 use Rattle.ion_symtab.proofs.laws.exact.Goals as goal
 
 pub returns : goal.returns

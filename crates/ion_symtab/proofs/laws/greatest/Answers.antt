@@ -1,4 +1,4 @@
-use Rattle.ion_symtab.specs.TableLaws.{newest_is, newest_greatest}
+use Rattle.ion_symtab.specs.laws.Tables.{newest_is, newest_greatest}
 use Rattle.ion_symtab.proofs.laws.greatest.Goals as goal
 
 pub returns : goal.returns

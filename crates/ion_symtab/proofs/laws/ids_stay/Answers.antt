@@ -1,4 +1,4 @@
-use Rattle.ion_symtab.specs.ContextLaws.{resolve_stays}
+use Rattle.ion_symtab.specs.laws.Contexts.{resolve_stays}
 use Rattle.ion_symtab.proofs.laws.ids_stay.Goals as goal
 
 pub returns : goal.returns

@@ -1,5 +1,5 @@
 use Rattle.std.proofs.Common.{subst}
-use Rattle.ion_symtab.specs.ContextTexts.{TextAnswer, system_texts, resolved_text, next_texts}
+use Rattle.ion_symtab.specs.laws.ContextTexts.{TextAnswer, system_texts, resolved_text, next_texts}
 use Rattle.ion_symtab.proofs.laws.texts_stay.Goals as goal
 
 pub returns : goal.returns

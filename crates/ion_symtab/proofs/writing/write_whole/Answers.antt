@@ -1,5 +1,5 @@
 use Rattle.std.proofs.Common.{length-take, length-drop, arith, refl, ◌∙◌}
-use Rattle.ion_symtab.specs.TookLaws.{Took-nil, Took-kept, Took-more}
+use Rattle.ion_symtab.specs.laws.Took.{Took-nil, Took-kept, Took-more}
 use Rattle.ion_symtab.proofs.writing.write_whole.Goals as goal
 
 pub loop-at-init : goal.loop-at-init

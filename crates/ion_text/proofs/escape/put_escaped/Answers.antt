@@ -1,4 +1,4 @@
-use Rattle.ion_text.specs.RawRuns.{raw_goes, octet_goes}
+use Rattle.ion_text.specs.laws.writing.RawRuns.{raw_goes, octet_goes}
 use Rattle.ion_text.proofs.escape.put_escaped.Goals as goal
 
 pub loop-rest-preserved-in-Some : goal.loop-rest-preserved-in-Some

@@ -1,5 +1,5 @@
 use Rattle.std.proofs.Common.{◌≤◌, ◌-◌, take, length}
-use Rattle.ion_text.specs.RawRuns.{AreRaw}
+use Rattle.ion_text.specs.laws.writing.RawRuns.{AreRaw}
 use Rattle.ion_text.proofs.escape.raw_front.Given as goal
 
 abbrev pub invariant-loop-count : goal.invariant-loop-count

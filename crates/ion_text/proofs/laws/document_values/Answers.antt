@@ -1,4 +1,4 @@
-use Rattle.ion_text.specs.ValuesKept.{document_kept, document_values}
+use Rattle.ion_text.specs.laws.reading.ValuesKept.{document_kept, document_values}
 use Rattle.ion_text.proofs.laws.document_values.Goals as goal
 
 pub returns : goal.returns

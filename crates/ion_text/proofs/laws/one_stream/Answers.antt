@@ -1,4 +1,4 @@
-use Rattle.ion_text.specs.Laws.{one_stream}
+use Rattle.ion_text.specs.laws.reading.Promises.{one_stream}
 use Rattle.ion_text.proofs.laws.one_stream.Goals as goal
 
 pub returns : goal.returns

@@ -1,4 +1,4 @@
-use Rattle.ion_text.specs.Laws.{exact}
+use Rattle.ion_text.specs.laws.reading.Promises.{exact}
 use Rattle.ion_text.proofs.laws.reading_is_exact.Goals as goal
 
 pub returns : goal.returns

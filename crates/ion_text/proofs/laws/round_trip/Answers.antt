@@ -1,5 +1,5 @@
-use Rattle.ion_text.specs.RoundTrip.{round_trip}
-use Rattle.ion_text.specs.ValuesKept.{written_again}
+use Rattle.ion_text.specs.laws.writing.RoundTrip.{round_trip}
+use Rattle.ion_text.specs.laws.reading.ValuesKept.{written_again}
 use Rattle.ion_text.proofs.laws.round_trip.Goals as goal
 
 pub returns : goal.returns

@@ -1,4 +1,4 @@
-use Rattle.ion_tokens.specs.Numerals.{number_without_slash}
+use Rattle.ion_tokens.specs.laws.Numerals.{number_without_slash}
 use Rattle.ion_tokens.proofs.body.body_of.Goals as goal
 
 pub returns-in_ok-number_of-in-Number-clause-passes : goal.returns-in_ok-number_of-in-Number-clause-passes

@@ -1,7 +1,7 @@
 use Rattle.std.proofs.Common.{take, ap, sym, ◌∙◌}
 use Rattle.std.specs.Prelude.{◌&&◌}
 use Rattle.std.specs.List.{list_all}
-use Rattle.ion_tokens.specs.Fronts.{is_between}
+use Rattle.ion_tokens.specs.machine.AtOnce.{is_between}
 use Rattle.ion_tokens.proofs.Blocks.{all_more}
 use Rattle.ion_tokens.proofs.front.all_between.Goals as goal
 

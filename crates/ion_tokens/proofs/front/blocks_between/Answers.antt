@@ -1,6 +1,6 @@
 use Rattle.std.proofs.Common.{◌≡◌, ◌+◌, ◌-◌, ℕ, true, take, drop, subst, sym, ◌∙◌, arith}
 use Rattle.std.specs.List.{list_all}
-use Rattle.ion_tokens.specs.Fronts.{is_between}
+use Rattle.ion_tokens.specs.machine.AtOnce.{is_between}
 use Rattle.ion_tokens.proofs.Blocks.{all_further}
 use Rattle.ion_tokens.proofs.front.blocks_between.Goals as goal
 

@@ -1,6 +1,6 @@
 use Rattle.std.proofs.Common.{◌≡◌, ◌≤◌, ◌-◌, length, take, true}
 use Rattle.std.specs.List.{list_all}
-use Rattle.ion_tokens.specs.Fronts.{is_between}
+use Rattle.ion_tokens.specs.machine.AtOnce.{is_between}
 use Rattle.ion_tokens.proofs.front.blocks_between.Given as goal
 
 abbrev pub invariant-loop-at : goal.invariant-loop-at

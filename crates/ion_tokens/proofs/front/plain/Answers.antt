@@ -1,5 +1,5 @@
 use Rattle.std.proofs.Common.{◌+◌}
-use Rattle.ion_tokens.specs.Fronts.{is_between}
+use Rattle.ion_tokens.specs.machine.AtOnce.{is_between}
 use Rattle.ion_tokens.proofs.Blocks.{blocks_then, plain_front}
 use Rattle.ion_tokens.proofs.front.plain.Goals as goal
 

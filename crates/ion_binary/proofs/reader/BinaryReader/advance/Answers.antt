@@ -1,8 +1,8 @@
 use Rattle.std.proofs.Common.{rules, ◌-◌, ◌+◌, Ok, Option, length, take, drop, arith, ap, sym, subst, refl}
 use Rattle.ion_model.specs.declared.value.Value.{Value}
 use Rattle.ion_binary.specs.declared.state.Effect.{Effect}
-use Rattle.ion_binary.specs.Run.{run, Advances}
-use Rattle.ion_binary.specs.Views.{machine_of, Reached}
+use Rattle.ion_binary.specs.machine.Run.{run, Advances}
+use Rattle.ion_binary.specs.machine.Views.{machine_of, Reached}
 use Rattle.ion_binary.proofs.Leading.{leads_by, leads_to_given, leads_to_end}
 use Rattle.ion_binary.proofs.reader.BinaryReader.advance.Goals as goal
 

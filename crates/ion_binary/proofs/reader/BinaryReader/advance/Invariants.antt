@@ -1,5 +1,5 @@
 use Rattle.std.proofs.Common.{◌≡◌, ◌+◌, ◌-◌, ◌≤◌, length}
-use Rattle.ion_binary.specs.Views.{machine_of, SameSetting}
+use Rattle.ion_binary.specs.machine.Views.{machine_of, SameSetting}
 use Rattle.ion_binary.proofs.Leading.{Leads}
 use Rattle.ion_binary.proofs.reader.BinaryReader.advance.Given as goal
 

@@ -1,6 +1,6 @@
 use Rattle.std.proofs.Common.{◌≡◌, length}
-use Rattle.ion_binary.specs.Machine.{deliver}
-use Rattle.ion_binary.specs.Views.{open_frames, SameSetting}
+use Rattle.ion_binary.specs.machine.EachOctet.{deliver}
+use Rattle.ion_binary.specs.machine.Views.{open_frames, SameSetting}
 use Rattle.ion_binary.proofs.reader.BinaryReader.deliver.Given as goal
 
 -- What is left to do gives what the whole was to give.

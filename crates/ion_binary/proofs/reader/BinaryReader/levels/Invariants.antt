@@ -1,5 +1,5 @@
 use Rattle.std.proofs.Common.{◌≡◌, ◌≤◌, reverse, take}
-use Rattle.ion_binary.specs.Machine.{levels}
+use Rattle.ion_binary.specs.machine.EachOctet.{levels}
 use Rattle.ion_binary.proofs.reader.BinaryReader.levels.Given as goal
 
 abbrev pub invariant-loop-frame : goal.invariant-loop-frame

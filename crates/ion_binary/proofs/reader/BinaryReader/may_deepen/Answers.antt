@@ -1,7 +1,7 @@
 use Rattle.std.proofs.Common.{arith, sym, lt-ltb}
 use Rattle.std.proofs.lemmas.List.{length-reverse}
-use Rattle.ion_binary.specs.Machine.{levels}
-use Rattle.ion_binary.specs.Views.{open_frames}
+use Rattle.ion_binary.specs.machine.EachOctet.{levels}
+use Rattle.ion_binary.specs.machine.Views.{open_frames}
 use Rattle.ion_binary.proofs.Levels.{levels_few}
 use Rattle.ion_binary.proofs.reader.BinaryReader.may_deepen.Goals as goal
 

@@ -1,7 +1,7 @@
 use Rattle.std.proofs.Common.{◌+◌, ◌-◌, ◌∙◌, ap, sym, arith}
-use Rattle.ion_binary.specs.Machine.{in_body}
-use Rattle.ion_binary.specs.Runs.{led}
-use Rattle.ion_binary.specs.Views.{open_frames}
+use Rattle.ion_binary.specs.machine.EachOctet.{in_body}
+use Rattle.ion_binary.specs.machine.Pieces.{led}
+use Rattle.ion_binary.specs.machine.Views.{open_frames}
 use Rattle.ion_binary.proofs.Insides.{body_led}
 use Rattle.ion_binary.proofs.reader.BinaryReader.take_body.Goals as goal
 

@@ -1,5 +1,5 @@
 use Rattle.std.proofs.Common.{arith}
-use Rattle.ion_binary.specs.Views.{open_frames}
+use Rattle.ion_binary.specs.machine.Views.{open_frames}
 use Rattle.ion_binary.proofs.Insides.{pad_led}
 use Rattle.ion_binary.proofs.reader.BinaryReader.take_pad.Goals as goal
 

@@ -1,11 +1,11 @@
 use Rattle.std.proofs.Common.{◌≡◌, ℕ, ◌+◌, ◌++◌, ◌∙◌, [], length, take, Ok, Err, ap, sym, subst, arith}
 use Rattle.std.proofs.lemmas.List.{length-take-le}
 use Rattle.std.proofs.lemmas.Result.{err_from_is_err_and}
-use Rattle.ion_binary.specs.Judge.{judge}
-use Rattle.ion_binary.specs.Machine.{judged}
-use Rattle.ion_binary.specs.Run.{run}
-use Rattle.ion_binary.specs.Runs.{after}
-use Rattle.ion_binary.specs.Views.{machine_of, open_frames, run_of, delivers, Does}
+use Rattle.ion_binary.specs.machine.Judge.{judge}
+use Rattle.ion_binary.specs.machine.EachOctet.{judged}
+use Rattle.ion_binary.specs.machine.Run.{run}
+use Rattle.ion_binary.specs.machine.Pieces.{after}
+use Rattle.ion_binary.specs.machine.Views.{machine_of, open_frames, run_of, delivers, Does}
 use Rattle.ion_binary.proofs.Insides.{body_ends, reached, refused_whole}
 use Rattle.ion_binary.proofs.reader.BinaryReader.take_up.Goals as goal
 

@@ -1,7 +1,7 @@
 use Rattle.std.proofs.Common.{rules, ◌≡◌, ◌+◌, ◌≤◌, ◌<◌, ◌^◌, ℕ, length, length-take, take, None, sym, ◌∙◌, arith}
 use Rattle.ion_binary.specs.declared.form.Form.TheVariants as forms
-use Rattle.ion_binary.specs.Machine.{unfit}
-use Rattle.ion_binary.specs.Views.{open_frames}
+use Rattle.ion_binary.specs.machine.EachOctet.{unfit}
+use Rattle.ion_binary.specs.machine.Views.{open_frames}
 use Rattle.ion_model.specs.Measures.{depth}
 use Rattle.ion_binary.proofs.Walks.{outlined, walk_gives}
 use Rattle.ion_binary.proofs.reader.BinaryReader.walk.Goals as goal

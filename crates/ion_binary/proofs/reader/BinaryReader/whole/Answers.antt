@@ -2,8 +2,8 @@ use Rattle.std.proofs.Common.{rules, ◌≡◌, ◌+◌, ◌≤◌, None, arith}
 use Rattle.std.proofs.lemmas.List.{length-reverse}
 use Rattle.ion_model.specs.Measures.{depth}
 use Rattle.ion_binary.specs.declared.form.Form.TheVariants as forms
-use Rattle.ion_binary.specs.Machine.{levels, unfit}
-use Rattle.ion_binary.specs.Views.{open_frames}
+use Rattle.ion_binary.specs.machine.EachOctet.{levels, unfit}
+use Rattle.ion_binary.specs.machine.Views.{open_frames}
 use Rattle.ion_binary.proofs.Levels.{levels_few}
 use Rattle.ion_binary.proofs.Wholes.{whole_runs, whole_some}
 use Rattle.ion_binary.proofs.reader.BinaryReader.whole.Goals as goal

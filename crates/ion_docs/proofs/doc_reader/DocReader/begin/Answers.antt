@@ -1,6 +1,6 @@
 use Rattle.std.proofs.Common.{◌∙◌, true, false, refl}
-use Rattle.ion_binary.specs.Views as binary
-use Rattle.ion_text.specs.Progress as text
+use Rattle.ion_binary.specs.machine.Views as binary
+use Rattle.ion_text.specs.machine.Progress as text
 use Rattle.ion_docs.specs.declared.doc_reader.Format.TheVariants.{Binary, Text}
 use Rattle.ion_docs.proofs.Chosen.{first_stands, first_answers, first_kept, binary_at_first, other_at_first, first_used}
 use Rattle.ion_docs.proofs.doc_reader.DocReader.begin.Goals as goal

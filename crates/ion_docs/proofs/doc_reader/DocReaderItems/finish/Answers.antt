@@ -1,6 +1,6 @@
 use Rattle.std.proofs.Common.{true, false}
-use Rattle.ion_binary.specs.Views as binary
-use Rattle.ion_text.specs.Progress as text
+use Rattle.ion_binary.specs.machine.Views as binary
+use Rattle.ion_text.specs.machine.Progress as text
 use Rattle.ion_docs.specs.declared.doc_reader.Format.TheVariants.{Binary, Text}
 use Rattle.ion_docs.proofs.Chosen.{inside, forward_ends}
 use Rattle.ion_docs.proofs.doc_reader.DocReaderItems.finish.Goals as goal

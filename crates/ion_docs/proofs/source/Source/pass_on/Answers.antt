@@ -1,7 +1,7 @@
 use Rattle.std.proofs.Common.{rules, ◌≡◌, ◌≢◌, ◌∙◌, ℕ, ◌+◌, true, false, [], length, arith, ap, refl, subst}
 use Rattle.ion_model.specs.declared.refusal.Reason.TheVariants as reasons
 use Rattle.ion_symtab.specs.Cause.{WereMade}
-use Rattle.ion_docs.specs.Reading.{left_of}
+use Rattle.ion_docs.specs.reading.Read.{left_of}
 use Rattle.ion_docs.proofs.Pieces.{between_nil, begins_any, none_awaited}
 use Rattle.ion_docs.proofs.Steps.{gave_so_far, reads_kept, reads_failed, reads_on, on_err}
 use Rattle.ion_docs.proofs.Passes.{none_went, passes_on}

@@ -2,7 +2,7 @@ use Rattle.std.proofs.Common.{◌≤◌, ℕ, List}
 use Rattle.ion_model.specs.declared.value.Value.{Value}
 use Rattle.ion_symtab.specs.declared.catalog.Catalog.{Catalog}
 use Rattle.ion_symtab.specs.declared.limits.Limits.{Limits}
-use Rattle.ion_docs.specs.Reading.{IsReady, IsWithin, work, ReadsEach}
+use Rattle.ion_docs.specs.reading.Read.{IsReady, IsWithin, work, ReadsEach}
 use Rattle.ion_docs.proofs.source.Source.pass_on.Given as goal
 
 -- nothing was told yet

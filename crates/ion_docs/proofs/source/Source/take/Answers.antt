@@ -1,6 +1,6 @@
 use Rattle.std.proofs.Common.{ℕ, ◌+◌, ◌-◌, ◌≤◌, ◌++◌, length, refl, arith, length-take, length-drop}
 use Rattle.ion_docs.specs.Formats.{format_of}
-use Rattle.ion_docs.specs.Reading.{left_of}
+use Rattle.ion_docs.specs.reading.Read.{left_of}
 use Rattle.ion_docs.proofs.Pieces.{went, begins_drop}
 use Rattle.ion_docs.proofs.Endings.{refused_early}
 use Rattle.ion_docs.proofs.source.Source.take.Goals as goal

@@ -2,9 +2,9 @@ use Rattle.std.proofs.Common.{ap, subst}
 use Rattle.std.proofs.lemmas.Result.{on_err_weaker, on_ok_weaker}
 use Rattle.ion_symtab.specs.Took.{Took, TookFront}
 use Rattle.ion_binary.specs.Output.{nothing_yet, opening}
-use Rattle.ion_binary.specs.Puts.{behind}
+use Rattle.ion_binary.specs.writer.Puts.{behind}
 use Rattle.ion_binary.specs.Writing.{Writing}
-use Rattle.ion_docs.specs.EncodingLaws.{binary_ends}
+use Rattle.ion_docs.specs.laws.Encodings.{binary_ends}
 use Rattle.ion_docs.proofs.writers.BinaryWriterEncoder.finish.Goals as goal
 
 pub returns-clause-wrote : goal.returns-clause-wrote

@@ -2,9 +2,9 @@ use Rattle.std.proofs.Common.{◌∙◌, None, ap, subst}
 use Rattle.std.proofs.lemmas.Result.{IfErr-weaker, on_err_weaker, on_ok_weaker}
 use Rattle.ion_symtab.specs.Took.{Took, TookFront}
 use Rattle.ion_binary.specs.Output.{Progress, nothing_yet, adds, after}
-use Rattle.ion_binary.specs.Puts.{behind}
+use Rattle.ion_binary.specs.writer.Puts.{behind}
 use Rattle.ion_binary.specs.Writing.{Writing}
-use Rattle.ion_docs.specs.EncodingLaws.{puts_one, behind_one, binary_fault}
+use Rattle.ion_docs.specs.laws.Encodings.{puts_one, behind_one, binary_fault}
 use Rattle.ion_docs.proofs.writers.BinaryWriterEncoder.put.Goals as goal
 
 pub returns-clause-wrote : goal.returns-clause-wrote

@@ -1,7 +1,7 @@
 use Rattle.std.proofs.Common.{[], ◌∷◌, ◌++◌}
 use Rattle.std.proofs.lemmas.Result.{IfErr-weaker, on_err_weaker, on_ok_weaker}
 use Rattle.ion_text.specs.Output.{adds}
-use Rattle.ion_docs.specs.EncodingLaws.{text_one, text_fault}
+use Rattle.ion_docs.specs.laws.Encodings.{text_one, text_fault}
 use Rattle.ion_docs.proofs.writers.TextWriterEncoder.put.Goals as goal
 
 pub returns-clause-wrote : goal.returns-clause-wrote

@@ -1,6 +1,6 @@
 use Rattle.std.proofs.lemmas.Bool.{false≢true}
 use Rattle.std.proofs.lemmas.Option.{IfSome_then}
-use Rattle.ion_model.specs.CalendarLaws.{is_first, has_before, one_less}
+use Rattle.ion_model.specs.laws.Calendar.{is_first, has_before, one_less}
 use Rattle.ion_model.proofs.Options.{IfNone_then}
 use Rattle.ion_model.proofs.calendar.Date.before.Goals as goal
 

@@ -1,7 +1,7 @@
 use Rattle.std.proofs.Common.{refl, arith, FitsSigned, w16}
 use Rattle.std.proofs.lemmas.Int.{to_z-of_z}
 use Rattle.jiff.proofs.SpanFacts.{signed_arith}
-use Rattle.ion_model.specs.CalendarLaws.{first-le, le-last}
+use Rattle.ion_model.specs.laws.Calendar.{first-le, le-last}
 use Rattle.ion_model.proofs.calendar.Minute.moved.Goals as goal
 
 pub returns-clause-some : goal.returns-clause-some

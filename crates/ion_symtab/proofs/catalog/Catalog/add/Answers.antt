@@ -1,6 +1,6 @@
 use Rattle.std.proofs.Common.{◌≡◌, None, Some, [], ◌∷◌, ◌++◌, ◌&&◌, ◌==◌, cond, length, ℕ, List, sym, subst, rules}
 use Rattle.std.specs.Str.{bytes_eq}
-use Rattle.ion_symtab.specs.Places.{Indexes, newest_place, newest_of, place_of}
+use Rattle.ion_symtab.specs.kept.Places.{Indexes, newest_place, newest_of, place_of}
 use Rattle.ion_symtab.specs.Tables.{find, newest}
 use Rattle.ion_symtab.proofs.Indexing.{indexes_more}
 use Rattle.ion_symtab.proofs.catalog.Catalog.add.Goals as goal

@@ -4,7 +4,7 @@ use Rattle.std.specs.Str.{bytes_eq}
 use Rattle.std.specs.Map.{update}
 use Rattle.std.specs.String.{string_bytes}
 use Rattle.std.proofs.lemmas.Map.Text.{btree_map_updates_text}
-use Rattle.ion_symtab.specs.Places.{version_of, newest_among}
+use Rattle.ion_symtab.specs.kept.Places.{version_of, newest_among}
 use Rattle.ion_symtab.proofs.Placing.{placed, noted, places_stay, newest_stays, on_refusal}
 use Rattle.ion_symtab.proofs.places.Places.add.Goals as goal
 

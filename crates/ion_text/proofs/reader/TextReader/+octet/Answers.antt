@@ -1,9 +1,9 @@
 use Rattle.std.proofs.Common.{◌≡◌, ◌+◌, ℕ, Ok, IfOk, sym, ap, ◌∙◌, subst, arith}
-use Rattle.ion_tokens.specs.Views.{scanned}
+use Rattle.ion_tokens.specs.machine.Views.{scanned}
 use Rattle.ion_text.specs.declared.state.Effect.{Effect}
-use Rattle.ion_text.specs.Machine.{settle, refuses}
-use Rattle.ion_text.specs.Run.{with_scan}
-use Rattle.ion_text.specs.Views.{reading_of, state_of, Does, comes_again, count_of}
+use Rattle.ion_text.specs.machine.EachToken.{settle, refuses}
+use Rattle.ion_text.specs.machine.Run.{with_scan}
+use Rattle.ion_text.specs.machine.Views.{reading_of, state_of, Does, comes_again, count_of}
 use Rattle.ion_text.proofs.Octets.{one_left, again_did, late_did, goes_on_did, settles, settles_goes, settles_late, settles_gives}
 use Rattle.ion_text.proofs.reader.TextReader.+octet.Goals as goal
 

@@ -3,10 +3,10 @@ use Rattle.std.specs.Option.{is_some}
 use Rattle.ion_model.specs.declared.value.Value.{Value}
 use Rattle.ion_model.specs.declared.refusal.Refusal.{Refusal}
 use Rattle.ion_model.specs.declared.refusal.Reason.TheVariants as reasons
-use Rattle.ion_tokens.specs.Views.{scanned}
+use Rattle.ion_tokens.specs.machine.Views.{scanned}
 use Rattle.ion_text.specs.declared.state.Taken.{Taken}
-use Rattle.ion_text.specs.Views.{state_of}
-use Rattle.ion_text.specs.Progress.{Took, Advances, Stops}
+use Rattle.ion_text.specs.machine.Views.{state_of}
+use Rattle.ion_text.specs.machine.Progress.{Took, Advances, Stops}
 use Rattle.ion_text.proofs.Leading.{leads_by, leads_to_given, leads_to_refused, leads_to_left, leads_to_end, leads_to_second, begins_some, onward_where}
 use Rattle.ion_text.proofs.reader.TextReader.advance.Goals as goal
 

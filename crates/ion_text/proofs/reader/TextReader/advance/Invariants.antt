@@ -1,8 +1,8 @@
 use Rattle.std.proofs.Common.{◌≡◌, ◌+◌, ◌-◌, ◌≤◌, None, length}
 use Rattle.std.specs.Option.{is_some}
-use Rattle.ion_tokens.specs.Views.{scanned}
-use Rattle.ion_text.specs.Views.{state_of, IsFine}
-use Rattle.ion_text.specs.Progress.{SameSettings, StaysSteady}
+use Rattle.ion_tokens.specs.machine.Views.{scanned}
+use Rattle.ion_text.specs.machine.Views.{state_of, IsFine}
+use Rattle.ion_text.specs.machine.Progress.{SameSettings, StaysSteady}
 use Rattle.ion_text.proofs.Leading.{Leads}
 use Rattle.ion_text.proofs.reader.TextReader.advance.Given as goal
 

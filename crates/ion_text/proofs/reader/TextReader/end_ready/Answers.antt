@@ -1,6 +1,6 @@
 use Rattle.std.proofs.Common.{Ok, ap, ◌∙◌, subst}
-use Rattle.ion_tokens.specs.Steps.{Ends}
-use Rattle.ion_text.specs.Views.{reading_of}
+use Rattle.ion_tokens.specs.machine.Steps.{Ends}
+use Rattle.ion_text.specs.machine.Views.{reading_of}
 use Rattle.ion_text.proofs.Endings.{ready_refused, ready_token}
 use Rattle.ion_text.proofs.reader.TextReader.end_ready.Goals as goal
 

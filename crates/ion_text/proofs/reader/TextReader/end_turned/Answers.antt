@@ -1,7 +1,7 @@
 use Rattle.std.proofs.Common.{Ok, ap, subst}
 use Rattle.ion_text.specs.declared.state.Effect.{Effect}
-use Rattle.ion_text.specs.Machine.{turn}
-use Rattle.ion_text.specs.Views.{reading_of, token_in, Does}
+use Rattle.ion_text.specs.machine.EachToken.{turn}
+use Rattle.ion_text.specs.machine.Views.{reading_of, token_in, Does}
 use Rattle.ion_text.proofs.Endings.{turned_goes}
 use Rattle.ion_text.proofs.reader.TextReader.end_turned.Goals as goal
 

@@ -2,11 +2,11 @@ use Rattle.std.proofs.Common.{Ok, Option, Result, sym, subst}
 use Rattle.ion_model.specs.declared.value.Value.{Value}
 use Rattle.ion_model.specs.declared.refusal.Reason.{Reason}
 use Rattle.ion_tokens.specs.declared.token.Token.{Token}
-use Rattle.ion_tokens.specs.Steps.{Ends}
-use Rattle.ion_text.specs.Machine.{settle}
-use Rattle.ion_text.specs.Run.{end_waiting}
-use Rattle.ion_text.specs.Progress.{DidEnd}
-use Rattle.ion_text.specs.Views.{reading_of}
+use Rattle.ion_tokens.specs.machine.Steps.{Ends}
+use Rattle.ion_text.specs.machine.EachToken.{settle}
+use Rattle.ion_text.specs.machine.Run.{end_waiting}
+use Rattle.ion_text.specs.machine.Progress.{DidEnd}
+use Rattle.ion_text.specs.machine.Views.{reading_of}
 use Rattle.ion_text.proofs.Endings.{waiting_none, waiting_token, waiting_refused}
 use Rattle.ion_text.proofs.reader.TextReader.end_waiting.Goals as goal
 use Rattle.ion_text.proofs.reader.TextReader.end_waiting.Goals.{in-None, in-Some}

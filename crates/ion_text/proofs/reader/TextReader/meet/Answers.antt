@@ -1,7 +1,7 @@
 use Rattle.std.proofs.Common.{◌≡◌, None, Some, refl, ap, true, false}
-use Rattle.ion_tokens.specs.Scanning.{run}
-use Rattle.ion_tokens.specs.Views.{scanned}
-use Rattle.ion_text.specs.Views.{reading_of}
+use Rattle.ion_tokens.specs.machine.Scanning.{run}
+use Rattle.ion_tokens.specs.machine.Views.{scanned}
+use Rattle.ion_text.specs.machine.Views.{reading_of}
 use Rattle.ion_text.proofs.Meetings.{refused_meets, next_meets, next_refused, left_meets, left_refused, given_meets, given_refused}
 use Rattle.ion_text.proofs.reader.TextReader.meet.Goals as goal
 

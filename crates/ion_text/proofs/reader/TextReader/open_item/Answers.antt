@@ -2,8 +2,8 @@ use Rattle.std.proofs.Common.{◌+◌, Ok, subst}
 use Rattle.ion_tokens.specs.declared.mode.Mark.TheVariants as marks
 use Rattle.ion_tokens.specs.Bodies.{Mark'}
 use Rattle.ion_text.specs.declared.state.Effect.{Effect}
-use Rattle.ion_text.specs.Machine.{on_ready}
-use Rattle.ion_text.specs.Views.{open_frames, Does, SameReader}
+use Rattle.ion_text.specs.machine.EachToken.{on_ready}
+use Rattle.ion_text.specs.machine.Views.{open_frames, Does, SameReader}
 use Rattle.ion_text.proofs.Arms.{Moved}
 use Rattle.ion_text.proofs.Nested.{struct_strides}
 use Rattle.ion_text.proofs.reader.TextReader.open_item.Goals as goal

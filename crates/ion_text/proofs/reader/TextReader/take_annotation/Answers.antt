@@ -1,10 +1,10 @@
 use Rattle.std.proofs.Common.{◌++◌, ◌∷◌, [], ap, ◌∙◌, subst, refl}
 use Rattle.ion_tokens.specs.declared.mode.Mark.TheVariants as marks
 use Rattle.ion_tokens.specs.declared.mode.TokenKind.TheVariants as kinds
-use Rattle.ion_tokens.specs.Rests.{past_token, past_blank}
-use Rattle.ion_text.specs.FrontTokens.{BeginsSymbol}
-use Rattle.ion_text.specs.Machine.{at, place}
-use Rattle.ion_text.specs.Views.{open_frames, reading_of}
+use Rattle.ion_tokens.specs.machine.Rests.{past_token, past_blank}
+use Rattle.ion_text.specs.laws.reading.FrontTokens.{BeginsSymbol}
+use Rattle.ion_text.specs.machine.EachToken.{at, place}
+use Rattle.ion_text.specs.machine.Views.{open_frames, reading_of}
 use Rattle.ion_text.proofs.Arms.{Moved}
 use Rattle.ion_text.proofs.Symbols.{note_strides}
 use Rattle.ion_text.proofs.reader.TextReader.take_annotation.Goals as goal

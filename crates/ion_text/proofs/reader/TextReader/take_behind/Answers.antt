@@ -1,9 +1,9 @@
 use Rattle.std.proofs.Common.{◌≡◌, ◌+◌, subst, Ok, Err, Result, ◌∙◌, ap, get_or, [], arith}
 use Rattle.ion_model.specs.declared.refusal.Reason.{Reason}
-use Rattle.ion_tokens.specs.Views.{scanned}
+use Rattle.ion_tokens.specs.machine.Views.{scanned}
 use Rattle.ion_text.specs.declared.state.Taken.{Taken}
-use Rattle.ion_text.specs.Run.{eats}
-use Rattle.ion_text.specs.Views.{state_of, DidTake}
+use Rattle.ion_text.specs.machine.Run.{eats}
+use Rattle.ion_text.specs.machine.Views.{state_of, DidTake}
 use Rattle.ion_text.proofs.Striding.{behind_uses, behind_tells, behind_leaves, behind_refused}
 use Rattle.ion_text.proofs.reader.TextReader.take_behind.Goals as goal
 

@@ -1,9 +1,9 @@
 use Rattle.std.proofs.Common.{◌+◌, ◌<◌, Ok, ap, ◌∙◌, subst, arith, length}
 use Rattle.ion_tokens.specs.declared.mode.TokenKind.TheVariants as kinds
-use Rattle.ion_tokens.specs.Rests.{past_token}
+use Rattle.ion_tokens.specs.machine.Rests.{past_token}
 use Rattle.ion_text.specs.declared.state.Effect.{Effect}
-use Rattle.ion_text.specs.Nested.{closed}
-use Rattle.ion_text.specs.Views.{open_frames, Does}
+use Rattle.ion_text.specs.machine.Nested.{closed}
+use Rattle.ion_text.specs.machine.Views.{open_frames, Does}
 use Rattle.ion_text.proofs.Arms.{Moved}
 use Rattle.ion_text.proofs.Nested.{close_strides}
 use Rattle.ion_text.proofs.reader.TextReader.take_close.Goals as goal

@@ -1,10 +1,10 @@
 use Rattle.std.proofs.Common.{◌≡◌, ◌<◌, Ok, ap, ◌∙◌, subst, arith, get_or, length}
 use Rattle.ion_tokens.specs.declared.mode.Mark.TheVariants as marks
 use Rattle.ion_tokens.specs.declared.mode.TokenKind.TheVariants as kinds
-use Rattle.ion_tokens.specs.Rests.{past_token}
+use Rattle.ion_tokens.specs.machine.Rests.{past_token}
 use Rattle.ion_text.specs.declared.state.Effect.{Effect}
-use Rattle.ion_text.specs.Machine.{on_comma}
-use Rattle.ion_text.specs.Views.{open_frames, Does}
+use Rattle.ion_text.specs.machine.EachToken.{on_comma}
+use Rattle.ion_text.specs.machine.Views.{open_frames, Does}
 use Rattle.ion_text.proofs.Arms.{comma_strides, Moved}
 use Rattle.ion_text.proofs.reader.TextReader.take_comma.Goals as goal
 

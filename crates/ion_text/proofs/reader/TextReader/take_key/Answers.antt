@@ -1,11 +1,11 @@
 use Rattle.std.proofs.Common.{Ok, ap, ◌∙◌, subst}
 use Rattle.ion_tokens.specs.declared.mode.Mark.TheVariants as marks
 use Rattle.ion_tokens.specs.declared.mode.TokenKind.TheVariants as kinds
-use Rattle.ion_tokens.specs.Rests.{past_token, past_blank}
+use Rattle.ion_tokens.specs.machine.Rests.{past_token, past_blank}
 use Rattle.ion_text.specs.declared.state.Effect.{Effect}
-use Rattle.ion_text.specs.FrontTokens.{BeginsName}
-use Rattle.ion_text.specs.Machine.{named, place}
-use Rattle.ion_text.specs.Views.{open_frames, reading_of, Does, SameSetting}
+use Rattle.ion_text.specs.laws.reading.FrontTokens.{BeginsName}
+use Rattle.ion_text.specs.machine.EachToken.{named, place}
+use Rattle.ion_text.specs.machine.Views.{open_frames, reading_of, Does, SameSetting}
 use Rattle.ion_text.proofs.Arms.{with_scanner, Moved}
 use Rattle.ion_text.proofs.Symbols.{name_strides}
 use Rattle.ion_text.proofs.reader.TextReader.take_key.Goals as goal

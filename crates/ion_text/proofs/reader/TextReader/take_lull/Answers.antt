@@ -1,9 +1,9 @@
 use Rattle.std.proofs.Common.{Result, Ok, Err}
 use Rattle.std.specs.Result.{OnOk}
 use Rattle.ion_model.specs.declared.refusal.Refusal.{Refusal}
-use Rattle.ion_tokens.specs.Views.{scanned}
-use Rattle.ion_text.specs.Machine.{place}
-use Rattle.ion_text.specs.Views.{reading_of}
+use Rattle.ion_tokens.specs.machine.Views.{scanned}
+use Rattle.ion_text.specs.machine.EachToken.{place}
+use Rattle.ion_text.specs.machine.Views.{reading_of}
 use Rattle.ion_text.proofs.Lulls.{led_by_lull, used_by_lull}
 use Rattle.ion_text.proofs.reader.TextReader.take_lull.Goals as goal
 

@@ -1,13 +1,13 @@
 use Rattle.std.proofs.Common.{◌≡◌, ◌+◌, ◌<◌, Ok, sym, ap, ◌∙◌, subst, arith, length, take, refl, true, false}
 use Rattle.ion_model.specs.Measures.{annotated}
-use Rattle.ion_scalar.specs.Reading.{number_read, number_reads}
+use Rattle.ion_scalar.specs.text.Reading.{number_read, number_reads}
 use Rattle.ion_tokens.specs.declared.mode.TokenKind.TheVariants as kinds
 use Rattle.ion_tokens.specs.Bodies.{Number'}
 use Rattle.ion_tokens.specs.Places.{is_name}
-use Rattle.ion_tokens.specs.Rests.{past_token}
+use Rattle.ion_tokens.specs.machine.Rests.{past_token}
 use Rattle.ion_text.specs.declared.state.Effect.{Effect}
-use Rattle.ion_text.specs.Machine.{ended, goes, number_payload, place}
-use Rattle.ion_text.specs.Views.{open_frames, reading_of, Does}
+use Rattle.ion_text.specs.machine.EachToken.{ended, goes, number_payload, place}
+use Rattle.ion_text.specs.machine.Views.{open_frames, reading_of, Does}
 use Rattle.ion_text.proofs.Arms.{value_strides, number_says, Moved}
 use Rattle.ion_text.proofs.reader.TextReader.take_number.Goals as goal
 

@@ -2,10 +2,10 @@ use Rattle.std.proofs.Common.{◌≡◌, ◌+◌, ◌<◌, Ok, ap, ◌∙◌, sy
 use Rattle.ion_tokens.specs.declared.mode.TokenKind.TheVariants as kinds
 use Rattle.ion_tokens.specs.Bodies.{Mark'}
 use Rattle.ion_tokens.specs.Places.{is_name}
-use Rattle.ion_tokens.specs.Rests.{past_token}
+use Rattle.ion_tokens.specs.machine.Rests.{past_token}
 use Rattle.ion_text.specs.declared.state.Effect.{Effect}
-use Rattle.ion_text.specs.Machine.{on_ready, place}
-use Rattle.ion_text.specs.Views.{open_frames, reading_of, Does}
+use Rattle.ion_text.specs.machine.EachToken.{on_ready, place}
+use Rattle.ion_text.specs.machine.Views.{open_frames, reading_of, Does}
 use Rattle.ion_text.proofs.Arms.{Moved}
 use Rattle.ion_text.proofs.Nested.{open_strides}
 use Rattle.ion_text.proofs.reader.TextReader.take_open.Goals as goal

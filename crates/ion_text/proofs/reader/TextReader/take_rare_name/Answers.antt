@@ -1,8 +1,8 @@
 use Rattle.std.proofs.Common.{subst}
 use Rattle.std.specs.Prelude.{IfSome}
 use Rattle.ion_tokens.specs.Bodies.{content}
-use Rattle.ion_tokens.specs.Views.{octets_in}
-use Rattle.ion_text.specs.FrontTokens.{Names}
+use Rattle.ion_tokens.specs.machine.Views.{octets_in}
+use Rattle.ion_text.specs.laws.reading.FrontTokens.{Names}
 use Rattle.ion_text.proofs.Symbols.{inside_beside}
 use Rattle.ion_text.proofs.reader.TextReader.take_rare_name.Goals as goal
 

@@ -1,10 +1,10 @@
 use Rattle.std.proofs.Common.{Ok, Err, ap, ◌∙◌, subst, refl, arith}
 use Rattle.ion_tokens.specs.declared.mode.Place.{Place}
-use Rattle.ion_tokens.specs.Scanning.{run}
-use Rattle.ion_tokens.specs.Views.{scanned}
+use Rattle.ion_tokens.specs.machine.Scanning.{run}
+use Rattle.ion_tokens.specs.machine.Views.{scanned}
 use Rattle.ion_text.specs.declared.state.Met.{Met}
-use Rattle.ion_text.specs.Machine.{place}
-use Rattle.ion_text.specs.Views.{reading_of, comes_again, Meets, MeetsWith}
+use Rattle.ion_text.specs.machine.EachToken.{place}
+use Rattle.ion_text.specs.machine.Views.{reading_of, comes_again, Meets, MeetsWith}
 use Rattle.ion_text.proofs.Stretches.{at_place, uses_by, tells_by, leaves_by, refused_by, left_inside, again_uses, again_tells, again_leaves, again_refused, late_refused}
 use Rattle.ion_text.proofs.reader.TextReader.take_stretch.Goals as goal
 

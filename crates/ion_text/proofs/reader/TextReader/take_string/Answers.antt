@@ -4,10 +4,10 @@ use Rattle.ion_model.specs.Measures.{annotated}
 use Rattle.ion_model.specs.declared.value.Payload.TheVariants as payloads
 use Rattle.ion_tokens.specs.declared.mode.TokenKind.TheVariants as kinds
 use Rattle.ion_tokens.specs.Bodies.{Short}
-use Rattle.ion_tokens.specs.Rests.{past_token}
+use Rattle.ion_tokens.specs.machine.Rests.{past_token}
 use Rattle.ion_text.specs.declared.state.Effect.{Effect}
-use Rattle.ion_text.specs.Machine.{ended, goes, place}
-use Rattle.ion_text.specs.Views.{open_frames, reading_of, Does}
+use Rattle.ion_text.specs.machine.EachToken.{ended, goes, place}
+use Rattle.ion_text.specs.machine.Views.{open_frames, reading_of, Does}
 use Rattle.ion_text.proofs.Arms.{value_strides, short_says, Moved}
 use Rattle.ion_text.proofs.reader.TextReader.take_string.Goals as goal
 

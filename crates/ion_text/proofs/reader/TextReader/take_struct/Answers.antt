@@ -2,7 +2,7 @@ use Rattle.std.proofs.Common.{ℕ, Result, Ok, Err, arith}
 use Rattle.std.specs.Prelude.{IfOk}
 use Rattle.ion_model.specs.declared.refusal.Refusal.{Refusal}
 use Rattle.ion_text.specs.declared.state.Taken.{Taken}
-use Rattle.ion_text.specs.Progress.{StaysSteady}
+use Rattle.ion_text.specs.machine.Progress.{StaysSteady}
 use Rattle.ion_text.proofs.reader.TextReader.take_struct.Goals as goal
 
 then_so : {P Q : Type 0} → (P → Q) → (x : Result (ℕ × Taken) Refusal) → IfOk x (λ _. P) → IfOk x (λ _. Q)

@@ -1,10 +1,10 @@
 use Rattle.std.proofs.Common.{◌+◌, Ok, ap, ◌∙◌, subst}
 use Rattle.ion_model.specs.Measures.{annotated}
-use Rattle.ion_tokens.specs.Rests.{past_token, past_blank}
+use Rattle.ion_tokens.specs.machine.Rests.{past_token, past_blank}
 use Rattle.ion_text.specs.declared.state.Effect.{Effect}
-use Rattle.ion_text.specs.FrontTokens.{BeginsSymbol}
-use Rattle.ion_text.specs.Machine.{ended}
-use Rattle.ion_text.specs.Views.{open_frames, Does}
+use Rattle.ion_text.specs.laws.reading.FrontTokens.{BeginsSymbol}
+use Rattle.ion_text.specs.machine.EachToken.{ended}
+use Rattle.ion_text.specs.machine.Views.{open_frames, Does}
 use Rattle.ion_text.proofs.Arms.{Moved}
 use Rattle.ion_text.proofs.Symbols.{symbol_strides}
 use Rattle.ion_text.proofs.reader.TextReader.take_symbol.Goals as goal

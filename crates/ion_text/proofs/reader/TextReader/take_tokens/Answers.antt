@@ -1,6 +1,6 @@
 use Rattle.std.proofs.Common.{◌≡◌, ◌+◌, ◌-◌, ℕ, length, take, drop, subst, arith}
 use Rattle.std.proofs.lemmas.List.{take_rest}
-use Rattle.ion_text.specs.Passing.{Strides}
+use Rattle.ion_text.specs.machine.AtOnce.{Strides}
 use Rattle.ion_text.proofs.Striding.{strides_none, strides_on, inside_on}
 use Rattle.ion_text.proofs.reader.TextReader.take_tokens.Goals as goal
 

@@ -1,4 +1,4 @@
-use Rattle.ion_text.specs.Passing.{Strides}
+use Rattle.ion_text.specs.machine.AtOnce.{Strides}
 use Rattle.ion_text.proofs.reader.TextReader.take_tokens.Given as goal
 
 -- the octets before `at` were taken up

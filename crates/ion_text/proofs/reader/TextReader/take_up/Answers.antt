@@ -1,10 +1,10 @@
 use Rattle.ion_text.proofs.Prefixes.{took_front}
 use Rattle.ion_text.proofs.Striding.{strides_front}
 use Rattle.std.proofs.Common.{Ok, refl, subst, get_or}
-use Rattle.ion_tokens.specs.Views.{scanned}
+use Rattle.ion_tokens.specs.machine.Views.{scanned}
 use Rattle.ion_text.specs.declared.state.Taken.{Taken}
-use Rattle.ion_text.specs.Run.{eats}
-use Rattle.ion_text.specs.Views.{state_of, DidTake}
+use Rattle.ion_text.specs.machine.Run.{eats}
+use Rattle.ion_text.specs.machine.Views.{state_of, DidTake}
 use Rattle.ion_text.proofs.reader.TextReader.take_up.Goals as goal
 
 pub returns-in-Ok-Leaves-clause-took : goal.returns-in-Ok-Leaves-clause-took

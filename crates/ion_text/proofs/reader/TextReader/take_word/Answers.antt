@@ -1,6 +1,6 @@
 use Rattle.std.proofs.Common.{◌≡◌, ◌≢◌, ◌∙◌, Ok, ap, sym, subst, arith, take, get_or}
 use Rattle.std.specs.Prelude.{IfSome}
-use Rattle.ion_text.specs.Machine.{held_payload, held_word}
+use Rattle.ion_text.specs.machine.EachToken.{held_payload, held_word}
 use Rattle.ion_text.proofs.Symbols.{word_symbol}
 use Rattle.ion_text.proofs.reader.TextReader.take_word.Goals as goal
 

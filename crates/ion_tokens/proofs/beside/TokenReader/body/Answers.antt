@@ -4,8 +4,8 @@ use Rattle.ion_model.specs.declared.refusal.Reason.TheVariants.{Memory}
 use Rattle.ion_tokens.specs.declared.mode.TokenKind.{TokenKind}
 use Rattle.ion_tokens.specs.declared.token.Body.{Body}
 use Rattle.ion_tokens.specs.Bodies.{content, IsBody}
-use Rattle.ion_tokens.specs.Said.{said, says}
-use Rattle.ion_tokens.specs.Views.{octets_in}
+use Rattle.ion_tokens.specs.machine.Said.{said, says}
+use Rattle.ion_tokens.specs.machine.Views.{octets_in}
 use Rattle.ion_tokens.proofs.Cutting.{one_body}
 use Rattle.ion_tokens.proofs.beside.TokenReader.body.Goals as goal
 

@@ -1,7 +1,7 @@
 use Rattle.std.proofs.Common.{◌≡◌, ap, subst, sym, ◌∙◌, arith, get_or, length-drop}
-use Rattle.ion_tokens.specs.Scanning.{feed, Next}
-use Rattle.ion_tokens.specs.Bounds.{StaysSteady}
-use Rattle.ion_tokens.specs.Views.{known, outcome_in}
+use Rattle.ion_tokens.specs.machine.Scanning.{feed, Next}
+use Rattle.ion_tokens.specs.machine.Bounds.{StaysSteady}
+use Rattle.ion_tokens.specs.machine.Views.{known, outcome_in}
 use Rattle.ion_tokens.proofs.Runs.{feed_used, run_more}
 use Rattle.ion_tokens.proofs.GoesOn.{TakesFront, counts, leads_on, stays_steady, within_piece}
 use Rattle.ion_tokens.proofs.machine.Machine.run.Goals as goal

@@ -1,8 +1,8 @@
 use Rattle.std.proofs.Common.{length, subst, refl, arith}
 use Rattle.std.specs.Prelude.{Ok, None, false}
-use Rattle.ion_tokens.specs.Scanning.{Outcome}
-use Rattle.ion_tokens.specs.Views.{known}
-use Rattle.ion_tokens.specs.Steps.{Answers}
+use Rattle.ion_tokens.specs.machine.Scanning.{Outcome}
+use Rattle.ion_tokens.specs.machine.Views.{known}
+use Rattle.ion_tokens.specs.machine.Steps.{Answers}
 use Rattle.ion_tokens.proofs.Runs.{next_used, given_used, left_used}
 use Rattle.ion_tokens.proofs.Causes.{refused_fair}
 use Rattle.ion_tokens.proofs.machine.Machine.scan.Goals as goal

@@ -3,11 +3,11 @@ use Rattle.std.specs.Prelude.{Option, Result, Ok, Err}
 use Rattle.ion_model.specs.declared.refusal.Refusal.{Refusal}
 use Rattle.ion_model.specs.declared.refusal.Reason.TheVariants.{Memory}
 use Rattle.ion_tokens.specs.declared.token.Token.{Token}
-use Rattle.ion_tokens.specs.Scanning.{at_end}
+use Rattle.ion_tokens.specs.machine.Scanning.{at_end}
 use Rattle.ion_tokens.specs.Lexed.{Placed}
-use Rattle.ion_tokens.specs.Scanned.{Scanned, EndsSo, NoEnd, EndsFor}
-use Rattle.ion_tokens.specs.Steps.{Ends}
-use Rattle.ion_tokens.specs.Views.{known}
+use Rattle.ion_tokens.specs.machine.Scanned.{Scanned, EndsSo, NoEnd, EndsFor}
+use Rattle.ion_tokens.specs.machine.Steps.{Ends}
+use Rattle.ion_tokens.specs.machine.Views.{known}
 use Rattle.ion_tokens.proofs.EndCauses.{end_fair, end_reason}
 use Rattle.ion_tokens.proofs.Stepped.{end_goes, end_refuses}
 use Rattle.ion_tokens.proofs.Traced.{end_traced}

@@ -1,4 +1,4 @@
-use Rattle.ion_tokens.specs.Fronts.{goes_on}
+use Rattle.ion_tokens.specs.machine.AtOnce.{goes_on}
 use Rattle.ion_tokens.proofs.WholeTokens.{front_each, front_within}
 use Rattle.ion_tokens.proofs.scanner.Scanner.front.Goals as goal
 

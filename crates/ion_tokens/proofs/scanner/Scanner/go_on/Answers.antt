@@ -1,4 +1,4 @@
-use Rattle.ion_tokens.specs.Views.{known}
+use Rattle.ion_tokens.specs.machine.Views.{known}
 use Rattle.ion_tokens.proofs.GoesOn.{going_steady}
 use Rattle.ion_tokens.proofs.scanner.Scanner.go_on.Goals as goal
 

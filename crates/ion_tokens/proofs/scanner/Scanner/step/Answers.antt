@@ -3,15 +3,15 @@ use Rattle.std.specs.Prelude.{Result, Ok, Err}
 use Rattle.ion_model.specs.declared.refusal.Refusal.{Refusal}
 use Rattle.ion_model.specs.declared.refusal.Reason.TheVariants.{Memory}
 use Rattle.ion_tokens.specs.declared.token.Scan.{Scan}
-use Rattle.ion_tokens.specs.Scanned.{Goes, RefusesAt}
-use Rattle.ion_tokens.specs.Steps.{Answers}
-use Rattle.ion_tokens.specs.Scanning.{Known, run}
-use Rattle.ion_tokens.specs.Views.{known}
+use Rattle.ion_tokens.specs.machine.Scanned.{Goes, RefusesAt}
+use Rattle.ion_tokens.specs.machine.Steps.{Answers}
+use Rattle.ion_tokens.specs.machine.Scanning.{Known, run}
+use Rattle.ion_tokens.specs.machine.Views.{known}
 use Rattle.ion_tokens.proofs.Runs.{run_between}
 use Rattle.ion_tokens.proofs.Causes.{answer_reason, run_fair}
 use Rattle.ion_tokens.proofs.Answered.{used_within, used_whole, refused_within}
 use Rattle.ion_tokens.proofs.Stepped.{step_goes, step_refuses}
-use Rattle.ion_tokens.specs.Traces.{AnswersTrace}
+use Rattle.ion_tokens.specs.machine.Traces.{AnswersTrace}
 use Rattle.ion_tokens.proofs.Traced.{step_traced, step_stops}
 use Rattle.ion_tokens.proofs.scanner.Scanner.step.Goals as goal
 

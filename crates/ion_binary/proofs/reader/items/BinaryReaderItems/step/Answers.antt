@@ -1,4 +1,4 @@
-use Rattle.ion_binary.specs.Views.{machine_of}
+use Rattle.ion_binary.specs.machine.Views.{machine_of}
 use Rattle.ion_binary.proofs.Further.{step_answers, step_stands}
 use Rattle.ion_binary.proofs.reader.items.BinaryReaderItems.step.Goals as goal
 

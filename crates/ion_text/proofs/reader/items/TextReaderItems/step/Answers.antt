@@ -1,4 +1,4 @@
-use Rattle.ion_text.specs.Views.{state_of}
+use Rattle.ion_text.specs.machine.Views.{state_of}
 use Rattle.ion_text.proofs.Further.{step_answers, step_stands}
 use Rattle.ion_text.proofs.Pendings.{step_progress, step_pending}
 use Rattle.ion_text.proofs.reader.items.TextReaderItems.step.Goals as goal

@@ -1,0 +1,3 @@
+-- What follows for binary documents.
+pub mod reading
+pub mod writing

@@ -1,0 +1,481 @@
+-- What the grammar says, the machine reads.
+use Rattle.std.proofs.Common.{◌≡◌, ℕ, zero, suc, ◌+◌, ◌-◌, ◌*◌, ◌^◌, ◌<◌, ◌≤◌, max, List, [], ◌∷◌, ◌++◌, length, Option, Result, Ok, Err, Some, None, refl, ap, sym, subst, ◌∙◌, arith, length-append, Bool, true, false, ◌||◌, cond, nat_le, append_assoc, le-leb, lt-ltb, le-ltb, eq-eqb, ne_eqb, ◌==◌}
+use Rattle.std.proofs.lemmas.Bool.{cond-true, cond-false}
+use Rattle.ion_model.specs.declared.value.Value.{Value}
+use Rattle.ion_model.specs.declared.value.Field.{Field}
+use Rattle.ion_model.specs.declared.value.Payload.{Payload}
+use Rattle.ion_model.specs.declared.value.Payload.TheVariants as payloads
+use Rattle.ion_model.specs.declared.refusal.Reason.{Reason}
+use Rattle.ion_model.specs.declared.refusal.Reason.TheVariants.{ItemTooLong}
+use Rattle.ion_model.specs.Measures.{depth, bare, annotated, field_of}
+use Rattle.ion_model.specs.laws.Measures.{depth-out, depth-at-List, depth-at-Sexp, depth-at-Fields, deepest-more}
+use Rattle.ion_symtab.specs.declared.limits.Limits.{Limits}
+use Rattle.ion_symtab.specs.declared.catalog.Catalog.{Catalog}
+use Rattle.ion_symtab.specs.Slots.{Slot, system_slots, resolve}
+use Rattle.ion_binary.specs.declared.form.Form.{Form}
+use Rattle.ion_binary.specs.declared.form.Form.TheVariants as forms
+use Rattle.ion_binary.specs.declared.form.Listing.{Listing}
+use Rattle.ion_binary.specs.declared.form.Listing.TheVariants as listings
+use Rattle.ion_binary.specs.declared.form.Scalar.{Scalar}
+use Rattle.ion_binary.specs.declared.state.Frame.{Frame}
+use Rattle.ion_binary.specs.declared.state.Frame.TheVariants as frames
+use Rattle.ion_binary.specs.declared.state.Purpose.{Purpose}
+use Rattle.ion_binary.specs.declared.state.Purpose.TheVariants as purposes
+use Rattle.ion_binary.specs.declared.state.Phase.TheVariants.{Ready, InNumber, InPad}
+use Rattle.ion_scalar.specs.binary.Fields.{positional, Digits, none, more, VarUInt}
+use Rattle.ion_scalar.specs.Positional.{positional_push}
+use Rattle.ion_scalar.specs.binary.Descriptor.{descriptor_of}
+use Rattle.ion_binary.specs.Opening.{opening_of}
+use Rattle.ion_binary.specs.Grammar.{Header, short, long, IsPad, skipped, Ids, no_ids, one_id, listed, Plain, is_null, is_truth, is_scalar, is_listing, is_struct, is_ordered, Binary, unannotated, wrapped, Sequence, nothing, one_more, padded, Fields, no_fields, one_field, padded_field, the_marker}
+use Rattle.ion_binary.specs.machine.Judge.{judge}
+use Rattle.ion_binary.specs.laws.reading.Judged.{judge_scalar}
+use Rattle.ion_binary.specs.machine.EachOctet.{Outcome, at, in_body, end_of, levels, deliver, proceed, is_pad, is_wrapper, unless, or_else, too_long, misfits, stray, nameless, unending, outside, past, unfit, judged, open_struct, begin, sized, longer, unsized, one_octet, on_descriptor, count_came, annotation_came, number_came, on_body, on_pad, feed}
+use Rattle.ion_binary.specs.machine.Run.{Run, run, run_on}
+use Rattle.ion_binary.specs.laws.reading.Stands.{TopRoom, Room, Ends, InRoom, NumberRoom, depths, field_depths}
+use Rattle.ion_binary.specs.machine.Pieces.{run-append, run_via, run_step, then_run, then_after, on_outcome, led, after, length-one}
+
+-- depths
+
+pub depth-listed : (x : Listing) (vs : List Value) → depth (bare (listed x vs)) ≡ suc (depths vs)
+depth-listed listings.List vs = depth-at-List (bare (payloads.List vs)) vs refl
+depth-listed listings.Sexp vs = depth-at-Sexp (bare (payloads.Sexp vs)) vs refl
+
+pub depth-fields : (ms : List Field) → depth (bare (payloads.Fields ms)) ≡ suc (field_depths ms)
+depth-fields ms = depth-at-Fields (bare (payloads.Fields ms)) ms refl
+
+-- annotations add nothing to the depth
+pub depth-annotated : (ss : List (Option (List ℕ))) (p : Payload) → depth (annotated ss p) ≡ depth (bare p)
+depth-annotated ss p = depth-out (annotated ss p) ∙ sym (depth-out (bare p))
+
+pub field_deepest-more : (ms : List Field) (m : Field) → field_depths (ms ++ m ∷ []) ≡ max (field_depths ms) (depth m.value)
+field_deepest-more [] m = omega arith
+field_deepest-more (n ∷ ms) m = omega (arith, field_deepest-more ms m)
+
+-- where there is room, nothing is refused for want of it
+
+top_none : (b : Bool) (item start to : ℕ) → (b ≡ false → to ≤ start + item) → cond (b || nat_le to (start + item)) None (Some ItemTooLong) ≡ None
+top_none true item start to h = refl
+top_none false item start to h = cond-true _ _ _ (le-leb to (start + item) (h refl))
+
+too_long_none : (item start : ℕ) (form : Form) (to : ℕ) → TopRoom item start form to → too_long item start form to ≡ None
+too_long_none item start form to h = top_none (is_pad form) item start to h
+
+top_less : (item start : ℕ) (form : Form) (a b : ℕ) → a ≤ b → TopRoom item start form b → TopRoom item start form a
+top_less item start form a b h r = λ p. let k = r p in omega arith
+
+misfits_none : (l : Limits) (start : ℕ) (fs : List Frame) (form : Form) (to : ℕ) → Ends l start fs form to → misfits l.item start fs form to ≡ None
+misfits_none l start [] form to h = too_long_none l.item start form to h
+misfits_none l start (frames.Annotated end ss ∷ fs) form to h = cond-true _ _ _ (eq-eqb to end h)
+misfits_none l start (frames.Items end x vs ∷ fs) form to h = cond-true _ _ _ (le-leb to end h)
+misfits_none l start (frames.Fields end ms ∷ fs) form to h = cond-true _ _ _ (le-leb to end h)
+misfits_none l start (frames.Named end ms name ∷ fs) form to h = cond-true _ _ _ (le-leb to end h)
+
+-- where the body's end fits, its header does
+ends_room : (l : Limits) (start : ℕ) (fs : List Frame) (form : Form) (a b : ℕ) → a ≤ b → Ends l start fs form b → Room l start fs form a
+ends_room l start [] form a b h r = top_less l.item start form a b h r
+ends_room l start (frames.Annotated end ss ∷ fs) form a b h r = omega arith
+ends_room l start (frames.Items end x vs ∷ fs) form a b h r = omega arith
+ends_room l start (frames.Fields end ms ∷ fs) form a b h r = omega arith
+ends_room l start (frames.Named end ms name ∷ fs) form a b h r = omega arith
+
+room_less : (l : Limits) (start : ℕ) (fs : List Frame) (form : Form) (a b : ℕ) → a ≤ b → Room l start fs form b → Room l start fs form a
+room_less l start [] form a b h r = top_less l.item start form a b h r
+room_less l start (f ∷ fs) form a b h r = omega arith
+
+unending_none : (l : Limits) (start : ℕ) (fs : List Frame) (form : Form) (used : ℕ) → Room l start fs form (used + 1) → unending l.item start fs form used ≡ None
+unending_none l start [] form used h = too_long_none l.item start form used (top_less l.item start form used (used + 1) (omega arith) h)
+unending_none l start (f ∷ fs) form used h = cond-true _ _ _ (lt-ltb used (end_of f) (omega arith))
+
+outside_none : (fs : List Frame) (used : ℕ) → InRoom fs (used + 1) → outside fs used ≡ None
+outside_none [] used h = absurd h
+outside_none (f ∷ fs) used h = cond-true _ _ _ (lt-ltb used (end_of f) (omega arith))
+
+past_none : (l : Limits) (start : ℕ) (fs : List Frame) (p : Purpose) (used : ℕ) → NumberRoom l start fs p (used + 1) → past l.item start fs p used ≡ None
+past_none l start fs (purposes.Length form) used h = unending_none l start fs form used h
+past_none l start fs purposes.FieldName used h = outside_none fs used h
+past_none l start fs purposes.AnnotationsLength used h = outside_none fs used h
+past_none l start fs (purposes.Annotation stop) used h = cond-true _ _ _ (lt-ltb used stop (omega arith))
+
+in_less : (fs : List Frame) (a b : ℕ) → a ≤ b → InRoom fs b → InRoom fs a
+in_less [] a b h r = r
+in_less (f ∷ fs) a b h r = omega arith
+
+number_less : (l : Limits) (start : ℕ) (fs : List Frame) (p : Purpose) (a b : ℕ) → a ≤ b → NumberRoom l start fs p b → NumberRoom l start fs p a
+number_less l start fs (purposes.Length form) a b h r = room_less l start fs form a b h r
+number_less l start fs purposes.FieldName a b h r = in_less fs a b h r
+number_less l start fs purposes.AnnotationsLength a b h r = in_less fs a b h r
+number_less l start fs (purposes.Annotation stop) a b h r = omega arith
+
+-- a form may stand here
+pub record Admits (fs : List Frame) (form : Form) : Type 0 where
+  pub fitting : stray fs form ≡ None
+  pub named : nameless fs form ≡ None
+
+stray_none : (fs : List Frame) (form : Form) → is_pad form ≡ false → is_wrapper form ≡ false → stray fs form ≡ None
+stray_none [] form p w = refl
+stray_none (frames.Annotated end ss ∷ fs) form p w = cond-false _ _ _ (ap (λ b. b || is_wrapper form) p ∙ w)
+stray_none (frames.Items end x vs ∷ fs) form p w = refl
+stray_none (frames.Fields end ms ∷ fs) form p w = refl
+stray_none (frames.Named end ms name ∷ fs) form p w = refl
+
+-- what may stand behind this field name doesn't depend on the form
+nameless_none : (fs : List Frame) (form : Form) → nameless fs forms.Struct ≡ None → nameless fs form ≡ None
+nameless_none [] form h = refl
+nameless_none (frames.Annotated end ss ∷ fs) form h = refl
+nameless_none (frames.Items end x vs ∷ fs) form h = refl
+nameless_none (frames.Fields end ms ∷ fs) form h = refl
+nameless_none (frames.Named end ms (Ok s) ∷ fs) form h = refl
+nameless_none (frames.Named end ms (Err e) ∷ fs) form h = absurd cc
+
+admits_plain : (fs : List Frame) (form : Form) → is_pad form ≡ false → is_wrapper form ≡ false → nameless fs forms.Struct ≡ None → Admits fs form
+admits_plain fs form p w h = record { fitting = stray_none fs form p w; named = nameless_none fs form h }
+
+-- all forms but a pad may end at the same places
+ends_as : (l : Limits) (start : ℕ) (fs : List Frame) (form : Form) (to : ℕ) → Ends l start fs forms.Struct to → Ends l start fs form to
+ends_as l start [] form to r = λ p. r refl
+ends_as l start (frames.Annotated end ss ∷ fs) form to r = r
+ends_as l start (frames.Items end x vs ∷ fs) form to r = r
+ends_as l start (frames.Fields end ms ∷ fs) form to r = r
+ends_as l start (frames.Named end ms name ∷ fs) form to r = r
+
+or_none : (a b : Option Reason) → a ≡ None → b ≡ None → or_else a b ≡ None
+or_none a b h k = ap (λ x. or_else x b) h ∙ k
+
+unfit_none : (l : Limits) (start : ℕ) (fs : List Frame) (form : Form) (to : ℕ) → Admits fs form → Ends l start fs form to → unfit l.item start fs form to ≡ None
+unfit_none l start fs form to a h =
+    or_none (stray fs form) (or_else (misfits l.item start fs form to) (nameless fs form)) a.fitting (or_none (misfits l.item start fs form to) (nameless fs form) (misfits_none l start fs form to h) a.named)
+
+-- numbers
+
+-- a number with one more digit at its end
+pub digits_more : (ds : List ℕ) (d : ℕ) → positional 128 (ds ++ d ∷ []) ≡ 128 * positional 128 ds + d
+digits_more ds d = let i = positional_push 128 ds d in omega arith
+
+pub length_VarUInt : (w : List ℕ) (n : ℕ) → VarUInt w n → 0 < length w
+length_VarUInt w n v = let k : length w ≡ length v.digits + 1 = ap length v.octets ∙ length-one v.digits (128 + v.last) in omega arith
+
+pub header_some : (form : Form) (n : ℕ) (h : List ℕ) → Header form n h → 0 < length h
+header_some form n _ (short b d) = omega arith
+header_some form n _ (long b h d v) = omega arith
+
+joined_some : (h body : List ℕ) → 0 < length h → 0 < length (h ++ body)
+joined_some h body k = let e = length-append h body in omega arith
+
+pub plain_some : (c : List Slot) (w : List ℕ) (p : Payload) → Plain c w p → 0 < length w
+plain_some c _ _ (is_null b k d) = omega arith
+plain_some c _ _ (is_truth b k d) = omega arith
+plain_some c _ _ (is_scalar h body t p d i) = joined_some h body (header_some _ _ h d)
+plain_some c _ _ (is_listing h body x vs d q) = joined_some h body (header_some _ _ h d)
+plain_some c _ _ (is_struct h body ms d q) = joined_some h body (header_some _ _ h d)
+plain_some c _ _ (is_ordered h body ms d n q) = joined_some h body (header_some _ _ h d)
+
+pub binary_some : (c : List Slot) (w : List ℕ) (v : Value) → Binary c w v → 0 < length w
+binary_some c _ _ (unannotated w p b) = plain_some c w p b
+binary_some c _ _ (wrapped h count ids w ss p d v n i b) = joined_some h _ (header_some _ _ h d)
+
+pub pad_some : (w : List ℕ) → IsPad w → 0 < length w
+pad_some _ (skipped h body d) = joined_some h body (header_some _ _ h d)
+
+module _ (g : Catalog) (l : Limits) where
+  -- where there is room, the header's end begins the body
+  sized_begins : (used start : ℕ) (c : List Slot) (fs : List Frame) (form : Form) (n : ℕ) → Admits fs form → Ends l start fs form (used + n) → sized g l.depth l.item used start c fs form n ≡ begin g l.depth used start c fs form n
+  sized_begins used start c fs form n a r = ap (λ o. unless o (begin g l.depth used start c fs form n)) (unfit_none l start fs form (used + n) a r)
+
+  unsized_goes : (used start : ℕ) (c : List Slot) (fs : List Frame) (form : Form) → Admits fs form → Room l start fs form (used + 1) → unsized l.item used start c fs form ≡ Outcome.goes (at used start c fs (InNumber (purposes.Length form) 0))
+  unsized_goes used start c fs form a r =
+      ap (λ o. unless o (unless (unending l.item start fs form used) (unless (nameless fs form) (Outcome.goes (at used start c fs (InNumber (purposes.Length form) 0)))))) a.fitting
+      ∙ (ap (λ o. unless o (unless (nameless fs form) (Outcome.goes (at used start c fs (InNumber (purposes.Length form) 0))))) (unending_none l start fs form used r)
+      ∙ ap (λ o. unless o (Outcome.goes (at used start c fs (InNumber (purposes.Length form) 0)))) a.named)
+
+  longer_goes : (used start : ℕ) (c : List Slot) (fs : List Frame) (p : Purpose) (a : ℕ) → NumberRoom l start fs p (used + 1) → longer l.item used start c fs p a ≡ Outcome.goes (at used start c fs (InNumber p a))
+  longer_goes used start c fs p a r = ap (λ o. unless o (Outcome.goes (at used start c fs (InNumber p a)))) (past_none l start fs p used r)
+
+  -- one more digit
+  digit_step : (used start : ℕ) (c : List Slot) (fs : List Frame) (p : Purpose) (a d to n : ℕ) → d < 128 → n ≡ 128 * a + d → n < 2 ^ 63 → to ≡ used + 1 → NumberRoom l start fs p (to + 1)
+      → feed g l (at used start c fs (InNumber p a)) d ≡ Outcome.goes (at to start c fs (InNumber p n))
+  digit_step used start c fs p a d to n h e k i r =
+      rw (e, i) (cond-true _ _ _ (lt-ltb d 128 h) ∙ (cond-true _ _ _ (lt-ltb (128 * a + d) (2 ^ 63) (omega arith)) ∙ longer_goes (used + 1) start c fs p (128 * a + d) (rw i at r)))
+
+  -- the digits of a number but the last
+  digits_run : (used start : ℕ) (c : List Slot) (fs : List Frame) (p : Purpose) (ds : List ℕ) (to : ℕ) → Digits ds → positional 128 ds < 2 ^ 63 → to ≡ used + length ds → NumberRoom l start fs p (to + 1)
+      → run g l used (at used start c fs (InNumber p 0)) ds ≡ led (at to start c fs (InNumber p (positional 128 ds)))
+  digits_run used start c fs p _ to none h e r = ap (λ n. led (at n start c fs (InNumber p 0))) (omega arith)
+  digits_run used start c fs p _ to (more ds d q0 q) h e r =
+      let i = digits_more ds d in
+      let k = length-one ds d in
+      let mid = used + length ds in
+      run_step g l used mid _ (at mid start c fs (InNumber p (positional 128 ds))) _ ds d refl (digits_run used start c fs p ds mid q0 (omega arith) refl (number_less l start fs p _ _ (omega arith) r))
+      (ap (after (mid + 1)) (digit_step mid start c fs p (positional 128 ds) d to _ q i h (omega arith) r))
+
+  -- the last octet of a number
+  last_step : (used start : ℕ) (c : List Slot) (fs : List Frame) (p : Purpose) (a b to n : ℕ) → 128 ≤ b → n ≡ 128 * a + (b - 128) → n < 2 ^ 63 → to ≡ used + 1
+      → feed g l (at used start c fs (InNumber p a)) b ≡ number_came g l.depth l.item to start c fs p n
+  last_step used start c fs p a b to n h e k i =
+      rw i (cond-false _ _ _ (le-ltb b 128 h) ∙ rw (← e) (cond-true _ _ _ (lt-ltb n (2 ^ 63) k)))
+
+  -- a whole VarUInt
+  number_run : (used start : ℕ) (c : List Slot) (fs : List Frame) (p : Purpose) (w : List ℕ) (n to : ℕ) → VarUInt w n → to ≡ used + length w → NumberRoom l start fs p to
+      → run g l used (at used start c fs (InNumber p 0)) w ≡ after to (number_came g l.depth l.item to start c fs p n)
+  number_run used start c fs p w n to v e r =
+      let i = positional_push 128 v.digits v.last in
+      let k : length w ≡ length v.digits + 1 = ap length v.octets ∙ length-one v.digits (128 + v.last) in
+      let vl = v.value in
+      let vb = v.bound in
+      let mid = used + length v.digits in
+      let j : mid + 1 ≡ to = omega arith in
+      rw v.octets
+      (run_step g l used mid _ (at mid start c fs (InNumber p (positional 128 v.digits))) _ v.digits (128 + v.last) refl (digits_run used start c fs p v.digits mid v.small (omega arith) refl (number_less l start fs p _ _ (omega arith) r))
+      (ap (after (mid + 1)) (last_step mid start c fs p (positional 128 v.digits) (128 + v.last) to n (omega arith) (omega arith) vb (omega arith)) ∙ ap (λ x. after x (number_came g l.depth l.item to start c fs p n)) j))
+
+  -- a header, where its body may end
+  header_run : (used start : ℕ) (c : List Slot) (fs : List Frame) (form : Form) (h : List ℕ) (n to : ℕ) → Header form n h → Admits fs form → to ≡ used + length h → Ends l start fs form (to + n)
+      → run g l used (at used start c fs Ready) h ≡ after to (begin g l.depth to start c fs form n)
+  header_run used start c fs form _ n to (short b d) a e r =
+      rw e (ap (λ x. after (used + 1) (on_descriptor g l.depth l.item (used + 1) start c fs x)) d ∙ ap (after (used + 1)) (sized_begins (used + 1) start c fs form n a (rw e at r)))
+  header_run used start c fs form _ n to (long b h d v) a e r =
+      let k = length_VarUInt h n v in
+      run_via g l used (used + 1) (at used start c fs Ready) (at (used + 1) start c fs (InNumber (purposes.Length form) 0)) _ (b ∷ []) h refl
+      (ap (λ x. after (used + 1) (on_descriptor g l.depth l.item (used + 1) start c fs x)) d ∙ ap (after (used + 1)) (unsized_goes (used + 1) start c fs form a (ends_room l start fs form _ _ (omega arith) r)))
+      (number_run (used + 1) start c fs (purposes.Length form) h n to v (omega arith) (ends_room l start fs form _ _ (omega arith) r) ∙ ap (after to) (sized_begins to start c fs form n a r))
+
+  -- bodies
+
+  pub body_more : (used start : ℕ) (c : List Slot) (fs : List Frame) (t : Scalar) (n : ℕ) (came : List ℕ) (b : ℕ) → on_body g used start c fs t (suc n) came b ≡ Outcome.goes (in_body used start c fs t n (came ++ b ∷ []))
+  body_more used start c fs t n came b =
+      cond-false _ _ _ (ne_eqb (suc n) 0 (λ e. omega arith)) ∙ ap (λ k. Outcome.goes (in_body used start c fs t k (came ++ b ∷ []))) (let j : suc n - 1 ≡ n = omega arith in j)
+
+  pub pad_more : (used start : ℕ) (c : List Slot) (fs : List Frame) (n : ℕ) → on_pad g used start c fs (suc n) ≡ Outcome.goes (at used start c fs (InPad n))
+  pad_more used start c fs n = cond-false _ _ _ (ne_eqb (suc n) 0 (λ e. omega arith)) ∙ ap (λ k. Outcome.goes (at used start c fs (InPad k))) (let j : suc n - 1 ≡ n = omega arith in j)
+
+  pub begin_scalar : (used start : ℕ) (c : List Slot) (fs : List Frame) (t : Scalar) (n : ℕ) → begin g l.depth used start c fs (forms.Scalar t) (suc n) ≡ Outcome.goes (in_body used start c fs t n [])
+  begin_scalar used start c fs t n = cond-false _ _ _ (ne_eqb (suc n) 0 (λ e. omega arith)) ∙ ap (λ k. Outcome.goes (in_body used start c fs t k [])) (let j : suc n - 1 ≡ n = omega arith in j)
+
+  pub begin_pad : (used start : ℕ) (c : List Slot) (fs : List Frame) (n : ℕ) → begin g l.depth used start c fs forms.Pad (suc n) ≡ Outcome.goes (at used start c fs (InPad n))
+  begin_pad used start c fs n = pad_more used start c fs n
+
+  pub begin_ordered : (used start : ℕ) (c : List Slot) (fs : List Frame) (n : ℕ) → 0 < n → begin g l.depth used start c fs forms.OrderedStruct n ≡ open_struct g l.depth used start c fs n
+  begin_ordered used start c fs n h = cond-false _ _ _ (ne_eqb n 0 (λ e. omega arith))
+
+  pub begin_wrapper : (used start : ℕ) (c : List Slot) (fs : List Frame) (n : ℕ) → 0 < n → begin g l.depth used start c fs forms.Wrapper n ≡ Outcome.goes (at used start c (frames.Annotated (used + n) [] ∷ fs) (InNumber purposes.AnnotationsLength 0))
+  begin_wrapper used start c fs n h = cond-false _ _ _ (ne_eqb n 0 (λ e. omega arith))
+
+  -- the octets of a body, behind those that have come
+  pub body_run : (used start : ℕ) (c : List Slot) (fs : List Frame) (t : Scalar) (n : ℕ) (came body : List ℕ) (to : ℕ) → length body ≡ suc n → to ≡ used + length body
+      → run g l used (in_body used start c fs t n came) body ≡ after to (judged g to start c fs (judge c t (came ++ body)))
+  body_run used start c fs t zero came [] to h e = absurd (omega arith)
+  body_run used start c fs t zero came (b ∷ []) to h e = rw e refl
+  body_run used start c fs t zero came (b ∷ d ∷ bs) to h e = absurd (omega arith)
+  body_run used start c fs t (suc n) came [] to h e = absurd (omega arith)
+  body_run used start c fs t (suc n) came (b ∷ bs) to h e =
+      ap (run_on (used + 1) (λ m. run g l (used + 1) m bs)) (body_more (used + 1) start c fs t n came b) ∙ body_run (used + 1) start c fs t n (came ++ b ∷ []) bs to (omega arith) (omega arith) ∙ ap (λ x. after to (judged g to start c fs (judge c t x))) (append_assoc came (b ∷ []) bs)
+
+  pad_run : (used start : ℕ) (c : List Slot) (fs : List Frame) (n : ℕ) (body : List ℕ) (to : ℕ) → length body ≡ suc n → to ≡ used + length body
+      → run g l used (at used start c fs (InPad n)) body ≡ after to (proceed g to start c fs)
+  pad_run used start c fs zero [] to h e = absurd (omega arith)
+  pad_run used start c fs zero (b ∷ []) to h e = rw e refl
+  pad_run used start c fs zero (b ∷ d ∷ bs) to h e = absurd (omega arith)
+  pad_run used start c fs (suc n) [] to h e = absurd (omega arith)
+  pad_run used start c fs (suc n) (b ∷ bs) to h e = ap (run_on (used + 1) (λ m. run g l (used + 1) m bs)) (pad_more (used + 1) start c fs n) ∙ pad_run (used + 1) start c fs n bs to (omega arith) (omega arith)
+
+  -- a run from a header on
+  from_header : (used start : ℕ) (c : List Slot) (fs : List Frame) (form : Form) (h body : List ℕ) (mid : ℕ) (r : Run) → Header form (length body) h → Admits fs form → mid ≡ used + length h → Ends l start fs form (mid + length body)
+      → run_on mid (λ n. run g l mid n body) (begin g l.depth mid start c fs form (length body)) ≡ r
+      → run g l used (at used start c fs Ready) (h ++ body) ≡ r
+  from_header used start c fs form h body mid r d a e room k =
+      run-append g l used mid h body e (at used start c fs Ready)
+      ∙ (ap (λ x. then_run x (λ n. run g l mid n body)) (header_run used start c fs form h (length body) mid d a e room)
+      ∙ (then_after mid (begin g l.depth mid start c fs form (length body)) (λ n. run g l mid n body) ∙ k))
+
+  scalar_begins : (used start : ℕ) (c : List Slot) (fs : List Frame) (t : Scalar) (body : List ℕ) (p : Payload) (to : ℕ) → judge c t body ≡ Ok p → to ≡ used + length body
+      → run_on used (λ n. run g l used n body) (begin g l.depth used start c fs (forms.Scalar t) (length body)) ≡ after to (deliver g to start c fs (bare p))
+  scalar_begins used start c fs t [] p to i e =
+      ap (λ x. after used (judged g used start c fs x)) i ∙ ap (λ n. after n (deliver g n start c fs (bare p))) (let j : used ≡ to = omega arith in j)
+  scalar_begins used start c fs t (b ∷ bs) p to i e =
+      ap (run_on used (λ m. run g l used m (b ∷ bs))) (begin_scalar used start c fs t (length bs)) ∙ body_run used start c fs t (length bs) [] (b ∷ bs) to refl e ∙ ap (λ x. after to (judged g to start c fs x)) i
+
+  pad_begins : (used start : ℕ) (c : List Slot) (fs : List Frame) (body : List ℕ) (to : ℕ) → to ≡ used + length body
+      → run_on used (λ n. run g l used n body) (begin g l.depth used start c fs forms.Pad (length body)) ≡ after to (proceed g to start c fs)
+  pad_begins used start c fs [] to e = ap (λ n. after n (proceed g n start c fs)) (let j : used ≡ to = omega arith in j)
+  pad_begins used start c fs (b ∷ bs) to e = ap (run_on used (λ m. run g l used m (b ∷ bs))) (begin_pad used start c fs (length bs)) ∙ pad_run used start c fs (length bs) (b ∷ bs) to refl e
+
+  pub skip_run : (used start : ℕ) (c : List Slot) (fs : List Frame) (w : List ℕ) (to : ℕ) → IsPad w → Admits fs forms.Pad → to ≡ used + length w → Ends l start fs forms.Pad to
+      → run g l used (at used start c fs Ready) w ≡ after to (proceed g to start c fs)
+  skip_run used start c fs _ to (skipped h body d) a e r =
+      let k = length-append h body in
+      let m : to ≡ used + length h + length body = omega arith in
+      from_header used start c fs forms.Pad h body (used + length h) _ d a refl (subst (Ends l start fs forms.Pad) m r) (pad_begins (used + length h) start c fs body to m)
+
+  -- where a container goes on, it waits for what comes next
+  items_go : (used start : ℕ) (c : List Slot) (fs : List Frame) (end : ℕ) (x : Listing) (vs : List Value) → used < end → proceed g used start c (frames.Items end x vs ∷ fs) ≡ Outcome.goes (at used start c (frames.Items end x vs ∷ fs) Ready)
+  items_go used start c fs end x vs h = cond-false _ _ _ (ne_eqb used end (λ e. omega arith))
+
+  fields_go : (used start : ℕ) (c : List Slot) (fs : List Frame) (end : ℕ) (ms : List Field) → used < end → proceed g used start c (frames.Fields end ms ∷ fs) ≡ Outcome.goes (at used start c (frames.Fields end ms ∷ fs) (InNumber purposes.FieldName 0))
+  fields_go used start c fs end ms h = cond-false _ _ _ (ne_eqb used end (λ e. omega arith))
+
+  -- a field name, where a value or a pad follows
+  name_run : (used start : ℕ) (c : List Slot) (fs : List Frame) (end : ℕ) (ms : List Field) (id : List ℕ) (k to : ℕ) (r : Result (Option (List ℕ)) Reason) → VarUInt id k → resolve c k ≡ r → to ≡ used + length id → to < end
+      → run g l used (at used start c (frames.Fields end ms ∷ fs) (InNumber purposes.FieldName 0)) id ≡ led (at to start c (frames.Named end ms r ∷ fs) Ready)
+  name_run used start c fs end ms id k to r v i h e =
+      number_run used start c (frames.Fields end ms ∷ fs) purposes.FieldName id k to v h (omega arith)
+      ∙ (ap (after to) (cond-true _ _ _ (lt-ltb to end e)) ∙ ap (λ n. led (at to start c (frames.Named end ms n ∷ fs) Ready)) i)
+
+  -- the annotations
+  ids_run : (used start : ℕ) (c : List Slot) (fs : List Frame) (end stop : ℕ) (us : List ℕ) (ss : List (Option (List ℕ))) (to : ℕ) → Ids c us ss → used < stop → to ≡ used + length us → to ≤ stop
+      → run g l used (at used start c (frames.Annotated end [] ∷ fs) (InNumber (purposes.Annotation stop) 0)) us ≡ led (at to start c (frames.Annotated end ss ∷ fs) (cond (to == stop) Ready (InNumber (purposes.Annotation stop) 0)))
+  ids_run used start c fs end stop _ _ to no_ids h i j =
+      let n : to ≡ used = omega arith in
+      rw n (ap (λ ph. led (at used start c (frames.Annotated end [] ∷ fs) ph)) (sym (cond-false _ _ _ (ne_eqb used stop (λ k. omega arith)))))
+  ids_run used start c fs end stop _ _ to (one_id us w ss k s b v r) h i j =
+      let n = length-append us w in
+      let m = length_VarUInt w k v in
+      let mid = used + length us in
+      run_via g l used mid _ (at mid start c (frames.Annotated end ss ∷ fs) (InNumber (purposes.Annotation stop) 0)) _ us w refl
+      (ids_run used start c fs end stop us ss mid b h refl (omega arith) ∙ ap (λ ph. led (at mid start c (frames.Annotated end ss ∷ fs) ph)) (cond-false _ _ _ (ne_eqb mid stop (λ k. omega arith))))
+      (number_run mid start c (frames.Annotated end ss ∷ fs) (purposes.Annotation stop) w k to v (omega arith) j ∙ ap (λ x. after to (annotation_came to start c (frames.Annotated end ss ∷ fs) stop x)) r)
+
+  count_goes : (used start : ℕ) (c : List Slot) (fs : List Frame) (end n : ℕ) (ss : List (Option (List ℕ))) → 0 < n → used + n < end
+      → count_came used start c (frames.Annotated end ss ∷ fs) n ≡ Outcome.goes (at used start c (frames.Annotated end ss ∷ fs) (InNumber (purposes.Annotation (used + n)) 0))
+  count_goes used start c fs end n ss h r = cond-false _ _ _ (ne_eqb n 0 (λ k. omega arith)) ∙ cond-true _ _ _ (lt-ltb (used + n) end r)
+
+  -- a wrapper up to its value
+  wrapper_run : (used start : ℕ) (c : List Slot) (fs : List Frame) (h count ids w : List ℕ) (ss : List (Option (List ℕ))) (end : ℕ) → Header forms.Wrapper (length (count ++ (ids ++ w))) h → VarUInt count (length ids) → 0 < length ids → Ids c ids ss → 0 < length w → Admits fs forms.Wrapper
+      → end ≡ used + length h + (length count + (length ids + length w)) → Ends l start fs forms.Wrapper end
+      → (r : Run) → run g l (used + length h + length count + length ids) (at (used + length h + length count + length ids) start c (frames.Annotated end ss ∷ fs) Ready) w ≡ r
+      → run g l used (at used start c fs Ready) (h ++ (count ++ (ids ++ w))) ≡ r
+  wrapper_run used start c fs h count ids w ss end d v n i m a e x r k =
+      let n1 = length-append count (ids ++ w) in
+      let n2 = length-append ids w in
+      let mid = used + length h in
+      let mid2 = mid + length count in
+      let mid3 = mid2 + length ids in
+      let is_end : end ≡ mid + length (count ++ (ids ++ w)) = omega arith in
+      from_header used start c fs forms.Wrapper h (count ++ (ids ++ w)) mid r d a refl (subst (Ends l start fs forms.Wrapper) is_end x)
+      (ap (run_on mid (λ n. run g l mid n (count ++ (ids ++ w)))) (begin_wrapper mid start c fs (length (count ++ (ids ++ w))) (omega arith))
+      ∙ rw (← is_end) (run_via g l mid mid2 (at mid start c (frames.Annotated end [] ∷ fs) (InNumber purposes.AnnotationsLength 0)) (at mid2 start c (frames.Annotated end [] ∷ fs) (InNumber (purposes.Annotation mid3) 0)) r count (ids ++ w) refl
+      (number_run mid start c (frames.Annotated end [] ∷ fs) purposes.AnnotationsLength count (length ids) mid2 v refl (omega arith) ∙ ap (after mid2) (count_goes mid2 start c fs end (length ids) [] n (omega arith)))
+      (run_via g l mid2 mid3 _ (at mid3 start c (frames.Annotated end ss ∷ fs) Ready) r ids w refl
+      (ids_run mid2 start c fs end mid3 ids ss mid3 i (omega arith) refl (omega arith) ∙ ap (λ ph. led (at mid3 start c (frames.Annotated end ss ∷ fs) ph)) (cond-true _ _ _ (eq-eqb mid3 mid3 refl)))
+      k)))
+
+  one_run : (used start : ℕ) (c : List Slot) (fs : List Frame) (to : ℕ) (p : Payload) → to ≡ used + 1 → nameless fs forms.Struct ≡ None → Ends l start fs forms.Struct to
+      → after (used + 1) (one_octet g l.item (used + 1) start c fs p) ≡ after to (deliver g to start c fs (bare p))
+  one_run used start c fs to p e a r = rw (← e) (ap (λ o. after to (unless o (deliver g to start c fs (bare p)))) (unfit_none l start fs forms.Struct to (admits_plain fs forms.Struct refl refl a) r))
+
+  -- the body of a struct, where its fields run so
+  struct_run : (mid start : ℕ) (c : List Slot) (fs : List Frame) (to : ℕ) (body : List ℕ) (ms : List Field) → to ≡ mid + length body → levels fs < l.depth
+      → run_on mid (λ n. run g l mid n body) (proceed g mid start c (frames.Fields (mid + length body) [] ∷ fs)) ≡ after to (proceed g to start c (frames.Fields (mid + length body) ms ∷ fs))
+      → run_on mid (λ n. run g l mid n body) (open_struct g l.depth mid start c fs (length body)) ≡ after to (deliver g to start c fs (bare (payloads.Fields ms)))
+  struct_run mid start c fs to body ms m q k =
+      ap (run_on mid (λ n. run g l mid n body)) (cond-true _ _ _ (lt-ltb (levels fs) l.depth q))
+      ∙ (k ∙ ap (after to) (cond-true _ _ _ (eq-eqb to (mid + length body) m)))
+
+  wrapper_named : (fs : List Frame) → nameless fs forms.Wrapper ≡ None → nameless fs forms.Struct ≡ None
+  wrapper_named [] h = refl
+  wrapper_named (frames.Annotated end ss ∷ fs) h = refl
+  wrapper_named (frames.Items end x vs ∷ fs) h = refl
+  wrapper_named (frames.Fields end ms ∷ fs) h = refl
+  wrapper_named (frames.Named end ms (Ok s) ∷ fs) h = refl
+  wrapper_named (frames.Named end ms (Err e) ∷ fs) h = absurd cc
+
+  -- an id isn't resolved before a pad
+  pad_named : (end : ℕ) (ms : List Field) (r : Result (Option (List ℕ)) Reason) (fs : List Frame) → nameless (frames.Named end ms r ∷ fs) forms.Pad ≡ None
+  pad_named end ms (Ok s) fs = refl
+  pad_named end ms (Err e) fs = refl
+
+  mutual
+    -- a value without annotations, where there is room for it
+    plain_run : (used start : ℕ) (c : List Slot) (fs : List Frame) (to : ℕ) (w : List ℕ) (p : Payload) → Plain c w p → nameless fs forms.Struct ≡ None → to ≡ used + length w → Ends l start fs forms.Struct to → depth (bare p) + levels fs ≤ l.depth
+        → run g l used (at used start c fs Ready) w ≡ after to (deliver g to start c fs (bare p))
+    plain_run used start c fs to _ _ (is_null b k d) a e r q =
+        ap (λ x. after (used + 1) (on_descriptor g l.depth l.item (used + 1) start c fs x)) d ∙ one_run used start c fs to (payloads.Null k) e a r
+    plain_run used start c fs to _ _ (is_truth b k d) a e r q =
+        ap (λ x. after (used + 1) (on_descriptor g l.depth l.item (used + 1) start c fs x)) d ∙ one_run used start c fs to (payloads.Truth k) e a r
+    plain_run used start c fs to _ _ (is_scalar h body t p d i) a e r q =
+        let k = length-append h body in
+        let m : to ≡ used + length h + length body = omega arith in
+        from_header used start c fs (forms.Scalar t) h body (used + length h) _ d (admits_plain fs (forms.Scalar t) refl refl a) refl (ends_as l start fs (forms.Scalar t) _ (subst (Ends l start fs forms.Struct) m r)) (scalar_begins (used + length h) start c fs t body p to (judge_scalar c body t p i) m)
+    plain_run used start c fs to _ _ (is_listing h body x vs d b) a e r q =
+        let k = length-append h body in
+        let mid = used + length h in
+        let dv = depth-listed x vs in
+        let m : to ≡ mid + length body = omega arith in
+        from_header used start c fs (forms.Listing x) h body mid _ d (admits_plain fs (forms.Listing x) refl refl a) refl (ends_as l start fs (forms.Listing x) _ (subst (Ends l start fs forms.Struct) m r))
+        (ap (run_on mid (λ n. run g l mid n body)) (cond-true _ _ _ (lt-ltb (levels fs) l.depth (omega arith)))
+        ∙ (items_run mid start c fs (mid + length body) x to body vs b m (omega arith) (omega arith)
+        ∙ ap (after to) (cond-true _ _ _ (eq-eqb to (mid + length body) m))))
+    plain_run used start c fs to _ _ (is_struct h body ms d b) a e r q =
+        let k = length-append h body in
+        let mid = used + length h in
+        let dv = depth-fields ms in
+        let m : to ≡ mid + length body = omega arith in
+        from_header used start c fs forms.Struct h body mid _ d (admits_plain fs forms.Struct refl refl a) refl (subst (Ends l start fs forms.Struct) m r)
+        (struct_run mid start c fs to body ms m (omega arith) (fields_run mid start c fs (mid + length body) to body ms b m (omega arith) (omega arith)))
+    plain_run used start c fs to _ _ (is_ordered h body ms d n b) a e r q =
+        let k = length-append h body in
+        let mid = used + length h in
+        let dv = depth-fields ms in
+        let m : to ≡ mid + length body = omega arith in
+        from_header used start c fs forms.OrderedStruct h body mid _ d (admits_plain fs forms.OrderedStruct refl refl a) refl (ends_as l start fs forms.OrderedStruct _ (subst (Ends l start fs forms.Struct) m r))
+        (ap (run_on mid (λ n. run g l mid n body)) (begin_ordered mid start c fs (length body) n) ∙ struct_run mid start c fs to body ms m (omega arith) (fields_run mid start c fs (mid + length body) to body ms b m (omega arith) (omega arith)))
+
+    -- a value, where there is room for it
+    pub binary_run : (used start : ℕ) (c : List Slot) (fs : List Frame) (to : ℕ) (w : List ℕ) (v : Value) → Binary c w v → Admits fs forms.Wrapper → to ≡ used + length w → Ends l start fs forms.Struct to → depth v + levels fs ≤ l.depth
+        → run g l used (at used start c fs Ready) w ≡ after to (deliver g to start c fs v)
+    binary_run used start c fs to _ _ (unannotated w p b) a e r q = plain_run used start c fs to w p b (wrapper_named fs a.named) e r q
+    binary_run used start c fs to _ _ (wrapped h count ids w ss p d v n i b) a e r q =
+        let n0 = length-append h (count ++ (ids ++ w)) in
+        let n1 = length-append count (ids ++ w) in
+        let n2 = length-append ids w in
+        let dp = depth-annotated ss p in
+        wrapper_run used start c fs h count ids w ss to d v n i (plain_some c w p b) a (omega arith) (ends_as l start fs forms.Wrapper to r) _
+        (plain_run (used + length h + length count + length ids) start c (frames.Annotated to ss ∷ fs) to w p b refl (omega arith) refl (omega arith))
+
+    -- the items of a list or s-expression that ends at `end`
+    items_run : (used start : ℕ) (c : List Slot) (fs : List Frame) (end : ℕ) (x : Listing) (to : ℕ) (w : List ℕ) (vs : List Value) → Sequence c w vs → to ≡ used + length w → to ≤ end → depths vs + suc (levels fs) ≤ l.depth
+        → run_on used (λ n. run g l used n w) (proceed g used start c (frames.Items end x [] ∷ fs)) ≡ after to (proceed g to start c (frames.Items end x vs ∷ fs))
+    items_run used start c fs end x to _ _ nothing e r q = ap (λ n. after n (proceed g n start c (frames.Items end x [] ∷ fs))) (let j : used ≡ to = omega arith in j)
+    items_run used start c fs end x to _ _ (one_more us w vs v b d) e r q =
+        let k = length-append us w in
+        let j = binary_some c w v d in
+        let m = deepest-more vs v in
+        let mid = used + length us in
+        on_outcome g l used mid us w (run-append g l used mid us w refl) (proceed g used start c (frames.Items end x [] ∷ fs))
+        ∙ (ap (λ y. then_run y (λ n. run g l mid n w)) (items_run used start c fs end x mid us vs b refl (omega arith) (omega arith) ∙ ap (after mid) (items_go mid start c fs end x vs (omega arith)))
+        ∙ binary_run mid start c (frames.Items end x vs ∷ fs) to w v d (record { fitting = refl; named = refl }) (omega arith) r (omega arith))
+    items_run used start c fs end x to _ _ (padded us w vs b d) e r q =
+        let k = length-append us w in
+        let j = pad_some w d in
+        let mid = used + length us in
+        on_outcome g l used mid us w (run-append g l used mid us w refl) (proceed g used start c (frames.Items end x [] ∷ fs))
+        ∙ (ap (λ y. then_run y (λ n. run g l mid n w)) (items_run used start c fs end x mid us vs b refl (omega arith) q ∙ ap (after mid) (items_go mid start c fs end x vs (omega arith)))
+        ∙ skip_run mid start c (frames.Items end x vs ∷ fs) w to d (record { fitting = refl; named = refl }) (omega arith) r)
+
+    -- the fields of a struct that ends at `end`
+    fields_run : (used start : ℕ) (c : List Slot) (fs : List Frame) (end to : ℕ) (w : List ℕ) (ms : List Field) → Fields c w ms → to ≡ used + length w → to ≤ end → field_depths ms + suc (levels fs) ≤ l.depth
+        → run_on used (λ n. run g l used n w) (proceed g used start c (frames.Fields end [] ∷ fs)) ≡ after to (proceed g to start c (frames.Fields end ms ∷ fs))
+    fields_run used start c fs end to _ _ no_fields e r q = ap (λ n. after n (proceed g n start c (frames.Fields end [] ∷ fs))) (let j : used ≡ to = omega arith in j)
+    fields_run used start c fs end to _ _ (one_field us id w ms k s v b n y d) e r q =
+        let n0 = length-append us (id ++ w) in
+        let n1 = length-append id w in
+        let j = binary_some c w v d in
+        let m = field_deepest-more ms (field_of s v) in
+        let mid = used + length us in
+        let mid2 = mid + length id in
+        on_outcome g l used mid us (id ++ w) (run-append g l used mid us (id ++ w) refl) (proceed g used start c (frames.Fields end [] ∷ fs))
+        ∙ (ap (λ y. then_run y (λ n. run g l mid n (id ++ w))) (fields_run used start c fs end mid us ms b refl (omega arith) (omega arith) ∙ ap (after mid) (fields_go mid start c fs end ms (omega arith)))
+        ∙ run_via g l mid mid2 _ (at mid2 start c (frames.Named end ms (Ok s) ∷ fs) Ready) _ id w refl (name_run mid start c fs end ms id k mid2 (Ok s) n y refl (omega arith))
+        (binary_run mid2 start c (frames.Named end ms (Ok s) ∷ fs) to w v d (record { fitting = refl; named = refl }) (omega arith) r (omega arith)))
+    fields_run used start c fs end to _ _ (padded_field us id w ms k b n d) e r q =
+        let n0 = length-append us (id ++ w) in
+        let n1 = length-append id w in
+        let j = pad_some w d in
+        let mid = used + length us in
+        let mid2 = mid + length id in
+        on_outcome g l used mid us (id ++ w) (run-append g l used mid us (id ++ w) refl) (proceed g used start c (frames.Fields end [] ∷ fs))
+        ∙ (ap (λ y. then_run y (λ n. run g l mid n (id ++ w))) (fields_run used start c fs end mid us ms b refl (omega arith) q ∙ ap (after mid) (fields_go mid start c fs end ms (omega arith)))
+        ∙ run_via g l mid mid2 _ (at mid2 start c (frames.Named end ms (resolve c k) ∷ fs) Ready) _ id w refl (name_run mid start c fs end ms id k mid2 (resolve c k) n refl refl (omega arith))
+        (skip_run mid2 start c (frames.Named end ms (resolve c k) ∷ fs) w to d (record { fitting = refl; named = pad_named end ms (resolve c k) fs }) (omega arith) r))
+
+  pub marker_run : (used start : ℕ) (c : List Slot) → run g l used (at used start c [] Ready) the_marker ≡ led (at (used + 4) (used + 4) system_slots [] Ready)
+  unfolding opening_of descriptor_of
+  marker_run used start c = ap (λ n. led (at n n system_slots [] Ready)) (let j : used + 1 + 1 + 1 + 1 ≡ used + 4 = omega arith in j)

@@ -1,0 +1,61 @@
+-- A body of a binary document is refused only for reasons that octets decide.
+use Rattle.std.proofs.Common.{ℕ, ◌^◌, List, Result, Ok, Err, Option, Bool, true, false, nat_lt, ◌==◌}
+use Rattle.std.specs.Str.{is_utf8}
+use Rattle.ion_model.specs.declared.value.Payload.{Payload}
+use Rattle.ion_model.specs.Decimals.{DecimalParts}
+use Rattle.ion_model.specs.Timestamps.{TimestampParts}
+use Rattle.ion_model.specs.declared.refusal.Reason.{Reason}
+use Rattle.ion_model.specs.declared.refusal.Reason.TheVariants.{TooLarge, Malformed}
+use Rattle.ion_scalar.specs.binary.Fields.{positional, uint_field}
+use Rattle.ion_symtab.specs.Slots.{Slot, resolve}
+use Rattle.ion_symtab.specs.Decided.{IsDecided, Decides, either, resolve_decides}
+use Rattle.ion_binary.specs.declared.form.Scalar.{Scalar}
+use Rattle.ion_binary.specs.declared.form.Scalar.TheVariants as scalars
+use Rattle.ion_scalar.specs.binary.Decimal.{decimal_of_body}
+use Rattle.ion_scalar.specs.binary.Timestamp.{timestamp_of_body}
+use Rattle.ion_scalar.specs.binary.laws.BodyReasons.{IsBodyReason, JudgesBody, decimal_judges, timestamp_judges}
+use Rattle.ion_binary.specs.machine.Judge.{judge, int_of, symbol_of, as_symbol, as_decimal, as_timestamp}
+
+body_decides : (e : Reason) → IsBodyReason e → IsDecided e
+body_decides TooLarge h = tt
+body_decides Malformed h = tt
+body_decides _ h = absurd h
+
+judged_decides : {A : Type 0} (r : Result A Reason) → JudgesBody r → Decides r
+judged_decides (Ok x) h = tt
+judged_decides (Err e) h = body_decides e h
+
+int_decides : (negative : Bool) (r : Result ℕ Reason) → Decides r → Decides (int_of negative r)
+int_decides negative (Err e) h = h
+int_decides false (Ok n) h = tt
+int_decides true (Ok n) h = either (Decides {A = Payload}) (n == 0) _ _ tt tt
+
+uint_decides : (body : List ℕ) → Decides (uint_field body)
+uint_decides body = either (Decides {A = ℕ}) (nat_lt (positional 256 body) (2 ^ 127)) _ _ tt tt
+
+as_symbol_decides : (r : Result (Option (List ℕ)) Reason) → Decides r → Decides (as_symbol r)
+as_symbol_decides (Ok s) h = tt
+as_symbol_decides (Err e) h = h
+
+symbol_decides : (c : List Slot) (r : Result ℕ Reason) → Decides r → Decides (symbol_of c r)
+symbol_decides c (Ok id) h = as_symbol_decides (resolve c id) (resolve_decides c id)
+symbol_decides c (Err e) h = h
+
+as_decimal_decides : (r : Result DecimalParts Reason) → Decides r → Decides (as_decimal r)
+as_decimal_decides (Ok d) h = tt
+as_decimal_decides (Err e) h = h
+
+as_timestamp_decides : (r : Result TimestampParts Reason) → Decides r → Decides (as_timestamp r)
+as_timestamp_decides (Ok t) h = tt
+as_timestamp_decides (Err e) h = h
+
+pub judge_decides : (c : List Slot) (t : Scalar) (body : List ℕ) → Decides (judge c t body)
+unfolding judge
+judge_decides c scalars.Int body = int_decides false (uint_field body) (uint_decides body)
+judge_decides c scalars.NegativeInt body = int_decides true (uint_field body) (uint_decides body)
+judge_decides c scalars.Decimal body = as_decimal_decides (decimal_of_body body) (judged_decides (decimal_of_body body) (decimal_judges body))
+judge_decides c scalars.Timestamp body = as_timestamp_decides (timestamp_of_body body) (judged_decides (timestamp_of_body body) (timestamp_judges body))
+judge_decides c scalars.Symbol body = symbol_decides c (uint_field body) (uint_decides body)
+judge_decides c scalars.Str body = either (Decides {A = Payload}) (is_utf8 body) _ _ tt tt
+judge_decides c scalars.Clob body = tt
+judge_decides c scalars.Blob body = tt

@@ -1,0 +1,319 @@
+-- The promises of the reader, over the grammar.
+use Rattle.std.proofs.Common.{◌≡◌, ◌↔◌, ℕ, ◌+◌, ◌≤◌, ◌<◌, List, [], ◌∷◌, ◌++◌, length, take, Result, Ok, Err, Option, Some, None, false, refl, ap, sym, ◌∙◌, subst, arith, append_assoc, append-nil, length-append, Bool, cond, option_to_list, inl, inr}
+use Rattle.std.proofs.lemmas.Bool.{cases_lt}
+use Rattle.std.proofs.Math.Seq.{take-append-add}
+use Rattle.ion_model.specs.declared.value.Value.{Value}
+use Rattle.ion_model.specs.declared.refusal.Refusal.{Refusal}
+use Rattle.ion_model.specs.declared.refusal.Reason.{Reason}
+use Rattle.ion_model.specs.declared.refusal.Reason.TheVariants.{Incomplete}
+use Rattle.ion_symtab.specs.declared.limits.Limits.{Limits}
+use Rattle.ion_symtab.specs.declared.catalog.Catalog.{Catalog}
+use Rattle.ion_symtab.specs.Slots.{Slot}
+use Rattle.ion_symtab.specs.Trace.{Streams, Grows, plain}
+use Rattle.ion_symtab.specs.Promises.{Refuses, BeginsNone, Shown, Shows, IsSmall, Spaced, IsReadersReason, HasReasons, NoTables, GivesNoTable}
+use Rattle.ion_symtab.specs.laws.Promises.{shown_once}
+use Rattle.ion_symtab.specs.Decided.{IsDecided}
+use Rattle.ion_binary.specs.declared.state.Frame.{Frame}
+use Rattle.ion_binary.specs.declared.state.Phase.{Phase}
+use Rattle.ion_binary.specs.declared.state.Phase.TheVariants.{InMarker, Ready, InNumber, InBody, InPad}
+use Rattle.ion_model.specs.Kinds.{is_table}
+use Rattle.ion_binary.specs.Grammar.{Pieces, begins, marked, skips, turns, holds, the_marker, Document, Whole, no_piece, document, OpenRest}
+use Rattle.ion_binary.specs.machine.EachOctet.{Machine, at, initial}
+use Rattle.ion_binary.specs.machine.Run.{Run, run, whole, ends_of, refused_of, trace_of, trace}
+use Rattle.ion_binary.specs.machine.Pieces.{run-append, then_run, on_now}
+use Rattle.ion_binary.specs.laws.reading.Stands.{Standing, Stands}
+use Rattle.ion_binary.specs.laws.reading.Sound.{run_stands, initial_stands, Ended}
+use Rattle.ion_binary.specs.laws.reading.Steady.{Steady, FineFrames, feed_steady}
+use Rattle.ion_binary.specs.laws.reading.Small.{spaced_on}
+use Rattle.ion_binary.specs.laws.reading.Documents.{pieces_run}
+use Rattle.ion_binary.specs.laws.reading.OpenRests.{OpenCut, standing_open, standing_fine, rest_long}
+use Rattle.ion_binary.specs.laws.reading.Stops.{Stop, stop_of, stopped, begins_none, whole_within}
+
+-- a document where the end is reached with no open piece
+finished : (g : Catalog) (l : Limits) (c : List Slot) (fs : List Frame) (phase : Phase) (start : ℕ) (s : List Value) (body u : List ℕ) (r : Refusal) (last : Option Value) → Standing g l start c s fs body phase u → cond (whole phase fs) (Ok None) (Err r) ≡ Ok last → (last ≡ None) × Document g l u s
+finished g l c [] Ready start s body u r last o h = (cc, (c, o.opened.0))
+finished g l c [] (InMarker m good) start s body u r last o h = absurd cc
+finished g l c [] (InNumber p a) start s body u r last o h = absurd cc
+finished g l c [] (InBody b n) start s body u r last o h = absurd cc
+finished g l c [] (InPad n) start s body u r last o h = absurd cc
+finished g l c (f ∷ fs) Ready start s body u r last o h = absurd cc
+finished g l c (f ∷ fs) (InMarker m good) start s body u r last o h = absurd cc
+finished g l c (f ∷ fs) (InNumber p a) start s body u r last o h = absurd cc
+finished g l c (f ∷ fs) (InBody b n) start s body u r last o h = absurd cc
+finished g l c (f ∷ fs) (InPad n) start s body u r last o h = absurd cc
+
+ended_well : (g : Catalog) (l : Limits) (u : List ℕ) (given : List (Value × ℕ)) (now : Result Machine Refusal) (last : Option Value) → Ended g l u [] given now → ends_of now ≡ Ok last → (last ≡ None) × Document g l u (plain given)
+ended_well g l u given (Ok m) last o h = finished g l m.context m.frames m.phase m.start (plain given) m.body u _ last o.standing h
+ended_well g l u given (Err e) last o h = absurd cc
+
+admits : (g : Catalog) (l : Limits) (u : List ℕ) (s : List Value) → Streams (trace g l u) s → Document g l u s
+admits g l u s t =
+    let d = ended_well g l u (run g l 0 initial u).given (run g l 0 initial u).now t.last (run_stands g l 0 initial [] u [] (initial_stands g l)) t.ends in
+    let e : plain (run g l 0 initial u).given ++ option_to_list t.last ≡ plain (run g l 0 initial u).given = ap (λ o. plain (run g l 0 initial u).given ++ option_to_list o) d.0 ∙ append-nil _ in
+    subst (Document g l u) (sym (t.values ∙ e)) d.1
+
+accepts : (g : Catalog) (l : Limits) (u : List ℕ) (s : List Value) → Document g l u s → Streams (trace g l u) s
+accepts g l u s d =
+    let r = pieces_run g l u s d.0 d.1 in
+    record {
+      last = None;
+      ends = ap (λ x. (trace_of x).ends) r.ran;
+      values = sym (append-nil _ ∙ (ap (λ x. plain x.given) r.ran ∙ r.gave));
+    }
+
+-- octets denote a stream exactly where they end well
+pub exact : (g : Catalog) (l : Limits) (u : List ℕ) (s : List Value) → Streams (trace g l u) s ↔ Document g l u s
+exact g l u s = (admits g l u s, accepts g l u s)
+
+pub one_stream : (g : Catalog) (l : Limits) (u : List ℕ) (s t : List Value) → Document g l u s → Document g l u t → s ≡ t
+one_stream g l u s t a b =
+    let p = pieces_run g l u s a.0 a.1 in
+    let q = pieces_run g l u t b.0 b.1 in
+    sym p.gave ∙ (ap (λ x. plain x.given) (sym p.ran ∙ q.ran) ∙ q.gave)
+
+-- pieces have an octet
+pieces_some : (g : Catalog) (l : Limits) (u : List ℕ) (s : List Value) (c : List Slot) → Pieces g l u s c → 0 < length u
+pieces_some g l _ _ _ begins = omega arith
+pieces_some g l _ _ _ (marked u s c d) = let i = pieces_some g l u s c d in let k = length-append u the_marker in omega arith
+pieces_some g l _ _ _ (skips u w s c d p) = let i = pieces_some g l u s c d in let k = length-append u w in omega arith
+pieces_some g l _ _ _ (turns u w s c e v d b t n p q) = let i = pieces_some g l u s c d in let k = length-append u w in omega arith
+pieces_some g l _ _ _ (holds u w s c v d b t p q) = let i = pieces_some g l u s c d in let k = length-append u w in omega arith
+
+-- whole pieces have one stream
+pub one_whole : (g : Catalog) (l : Limits) (u w : List ℕ) (s t : List Value) → u ≡ w → Whole g l u s → Whole g l w t → s ≡ t
+one_whole g l _ _ _ _ e no_piece no_piece = refl
+one_whole g l _ _ _ _ e no_piece (document w t c d) = let k : 0 ≡ length w = ap length e in let i = pieces_some g l w t c d in absurd (omega arith)
+one_whole g l _ _ _ _ e (document u s c d) no_piece = let k : length u ≡ 0 = ap length e in let i = pieces_some g l u s c d in absurd (omega arith)
+one_whole g l _ _ _ _ e (document u s c d) (document w t b f) = one_stream g l w s t (subst (λ x. Document g l x s) e (c, d)) (b, f)
+
+-- octets show one stream
+pub one_shown : (g : Catalog) (l : Limits) (u : List ℕ) (s t : List Value) → Shown (λ front following s. Whole g l front s) u s → Shown (λ front following s. Whole g l front s) u t → s ≡ t
+one_shown g l u s t a b = shown_once (λ front following s. Whole g l front s) u s t (λ front following p q. one_whole g l front front s t refl p q) a b
+
+-- what the machine holds behind octets stands for them
+pub ran_stands : (g : Catalog) (l : Limits) (u : List ℕ) (given : List (Value × ℕ)) (m : Machine) → run g l 0 initial u ≡ record { given = given; now = Ok m } → Stands g l u (plain given) m
+ran_stands g l u given m e = subst (λ (r : Run). Ended g l u [] r.given r.now) e (run_stands g l 0 initial [] u [] (initial_stands g l))
+
+cut_of : (g : Catalog) (l : Limits) (u : List ℕ) (given : List (Value × ℕ)) (m : Machine) → run g l 0 initial u ≡ record { given = given; now = Ok m } → OpenCut g l m.start (plain given) u
+cut_of g l u given m e = standing_open g l m.start m.context (plain given) m.frames m.body m.phase u (ran_stands g l u given m e).standing
+
+-- two lists of octets begin alike
+front_of : (before w v rest : List ℕ) → before ++ w ≡ v ++ rest → length v ≤ length before → (r : List ℕ) × (before ≡ v ++ r)
+front_of before w [] rest e h = (before, refl)
+front_of [] w (x ∷ v) rest e h = absurd (omega arith)
+front_of (y ∷ before) w (x ∷ v) rest e h =
+    let head : y ≡ x = cc in
+    let tail : before ++ w ≡ v ++ rest = cc in
+    let p = front_of before w v rest tail (omega arith) in
+    (p.0, ap (λ z. z ∷ before) head ∙ ap (λ zs. x ∷ zs) p.1)
+
+shows_now : (g : Catalog) (l : Limits) (u : List ℕ) (given : List (Value × ℕ)) (now : Result Machine Refusal) → run g l 0 initial u ≡ record { given = given; now = now } → refused_of now ≡ None → Shows (λ front following s. Whole g l front s) (λ front rest. OpenRest l rest) u (plain given)
+shows_now g l u given (Err e) ran h = absurd cc
+shows_now g l u given (Ok m) ran h =
+    let c = cut_of g l u given m ran in
+    let i = c.cut.at in
+    record {
+      shown = record {
+        front = c.cut.front;
+        open_rest = c.cut.rest;
+        parts = c.cut.parts;
+        whole = λ following octets. c.cut.whole;
+        longest = λ v rest t e w.
+            let now : (run g l 0 initial (v ++ rest)).now ≡ Ok m = ap (λ x. (run g l 0 initial x).now) (sym e) ∙ ap (λ (r : Run). r.now) ran in
+            let k = whole_within g l v rest t m (w [] tt) now in
+            omega arith;
+      };
+      rest = c.open_rest;
+    }
+
+-- where nothing was refused, the values given are those shown
+pub shown : (g : Catalog) (l : Limits) (u : List ℕ) → (trace g l u).refused ≡ None → Shows (λ front following s. Whole g l front s) (λ front rest. OpenRest l rest) u (plain (trace g l u).given)
+shown g l u h = shows_now g l u (run g l 0 initial u).given (run g l 0 initial u).now refl h
+
+refused_is : (now : Result Machine Refusal) (r : Refusal) → refused_of now ≡ Some r → now ≡ Err r
+refused_is (Ok m) r h = absurd cc
+refused_is (Err e) r h = cc
+
+-- the octets up to the refused one show what those before it show
+stop_shown : (g : Catalog) (l : Limits) (u : List ℕ) (r : Refusal) (p : Stop g l 0 initial u r) → Shown (λ front following s. Whole g l front s) (p.before ++ p.b ∷ []) (plain (run g l 0 initial u).given)
+stop_shown g l u r p =
+    let c = cut_of g l p.before (run g l 0 initial u).given p.n p.ran in
+    let i = c.cut.at in
+    record {
+      front = c.cut.front;
+      open_rest = c.cut.rest ++ p.b ∷ [];
+      parts = ap (λ x. x ++ p.b ∷ []) c.cut.parts ∙ append_assoc c.cut.front c.cut.rest (p.b ∷ []);
+      whole = λ following octets. c.cut.whole;
+      longest = λ v rest t e w. let k : length v ≤ p.n.start = longest v rest t e (w [] tt) in omega arith;
+    }
+  where
+    inside : (v rest : List ℕ) (t : List Value) → p.before ++ p.b ∷ [] ≡ v ++ rest → length v ≤ length p.before → Whole g l v t → length v ≤ p.n.start
+    inside v rest t e h w =
+        let q = front_of p.before (p.b ∷ []) v rest e h in
+        whole_within g l v q.0 t p.n w (ap (λ x. (run g l 0 initial x).now) (sym q.1) ∙ ap (λ (x : Run). x.now) p.ran)
+
+    all : (v : List ℕ) (t : List Value) → p.before ++ p.b ∷ [] ≡ v → length p.before < length v → Whole g l v t → ⊥
+    all _ _ e h no_piece = absurd (omega arith)
+    all _ _ e h (document v t c d) = begins_none g l (p.before ++ p.b ∷ []) _ (stopped g l u r p) [] t (subst (λ x. Document g l x t) (sym (append-nil (p.before ++ p.b ∷ []) ∙ e)) (c, d))
+
+    no_rest : (v rest : List ℕ) → p.before ++ p.b ∷ [] ≡ v ++ rest → length p.before < length v → rest ≡ []
+    no_rest v [] e h = refl
+    no_rest v (x ∷ xs) e h = let k : length (p.before ++ p.b ∷ []) ≡ length (v ++ x ∷ xs) = ap length e in let i = length-append p.before (p.b ∷ []) in let j = length-append v (x ∷ xs) in absurd (omega arith)
+
+    longest : (v rest : List ℕ) (t : List Value) → p.before ++ p.b ∷ [] ≡ v ++ rest → Whole g l v t → length v ≤ p.n.start
+    longest v rest t e w =
+        elim (cases_lt (length p.before) (length v)) [
+          | inl lt ↦ absurd (all v t (e ∙ (ap (λ x. v ++ x) (no_rest v rest e lt) ∙ append-nil v)) lt w)
+          | inr le ↦ inside v rest t e le w
+        ]
+
+decided : (g : Catalog) (l : Limits) (u : List ℕ) (r : Refusal) (p : Stop g l 0 initial u r) → IsDecided r.reason
+decided g l u r p =
+    let s = ran_stands g l p.before (run g l 0 initial u).given p.n p.ran in
+    let c = cut_of g l p.before (run g l 0 initial u).given p.n p.ran in
+    let e = s.used in
+    let k = rest_long g l p.n.start _ p.before c.cut in
+    subst (Steady p.n.start (FineFrames p.n.frames)) p.refused (feed_steady g l p.n p.b (omega arith)) (standing_fine g l p.n.start p.n.context _ p.n.frames p.n.body p.n.phase p.before s.standing)
+
+-- a refusal at n means that no document begins with the first n octets
+pub refused : (g : Catalog) (l : Limits) (u : List ℕ) (r : Refusal) → (trace g l u).refused ≡ Some r → Refuses (Document g l) (λ front following s. Whole g l front s) u (trace g l u) r
+refused g l u r h =
+    let e = refused_is (run g l 0 initial u).now r h in
+    let p = stop_of g l 0 initial u r e in
+    let o = p.offset in
+    let n : length u ≡ length (p.before ++ p.b ∷ p.rest) = ap length p.parts in
+    let k = length-append p.before (p.b ∷ p.rest) in
+    let taken : take r.offset u ≡ p.before ++ p.b ∷ [] = ap (λ (x : ℕ). take x u) (let i : r.offset ≡ length p.before + 1 = omega arith in i) ∙ (ap (take (length p.before + 1)) p.parts ∙ take-append-add p.before (p.b ∷ p.rest) 1) in
+    let d = decided g l u r p in
+    record {
+      within = omega arith;
+      none = subst (BeginsNone (Document g l)) (sym taken) (begins_none g l (p.before ++ p.b ∷ []) _ (stopped g l u r p));
+      shown = subst (λ w. Shown (λ front following s. Whole g l front s) w (plain (run g l 0 initial u).given)) (sym taken) (stop_shown g l u r p);
+      ends = ap ends_of e;
+      whole_memory = λ i. subst IsDecided i d;
+      before_end = λ i. subst IsDecided i d;
+    }
+
+cond_offset : (b : Bool) (last : Option Value) (q r : Refusal) → cond b (Ok last) (Err q) ≡ Err r → q ≡ r
+cond_offset Bool.true last q r h = absurd cc
+cond_offset Bool.false last q r h = cc
+
+unfinished_now : (g : Catalog) (l : Limits) (u : List ℕ) (given : List (Value × ℕ)) (now : Result Machine Refusal) (r : Refusal) → run g l 0 initial u ≡ record { given = given; now = now } → refused_of now ≡ None → ends_of now ≡ Err r → r.offset ≡ length u
+unfinished_now g l u given (Err e) r ran h k = absurd cc
+unfinished_now g l u given (Ok m) r ran h k =
+    let s = ran_stands g l u given m ran in
+    let e = ap (λ (q : Refusal). q.offset) (cond_offset (whole m.phase m.frames) None _ r k) in
+    sym e ∙ s.used
+
+-- a refusal at the end counts all octets
+pub unfinished : (g : Catalog) (l : Limits) (u : List ℕ) (r : Refusal) → (trace g l u).refused ≡ None → (trace g l u).ends ≡ Err r → r.offset ≡ length u
+unfinished g l u r h k = unfinished_now g l u (run g l 0 initial u).given (run g l 0 initial u).now r refl h k
+
+readers_reason : (reason : Reason) → IsDecided reason → IsReadersReason reason
+readers_reason reason d = record { whole_memory = λ i. subst IsDecided i d; no_duplicate = λ i. subst IsDecided i d; no_bad_table = λ i. subst IsDecided i d }
+
+step_reason : (g : Catalog) (l : Limits) (u : List ℕ) (r : Refusal) → (run g l 0 initial u).now ≡ Err r → IsReadersReason r.reason
+step_reason g l u r e = readers_reason r.reason (decided g l u r (stop_of g l 0 initial u r e))
+
+end_reason : (g : Catalog) (l : Limits) (u : List ℕ) (now : Result Machine Refusal) (r : Refusal) → (run g l 0 initial u).now ≡ now → ends_of now ≡ Err r → IsReadersReason r.reason
+end_reason g l u (Err q) r ran h = let same : q ≡ r = cc in subst (λ (x : Refusal). IsReadersReason x.reason) same (step_reason g l u q ran)
+end_reason g l u (Ok m) r ran h =
+    let reason : Incomplete ≡ r.reason = ap (λ (q : Refusal). q.reason) (cond_offset (whole m.phase m.frames) None _ r h) in
+    subst IsReadersReason reason (record { whole_memory = λ i. cc; no_duplicate = λ i. cc; no_bad_table = λ i. cc })
+
+-- neither a step nor the end refuses for want of memory, or for what only a catalog is refused
+pub reasons : (g : Catalog) (l : Limits) (u : List ℕ) → HasReasons (trace g l u)
+reasons g l u = record {
+  step = λ r h. step_reason g l u r (refused_is (run g l 0 initial u).now r h);
+  end = λ r h. end_reason g l u (run g l 0 initial u).now r refl h;
+}
+
+plain_long : (given : List (Value × ℕ)) → length (plain given) ≡ length given
+plain_long [] = refl
+plain_long (v ∷ given) = omega (arith, plain_long given)
+
+no_values : (given : List (Value × ℕ)) → length given ≡ 0 → given ≡ []
+no_values [] h = refl
+no_values (v ∷ given) h = absurd (omega arith)
+
+spaced_whole : (g : Catalog) (l : Limits) (front rest : List ℕ) (s : List Value) (given : List (Value × ℕ)) (m : Machine) → Whole g l front s → run g l 0 initial (front ++ rest) ≡ record { given = given; now = Ok m } → plain given ≡ s → Spaced l.item 0 given (length (front ++ rest))
+spaced_whole g l _ rest _ given m no_piece ran e =
+    let k = plain_long given in
+    let n : length (plain given) ≡ 0 = ap length e in
+    subst (λ (x : List (Value × ℕ)). Spaced l.item 0 x (length rest)) (sym (no_values given (omega arith))) (omega arith)
+spaced_whole g l _ rest _ given m (document front s c d) ran e =
+    let r = pieces_run g l front s c d in
+    let later = (run g l (length front) (at (length front) (length front) c [] Ready) rest).given in
+    let whole_run = sym ran ∙ (run-append g l 0 (length front) front rest (omega arith) initial ∙ ap (λ x. then_run x (λ n. run g l (length front) n rest)) r.ran) in
+    let cut : given ≡ r.given ++ later = ap (λ (x : Run). x.given) whole_run in
+    let n : length given ≡ length r.given + length later = ap length cut ∙ length-append r.given later in
+    let p = plain_long given in
+    let q = plain_long r.given in
+    let same : length (plain given) ≡ length (plain r.given) = ap length (e ∙ sym r.gave) in
+    let alone : given ≡ r.given = cut ∙ (ap (λ x. r.given ++ x) (no_values later (omega arith)) ∙ append-nil r.given) in
+    let long = length-append front rest in
+    subst (λ (x : List (Value × ℕ)). Spaced l.item 0 x (length (front ++ rest))) (sym alone) (spaced_on l.item 0 r.given (length front) (length (front ++ rest)) r.spaced (omega arith))
+
+spaced_ok : (g : Catalog) (l : Limits) (u : List ℕ) (given : List (Value × ℕ)) (m : Machine) → run g l 0 initial u ≡ record { given = given; now = Ok m } → Spaced l.item 0 given (length u)
+spaced_ok g l u given m ran =
+    let c = cut_of g l u given m ran in
+    subst (λ x. Spaced l.item 0 given (length x)) (sym c.cut.parts) (spaced_whole g l c.cut.front c.cut.rest (plain given) given m c.cut.whole (ap (run g l 0 initial) (sym c.cut.parts) ∙ ran) refl)
+
+spaced_now : (g : Catalog) (l : Limits) (u : List ℕ) (now : Result Machine Refusal) → (run g l 0 initial u).now ≡ now → Spaced l.item 0 (run g l 0 initial u).given (length u)
+spaced_now g l u (Ok m) e = spaced_ok g l u (run g l 0 initial u).given m (ap (λ x. record { given = (run g l 0 initial u).given; now = x }) e)
+spaced_now g l u (Err r) e =
+    let p = stop_of g l 0 initial u r e in
+    let n : length u ≡ length (p.before ++ p.b ∷ p.rest) = ap length p.parts in
+    let k = length-append p.before (p.b ∷ p.rest) in
+    spaced_on l.item 0 (run g l 0 initial u).given (length p.before) (length u) (spaced_ok g l p.before (run g l 0 initial u).given p.n p.ran) (omega arith)
+
+cond_last : (b : Bool) (r : Refusal) (v : Value) → cond b (Ok None) (Err r) ≡ Ok (Some v) → ⊥
+cond_last Bool.true r v h = cc
+cond_last Bool.false r v h = cc
+
+no_last : (now : Result Machine Refusal) (v : Value) → ends_of now ≡ Ok (Some v) → ⊥
+no_last (Ok m) v h = cond_last (whole m.phase m.frames) _ v h
+no_last (Err e) v h = cc
+
+-- a value has at most as many nodes as its item has octets
+pub small : (g : Catalog) (l : Limits) (u : List ℕ) → IsSmall l.item u (trace g l u)
+small g l u = record { given = spaced_now g l u (run g l 0 initial u).now refl; last = λ v h. absurd (no_last (run g l 0 initial u).now v h) }
+
+grows_on : (given : List (Value × ℕ)) (now : Result Machine Refusal) (rest : Machine → Run) →
+    Grows (trace_of (record { given = given; now = now })) (trace_of (on_now given now rest))
+grows_on given (Ok m) rest = record { given = ((rest m).given, refl); refused = λ never. cc }
+grows_on given (Err refusal) rest = record { given = ([], sym (append-nil given)); refused = λ _. refl }
+
+-- what was refused stays refused, and what was given stays given
+pub grows : (g : Catalog) (l : Limits) (u w : List ℕ) → Grows (trace g l u) (trace g l (u ++ w))
+grows g l u w =
+    let r = run g l 0 initial u in
+    let P : Run → Type 0 = λ r. Grows (trace g l u) (trace_of r) in
+    subst P (sym (run-append g l 0 (length u) u w (omega arith) initial)) (grows_on r.given r.now (λ n. run g l (length u) n w))
+
+no_tables_more : (s : List Value) (v : Value) → NoTables s → is_table v ≡ false → NoTables (s ++ v ∷ [])
+no_tables_more [] v h e = (e, tt)
+no_tables_more (w ∷ s) v h e = (h.0, no_tables_more s v h.1 e)
+
+-- the values of pieces are no tables
+pub pieces_values : (g : Catalog) (l : Limits) (w : List ℕ) (s : List Value) (c : List Slot) → Pieces g l w s c → NoTables s
+pieces_values g l _ _ _ begins = tt
+pieces_values g l _ _ _ (marked u s c d) = pieces_values g l u s c d
+pieces_values g l _ _ _ (skips u w s c d p) = pieces_values g l u s c d
+pieces_values g l _ _ _ (turns u w s c e v d b t n p q) = pieces_values g l u s c d
+pieces_values g l _ _ _ (holds u w s c v d b t p q) = no_tables_more s v (pieces_values g l u s c d) t
+
+pub whole_values : (g : Catalog) (l : Limits) (w : List ℕ) (s : List Value) → Whole g l w s → NoTables s
+whole_values g l _ _ no_piece = tt
+whole_values g l _ _ (document u s c d) = pieces_values g l u s c d
+
+given_values : (g : Catalog) (l : Limits) (u : List ℕ) (given : List (Value × ℕ)) (m : Machine) → run g l 0 initial u ≡ record { given = given; now = Ok m } → NoTables (plain given)
+given_values g l u given m ran = let c = cut_of g l u given m ran in whole_values g l c.cut.front (plain given) c.cut.whole
+
+values_now : (g : Catalog) (l : Limits) (u : List ℕ) (now : Result Machine Refusal) → (run g l 0 initial u).now ≡ now → NoTables (plain (run g l 0 initial u).given)
+values_now g l u (Ok m) e = given_values g l u (run g l 0 initial u).given m (ap (λ x. record { given = (run g l 0 initial u).given; now = x }) e)
+values_now g l u (Err r) e = let p = stop_of g l 0 initial u r e in given_values g l p.before (run g l 0 initial u).given p.n p.ran
+
+-- no value given is a local symbol table
+pub no_tables : (g : Catalog) (l : Limits) (u : List ℕ) → GivesNoTable (trace g l u)
+no_tables g l u = record { given = values_now g l u (run g l 0 initial u).now refl; last = λ v h. absurd (no_last (run g l 0 initial u).now v h) }

@@ -1,0 +1,272 @@
+-- What octets and a machine have to do with one another.
+use Rattle.std.specs.Prelude.{◌≡◌, ℕ, suc, ◌+◌, ◌^◌, ◌<◌, ◌≤◌, ◌⊎◌, Bool, true, false, List, [], ◌∷◌, ◌++◌, length, map, Option}
+use Rattle.ion_model.specs.declared.value.Value.{Value}
+use Rattle.ion_model.specs.declared.value.Field.{Field}
+use Rattle.ion_model.specs.Measures.{depth, greatest}
+use Rattle.ion_symtab.specs.declared.limits.Limits.{Limits}
+use Rattle.ion_symtab.specs.declared.catalog.Catalog.{Catalog}
+use Rattle.ion_symtab.specs.Slots.{Slot, resolve}
+use Rattle.ion_scalar.specs.declared.descriptor.Size.TheVariants.{Follows}
+use Rattle.ion_scalar.specs.binary.Fields.{positional, Digits, VarUInt}
+use Rattle.ion_binary.specs.declared.form.Form.{Form}
+use Rattle.ion_binary.specs.declared.form.Form.TheVariants as forms
+use Rattle.ion_binary.specs.declared.form.Opening.TheVariants.{Sized}
+use Rattle.ion_binary.specs.declared.state.Frame.{Frame}
+use Rattle.ion_binary.specs.declared.state.Frame.TheVariants as frames
+use Rattle.ion_binary.specs.declared.state.Mark.{Mark}
+use Rattle.ion_binary.specs.declared.state.Mark.TheVariants.{First, Second, Third, Fourth}
+use Rattle.ion_binary.specs.declared.state.Purpose.{Purpose}
+use Rattle.ion_binary.specs.declared.state.Purpose.TheVariants as purposes
+use Rattle.ion_binary.specs.declared.state.Phase.{Phase}
+use Rattle.ion_binary.specs.declared.state.Phase.TheVariants.{InMarker, Ready, InNumber, InBody, InPad}
+use Rattle.ion_binary.specs.Opening.{opening_of}
+use Rattle.ion_binary.specs.Grammar.{Header, Ids, Sequence, Fields, Pieces}
+use Rattle.ion_binary.specs.machine.EachOctet.{Machine, end_of, levels, is_pad}
+
+-- how deep the deepest goes
+abbrev pub depths : List Value → ℕ
+depths vs = greatest (map depth vs)
+
+abbrev pub field_depths : List Field → ℕ
+field_depths ms = greatest (map (λ f. depth f.value) ms)
+
+-- an item of the top level may reach up to `to`; a pad may reach anywhere
+abbrev pub TopRoom : ℕ → ℕ → Form → ℕ → Type 0
+TopRoom item start form to = is_pad form ≡ false → to ≤ start + item
+
+-- what has a header may reach up to `to`
+abbrev pub Room : Limits → ℕ → List Frame → Form → ℕ → Type 0
+Room l start (f ∷ fs) form to = to ≤ end_of f
+Room l start [] form to = TopRoom l.item start form to
+
+-- the body of a form may end at `to`: a wrapper's value ends with it
+abbrev pub Ends : Limits → ℕ → List Frame → Form → ℕ → Type 0
+Ends l start [] form to = TopRoom l.item start form to
+Ends l start (frames.Annotated end ss ∷ fs) form to = to ≡ end
+Ends l start (frames.Items end x vs ∷ fs) form to = to ≤ end
+Ends l start (frames.Fields end ms ∷ fs) form to = to ≤ end
+Ends l start (frames.Named end ms name ∷ fs) form to = to ≤ end
+
+-- a number in the innermost container may reach up to `to`
+abbrev pub InRoom : List Frame → ℕ → Type 0
+InRoom [] to = ⊥
+InRoom (f ∷ fs) to = to ≤ end_of f
+
+-- a VarUInt may reach up to `to`
+abbrev pub NumberRoom : Limits → ℕ → List Frame → Purpose → ℕ → Type 0
+NumberRoom l start fs (purposes.Length form) to = Room l start fs form to
+NumberRoom l start fs purposes.FieldName to = InRoom fs to
+NumberRoom l start fs purposes.AnnotationsLength to = InRoom fs to
+NumberRoom l start fs (purposes.Annotation stop) to = to ≤ stop
+
+-- a header of an open container, behind octets that Outer describes
+pub record Box (l : Limits) (start : ℕ) (Outer : List ℕ → Type 0) (fs : List Frame) (form : Form) (end : ℕ) (u : List ℕ) : Type 0 where
+  pub before : List ℕ
+  pub header : List ℕ
+  pub n : ℕ
+  pub whole : u ≡ before ++ header
+  pub outer : Outer before
+  pub head : Header form n header
+  pub ends : end ≡ length u + n
+  pub room : Ends l start fs form end
+
+-- the form is that of a struct of n octets
+abbrev pub IsStruct : Form → ℕ → Type 0
+IsStruct forms.Struct n = Unit {0}
+IsStruct forms.OrderedStruct n = 0 < n
+IsStruct _ n = ⊥
+
+-- a struct's header, and fields
+pub record InStruct (l : Limits) (start : ℕ) (c : List Slot) (Outer : List ℕ → Type 0) (fs : List Frame) (end : ℕ) (ms : List Field) (u : List ℕ) : Type 0 where
+  pub front : List ℕ
+  pub body : List ℕ
+  pub form : Form
+  pub whole : u ≡ front ++ body
+  pub box : Box l start Outer fs form end front
+  pub kind : IsStruct form box.n
+  pub items : Fields c body ms
+  pub deep : field_depths ms + suc (levels fs) ≤ l.depth
+  pub within : length u ≤ end
+
+-- no wrapper is innermost
+abbrev pub IsBare : List Frame → Type 0
+IsBare (frames.Annotated end ss ∷ fs) = ⊥
+IsBare _ = Unit {0}
+
+-- u is whole pieces, and then what has come of the open containers
+abbrev pub Opened : Catalog → Limits → ℕ → List Slot → List Value → List Frame → List ℕ → Type 0
+Opened g l start c s [] u = Pieces g l u s c × (length u ≡ start)
+Opened g l start c s (frames.Items end x vs ∷ fs) u =
+    record {
+      front : List ℕ;
+      body : List ℕ;
+      whole : u ≡ front ++ body;
+      box : Box l start (Opened g l start c s fs) fs (forms.Listing x) end front;
+      items : Sequence c body vs;
+      deep : depths vs + suc (levels fs) ≤ l.depth;
+      within : length u ≤ end;
+    }
+Opened g l start c s (frames.Fields end ms ∷ fs) u = InStruct l start c (Opened g l start c s fs) fs end ms u
+Opened g l start c s (frames.Named end ms name ∷ fs) u =
+    record {
+      front : List ℕ;
+      id : List ℕ;
+      k : ℕ;
+      whole : u ≡ front ++ id;
+      inside : InStruct l start c (Opened g l start c s fs) fs end ms front;
+      number : VarUInt id k;
+      named : name ≡ resolve c k;
+      within : length u < end;
+    }
+Opened g l start c s (frames.Annotated end ss ∷ fs) u =
+    record {
+      front : List ℕ;
+      count : List ℕ;
+      ids : List ℕ;
+      whole : u ≡ front ++ (count ++ ids);
+      box : Box l start (Opened g l start c s fs) fs forms.Wrapper end front;
+      bare : IsBare fs;
+      number : VarUInt count (length ids);
+      some : 0 < length ids;
+      symbols : Ids c ids ss;
+      within : length u < end;
+    }
+
+-- a descriptor may come
+abbrev pub Receives : List Frame → Type 0
+Receives (frames.Fields end ms ∷ fs) = ⊥
+Receives _ = Unit {0}
+
+-- what a form asks of the frames in which it stands
+abbrev pub Accepts : Form → List Frame → Type 0
+Accepts forms.Pad fs = Receives fs × IsBare fs
+Accepts forms.Wrapper fs = IsBare fs
+Accepts _ fs = Unit {0}
+
+-- where a descriptor comes next
+pub record Before (g : Catalog) (l : Limits) (start : ℕ) (c : List Slot) (s : List Value) (fs : List Frame) (u : List ℕ) : Type 0 where
+  pub opened : Opened g l start c s fs u
+  pub receives : Receives fs
+
+abbrev pub marker_front : Mark → List ℕ
+marker_front First = []
+marker_front Second = 224 ∷ []
+marker_front Third = 224 ∷ 1 ∷ []
+marker_front Fourth = 224 ∷ 1 ∷ 0 ∷ []
+
+-- the octets of pieces, or none at all
+abbrev pub Front : Catalog → Limits → ℕ → List Slot → List Value → List ℕ → Type 0
+Front g l start c s u = ((u ≡ []) × (s ≡ []) × (start ≡ 0)) ⊎ (Pieces g l u s c × (length u ≡ start))
+
+abbrev pub marker_place : Mark → ℕ
+marker_place First = 0
+marker_place Second = 1
+marker_place Third = 2
+marker_place Fourth = 3
+
+-- nothing is known of a marker that is bad already
+abbrev pub IfGood : Bool → Type 0 → Type 0
+IfGood true P = P
+IfGood false P = Unit {0}
+
+pub record MarkerStands (g : Catalog) (l : Limits) (start : ℕ) (c : List Slot) (s : List Value) (fs : List Frame) (m : Mark) (good : Bool) (u : List ℕ) : Type 0 where
+  pub before : List ℕ
+  pub came : List ℕ
+  pub whole : u ≡ before ++ came
+  pub long : length came ≡ marker_place m
+  pub fits : IfGood good (came ≡ marker_front m)
+  pub front : Front g l start c s before
+  pub top : fs ≡ []
+
+-- a header may go on behind `used` octets
+abbrev pub Going : Limits → ℕ → List Frame → Form → ℕ → Type 0
+Going l start (f ∷ fs) form used = used < end_of f
+Going l start [] form used = TopRoom l.item start form used
+
+-- in the length of a form
+pub record LengthStands (g : Catalog) (l : Limits) (start : ℕ) (c : List Slot) (s : List Value) (fs : List Frame) (form : Form) (a : ℕ) (u : List ℕ) : Type 0 where
+  pub before : List ℕ
+  pub b : ℕ
+  pub digits : List ℕ
+  pub whole : u ≡ before ++ (b ∷ digits)
+  pub outer : Opened g l start c s fs before
+  pub accepts : Accepts form fs
+  pub head : opening_of b ≡ Sized form Follows
+  pub small : Digits digits
+  pub value : a ≡ positional 128 digits
+  pub bound : a < 2 ^ 63
+  pub going : Going l start fs form (length u)
+
+-- in the id of a field name
+pub record NameStands (g : Catalog) (l : Limits) (start : ℕ) (c : List Slot) (s : List Value) (fs : List Frame) (end : ℕ) (ms : List Field) (a : ℕ) (u : List ℕ) : Type 0 where
+  pub front : List ℕ
+  pub digits : List ℕ
+  pub whole : u ≡ front ++ digits
+  pub inside : InStruct l start c (Opened g l start c s fs) fs end ms front
+  pub small : Digits digits
+  pub value : a ≡ positional 128 digits
+  pub going : length u < end
+
+-- in the number of the octets of annotations
+pub record CountStands (g : Catalog) (l : Limits) (start : ℕ) (c : List Slot) (s : List Value) (fs : List Frame) (end : ℕ) (ss : List (Option (List ℕ))) (a : ℕ) (u : List ℕ) : Type 0 where
+  pub front : List ℕ
+  pub digits : List ℕ
+  pub whole : u ≡ front ++ digits
+  pub box : Box l start (Opened g l start c s fs) fs forms.Wrapper end front
+  pub bare : IsBare fs
+  pub none_yet : ss ≡ []
+  pub small : Digits digits
+  pub value : a ≡ positional 128 digits
+  pub going : length u < end
+
+-- in the id of an annotation
+pub record AnnotationStands (g : Catalog) (l : Limits) (start : ℕ) (c : List Slot) (s : List Value) (fs : List Frame) (end : ℕ) (ss : List (Option (List ℕ))) (stop : ℕ) (a : ℕ) (u : List ℕ) : Type 0 where
+  pub front : List ℕ
+  pub count : List ℕ
+  pub ids : List ℕ
+  pub digits : List ℕ
+  pub n : ℕ
+  pub whole : u ≡ front ++ (count ++ (ids ++ digits))
+  pub box : Box l start (Opened g l start c s fs) fs forms.Wrapper end front
+  pub bare : IsBare fs
+  pub number : VarUInt count n
+  pub some : 0 < n
+  pub stops : stop ≡ length front + length count + n
+  pub symbols : Ids c ids ss
+  pub small : Digits digits
+  pub value : a ≡ positional 128 digits
+  pub room : stop < end
+  pub going : length u < stop
+
+abbrev pub NumberStands : Catalog → Limits → ℕ → List Slot → List Value → List Frame → Purpose → ℕ → List ℕ → Type 0
+NumberStands g l start c s fs (purposes.Length form) a u = LengthStands g l start c s fs form a u
+NumberStands g l start c s (frames.Fields end ms ∷ fs) purposes.FieldName a u = NameStands g l start c s fs end ms a u
+NumberStands g l start c s (frames.Annotated end ss ∷ fs) purposes.AnnotationsLength a u = CountStands g l start c s fs end ss a u
+NumberStands g l start c s (frames.Annotated end ss ∷ fs) (purposes.Annotation stop) a u = AnnotationStands g l start c s fs end ss stop a u
+NumberStands g l start c s _ _ a u = ⊥
+
+-- in a body of which `came` has come
+pub record BodyStands (g : Catalog) (l : Limits) (start : ℕ) (c : List Slot) (s : List Value) (fs : List Frame) (form : Form) (n : ℕ) (came : List ℕ) (u : List ℕ) : Type 0 where
+  pub before : List ℕ
+  pub header : List ℕ
+  pub whole : u ≡ before ++ (header ++ came)
+  pub outer : Opened g l start c s fs before
+  pub accepts : Accepts form fs
+  pub size : ℕ
+  pub sizes : size ≡ length came + suc n
+  pub end : ℕ
+  pub ends : end ≡ length before + length header + size
+  pub head : Header form size header
+  pub room : Ends l start fs form end
+
+abbrev pub Standing : Catalog → Limits → ℕ → List Slot → List Value → List Frame → List ℕ → Phase → List ℕ → Type 0
+Standing g l start c s fs body (InMarker m good) u = MarkerStands g l start c s fs m good u
+Standing g l start c s fs body Ready u = Before g l start c s fs u
+Standing g l start c s fs body (InNumber p a) u = NumberStands g l start c s fs p a u
+Standing g l start c s fs body (InBody t n) u = BodyStands g l start c s fs (forms.Scalar t) n body u
+Standing g l start c s fs body (InPad n) u = (came : List ℕ) × BodyStands g l start c s fs forms.Pad n came u
+
+-- u gave s and led to m
+pub record Stands (g : Catalog) (l : Limits) (u : List ℕ) (s : List Value) (m : Machine) : Type 0 where
+  pub used : m.used ≡ length u
+  pub standing : Standing g l m.start m.context s m.frames m.body m.phase u

@@ -1,0 +1,91 @@
+-- What is written of a stream of values is a document with these values.
+use Rattle.std.proofs.Common.{◌≡◌, ℕ, suc, ◌≤◌, ◌<◌, true, false, List, [], ◌∷◌, ◌++◌, length, refl, sym, ap, subst, ◌∙◌, arith, append_assoc, append-nil}
+use Rattle.ion_model.specs.declared.value.Value.{Value}
+use Rattle.ion_model.specs.Kinds.{is_table}
+use Rattle.ion_model.specs.Measures.{depth}
+use Rattle.ion_model.specs.Kept.{IsKept, AreKept}
+use Rattle.ion_symtab.specs.declared.limits.Limits.{Limits}
+use Rattle.ion_symtab.specs.declared.catalog.Catalog.{Catalog}
+use Rattle.ion_symtab.specs.Slots.{greatest_id}
+use Rattle.ion_symtab.specs.Promises.{NoTables}
+use Rattle.ion_binary.specs.Grammar.{the_marker, Pieces, begins, holds, Document}
+use Rattle.ion_binary.specs.Output.{Names, Progress, system_names, symbols_of, value_octets, table_octets, names_after, bin_from, bin_of}
+use Rattle.ion_binary.specs.laws.writing.KeptTexts.{value_texts}
+use Rattle.ion_binary.specs.laws.writing.Written.{value_is}
+use Rattle.ion_binary.specs.writer.Names.{AreAmong, all_among_more, Starts, starts_more, unknown_among, slots, slots_system, names_resolve, AreKnown, Grown, grown}
+use Rattle.ion_binary.specs.laws.writing.TableWritten.{table_symbols, names_turn}
+
+-- a value and the table before it are within the limits, and so are the ids
+pub record ValueFits (l : Limits) (names : Names) (v : Value) : Type 0 where
+  pub ids : length (names_after names v) ≤ suc greatest_id
+  pub table : length (table_octets names (names_after names v)) ≤ l.item
+  pub table_deep : length names < length (names_after names v) → 2 ≤ l.depth
+  pub value : length (value_octets (names_after names v) v) ≤ l.item
+  pub value_deep : depth v ≤ l.depth
+
+-- each value, behind these names
+abbrev pub FitBehind : Limits → Names → List Value → Type 0
+FitBehind l names [] = Unit {0}
+FitBehind l names (v ∷ vs) = ValueFits l names v × FitBehind l (names_after names v) vs
+
+-- a document of these values is within the limits
+abbrev pub FitsIn : Limits → List Value → Type 0
+FitsIn l s = FitBehind l system_names s
+
+-- behind a marker
+abbrev begun : Names → Progress
+begun names = record { names = names; begun = true }
+
+module _ (g : Catalog) (l : Limits) where
+  abbrev Turns : List ℕ → List Value → Names → Names → Type 0
+  Turns u s names new = length new ≤ suc greatest_id → (length names < length new → 2 ≤ l.depth) → length (table_octets names new) ≤ l.item → Pieces g l (u ++ table_octets names new) s (slots new)
+
+  turn : (u : List ℕ) (s : List Value) (names new more : Names) → new ≡ names ++ more → Starts names → AreAmong names table_symbols → AreKnown more → Pieces g l u s (slots names) → Turns u s names new
+  turn u s names new more e b a k pieces =
+      subst (Turns u s names) (sym e) (λ few deep fits. names_turn g l u s names more b a k few deep fits pieces)
+
+  -- one value more, behind the table that it needs
+  one_value : (u : List ℕ) (s : List Value) (names : Names) (v : Value) → Starts names → AreAmong names table_symbols → IsKept v → is_table v ≡ false → ValueFits l names v → Grown names (symbols_of v) (names_after names v)
+      → Pieces g l u s (slots names) → Pieces g l (u ++ table_octets names (names_after names v) ++ value_octets (names_after names v) v) (s ++ v ∷ []) (slots (names_after names v))
+  one_value u s names v b a k no_table fits n pieces =
+      let new = names_after names v in
+      let turned = turn u s names new n.more n.whole b a n.known pieces fits.ids fits.table_deep fits.table in
+      let bound = l.long.1 in
+      let ids = fits.ids in
+      let long = fits.value in
+      let starts = subst Starts (sym n.whole) (starts_more names n.more b) in
+      let is = value_is (slots new) new v k (names_resolve new (symbols_of v) starts n.among (omega arith)) (omega arith) in
+      holds (u ++ table_octets names new) (value_octets new v) s (slots new) v turned is no_table fits.value_deep fits.value
+
+  values_are : (vs : List Value) (u : List ℕ) (s : List Value) (names : Names) → Starts names → AreAmong names table_symbols → AreKept vs → NoTables vs → FitBehind l names vs → Pieces g l u s (slots names)
+      → Document g l (u ++ bin_from (begun names) vs) (s ++ vs)
+  values_are [] u s names b a k no_tables fits pieces =
+      (slots names, subst (λ (w : List ℕ). Pieces g l w (s ++ []) (slots names)) (sym (append-nil u)) (subst (λ (t : List Value). Pieces g l u t (slots names)) (sym (append-nil s)) pieces))
+  values_are (v ∷ vs) u s names b a k no_tables fits pieces =
+      let new = names_after names v in
+      let t = table_octets names new in
+      let w = value_octets new v in
+      let rest = bin_from (begun new) vs in
+      let n = grown (symbols_of v) names (unknown_among names b) (value_texts v k.0) in
+      let starts = subst Starts (sym n.whole) (starts_more names n.more b) in
+      let among = subst (λ (ns : Names). AreAmong ns table_symbols) (sym n.whole) (all_among_more names n.more table_symbols a) in
+      let all = values_are vs (u ++ t ++ w) (s ++ v ∷ []) new starts among k.1 no_tables.1 fits.1 (one_value u s names v b a k.0 no_tables.0 fits.0 n pieces) in
+      let octets : u ++ t ++ w ++ rest ≡ u ++ (t ++ w ++ rest) = ap (λ (x : List ℕ). x ++ rest) (append_assoc u t w) ∙ append_assoc u (t ++ w) rest in
+      subst (λ (x : List ℕ). Document g l x (s ++ v ∷ vs)) octets (subst (Document g l (u ++ t ++ w ++ rest)) (append_assoc s (v ∷ []) vs) all)
+
+  starts_system : Starts system_names
+  unfolding system_names
+  starts_system = tt
+
+  among_system : AreAmong system_names table_symbols
+  unfolding system_names
+  among_system = (refl, (refl, (refl, (refl, tt))))
+
+  one_marker : (s : List Value) → AreKept s → NoTables s → FitsIn l s → Document g l (the_marker ++ bin_from (begun system_names) s) s
+  one_marker s k no_tables fits = values_are s the_marker [] system_names starts_system among_system k no_tables fits (subst (Pieces g l the_marker []) (sym slots_system) begins)
+
+  -- the document that is written for a stream of values has these values
+  pub round_trip : (s : List Value) → AreKept s → NoTables s → FitsIn l s → Document g l (bin_of s) s
+  unfolding bin_of
+  round_trip [] k no_tables fits = one_marker [] k no_tables fits
+  round_trip (v ∷ vs) k no_tables fits = one_marker (v ∷ vs) k no_tables fits

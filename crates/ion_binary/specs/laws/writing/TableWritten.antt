@@ -1,0 +1,180 @@
+-- The local symbol table that is written makes the context that of the names behind it.
+use Rattle.std.proofs.Common.{if◌then◌else◌, ◌≡◌, ℕ, suc, ◌+◌, ◌≤◌, ◌<◌, true, false, List, [], ◌∷◌, ◌++◌, length, map, drop, Option, None, Some, Result, Ok, codes, refl, sym, ap, subst, ◌∙◌, arith, length-append, append-nil, le-leb, lt-ltb, le-ltb}
+use Rattle.std.specs.Prelude.{nat_lt}
+use Rattle.std.specs.List.{flat_map}
+use Rattle.std.specs.Str.{IsUtf8}
+use Rattle.std.proofs.Math.Seq.{drop-append_seam}
+use Rattle.std.proofs.lemmas.List.{length-map}
+use Rattle.ion_model.specs.declared.refusal.Reason.{Reason}
+use Rattle.ion_model.specs.declared.value.Value.{Value}
+use Rattle.ion_model.specs.declared.value.Field.{Field}
+use Rattle.ion_model.specs.declared.value.Payload.TheVariants as payloads
+use Rattle.ion_model.specs.declared.value.Payload.TheViews as views
+use Rattle.ion_model.specs.declared.value.Payload.TheOpen.{Payload-F}
+use Rattle.ion_model.specs.Kinds.{is_table, is_table_of, layer_kind}
+use Rattle.ion_model.specs.Measures.{Layer, depth, greatest, bare, field_of}
+use Rattle.ion_model.specs.laws.Measures.{depth-out, layer_depth, depth-at-Fields, depth-List}
+use Rattle.ion_model.specs.Kept.{IsKept, kept, kept_symbol, kept_string, kept_list, kept_fields, KeptItems, no_items, an_item, no_fields, a_field}
+use Rattle.ion_symtab.specs.declared.limits.Limits.{Limits}
+use Rattle.ion_symtab.specs.declared.catalog.Catalog.{Catalog}
+use Rattle.ion_symtab.specs.Slots.{Slot, system_slots, greatest_id}
+use Rattle.ion_symtab.specs.Fields.{symbol_of, layer_symbol, elements_in}
+use Rattle.ion_symtab.specs.Next.{and_then, joined, appends_in, imported, local_slot, local_slots, next_layer, next}
+use Rattle.ion_binary.specs.Grammar.{Pieces, turns}
+use Rattle.ion_binary.specs.Output.{Names, symbols_of, value_octets, text_of, string_value, table_value, table_octets}
+use Rattle.ion_binary.specs.laws.writing.Output.{layer_symbols, symbols-out}
+use Rattle.ion_binary.specs.laws.writing.Written.{Resolves, value_is}
+use Rattle.ion_binary.specs.writer.Names.{AreAmong, Starts, slots, AreKnown, names_resolve_still, slots_more}
+
+abbrev table_word : Option (List ℕ)
+table_word = Some (codes "$ion_symbol_table")
+
+abbrev imports_word : Option (List ℕ)
+imports_word = Some (codes "imports")
+
+abbrev symbols_word : Option (List ℕ)
+symbols_word = Some (codes "symbols")
+
+-- the symbols of each table that is written
+abbrev pub table_symbols : Names
+table_symbols = table_word ∷ imports_word ∷ table_word ∷ symbols_word ∷ []
+
+abbrev imports_value : Value
+imports_value = bare (payloads.Symbol table_word)
+
+abbrev symbols_value : Names → Value
+symbols_value more = bare (payloads.List (map string_value more))
+
+abbrev table_fields : Names → List Field
+table_fields more = field_of imports_word imports_value ∷ field_of symbols_word (symbols_value more) ∷ []
+
+-- 1. The table is kept, is a table, and is two levels deep.
+
+utf8_table : IsUtf8 (codes "$ion_symbol_table")
+unfolding lib.Utf8.encode
+utf8_table = (codes "$ion_symbol_table", (refl, refl))
+
+utf8_imports : IsUtf8 (codes "imports")
+unfolding lib.Utf8.encode
+utf8_imports = (codes "imports", (refl, refl))
+
+utf8_symbols : IsUtf8 (codes "symbols")
+unfolding lib.Utf8.encode
+utf8_symbols = (codes "symbols", (refl, refl))
+
+kept_strings : (more : Names) → AreKnown more → KeptItems (map string_value more)
+kept_strings [] h = no_items
+kept_strings (None ∷ more) h = absurd h
+kept_strings (Some t ∷ more) h = an_item (string_value (Some t)) (map string_value more) (kept [] (payloads.Str t) tt (kept_string t h.0)) (kept_strings more h.1)
+
+kept_table : (more : Names) → AreKnown more → IsKept (table_value more)
+kept_table more h =
+    let imports = kept [] (payloads.Symbol table_word) tt (kept_symbol table_word utf8_table) in
+    let symbols = kept [] (payloads.List (map string_value more)) tt (kept_list (map string_value more) (kept_strings more h)) in
+    let last = a_field symbols_word (symbols_value more) [] utf8_symbols symbols no_fields in
+    kept (table_word ∷ []) (payloads.Fields (table_fields more)) (utf8_table, tt) (kept_fields (table_fields more) (a_field imports_word imports_value (field_of symbols_word (symbols_value more) ∷ []) utf8_imports imports last))
+
+is_table_written : (more : Names) → is_table (table_value more) ≡ true
+is_table_written more = ap (λ (d : Layer). is_table_of (table_word ∷ []) (layer_kind d)) (views.outs-Fields (table_fields more))
+
+no_depth : (more : Names) → greatest (map depth (map string_value more)) ≡ 0
+no_depth [] = refl
+no_depth (s ∷ more) =
+    let e : depth (string_value s) ≡ 0 = depth-out (string_value s) ∙ ap layer_depth (views.outs-Str (text_of s)) in
+    omega (arith, e, no_depth more)
+
+depth_table : (more : Names) → depth (table_value more) ≡ 2
+depth_table more =
+    let e = depth-at-Fields (table_value more) (table_fields more) refl in
+    let i : depth imports_value ≡ 0 = depth-out imports_value ∙ ap layer_depth (views.outs-Symbol table_word) in
+    let s = depth-List (map string_value more) in
+    omega (arith, e, i, s, no_depth more)
+
+-- 2. Its symbols are system symbols.
+
+string_symbols : (s : Option (List ℕ)) → symbols_of (string_value s) ≡ []
+string_symbols s = symbols-out (string_value s) ∙ ap layer_symbols (views.outs-Str (text_of s))
+
+no_symbols : (more : Names) → flat_map symbols_of (map string_value more) ≡ []
+no_symbols [] = refl
+no_symbols (s ∷ more) = ap (λ (ss : Names). ss ++ flat_map symbols_of (map string_value more)) (string_symbols s) ∙ no_symbols more
+
+imports_symbols : symbols_of imports_value ≡ table_word ∷ []
+imports_symbols = symbols-out imports_value ∙ ap layer_symbols (views.outs-Symbol table_word)
+
+list_symbols : (more : Names) → symbols_of (symbols_value more) ≡ []
+list_symbols more = symbols-out (symbols_value more) ∙ (ap layer_symbols (views.outs-List (map string_value more)) ∙ no_symbols more)
+
+symbols_table : (more : Names) → symbols_of (table_value more) ≡ table_symbols
+symbols_table more =
+    symbols-out (table_value more)
+    ∙ (ap (λ (d : Layer). table_word ∷ layer_symbols d) (views.outs-Fields (table_fields more))
+    ∙ (ap (λ (ss : Names). table_word ∷ imports_word ∷ (ss ++ ((symbols_word ∷ symbols_of (symbols_value more)) ++ []))) imports_symbols
+    ∙ ap (λ (ss : Names). table_word ∷ imports_word ∷ table_word ∷ symbols_word ∷ (ss ++ [])) (list_symbols more)))
+
+-- 3. The context behind it.
+
+texts_back : (more : Names) → AreKnown more → map symbol_of (map string_value more) ≡ more
+texts_back [] h = refl
+texts_back (None ∷ more) h = absurd h
+texts_back (Some t ∷ more) h =
+    ap (λ (d : Layer). layer_symbol d ∷ map symbol_of (map string_value more)) (views.outs-Str t) ∙ ap (λ (ss : Names). Some t ∷ ss) (texts_back more h.1)
+
+local_are : (more : Names) → AreKnown more → local_slots (Some (symbols_value more)) ≡ map local_slot more
+local_are more h =
+    ap (λ (d : Layer). map local_slot (map symbol_of (elements_in (Some d)))) (views.outs-List (map string_value more)) ∙ ap (map local_slot) (texts_back more h)
+
+joined_ok : (c more : List Slot) → length c + length more ≤ greatest_id → joined c more ≡ Ok (c ++ more)
+joined_ok c more h = rw (le-leb (length c + length more) greatest_id h) refl
+
+extended_of : List Slot → Catalog → Option Value → Layer → Result (List Slot) Reason
+extended_of c g symbols d =
+    and_then (imported g (if appends_in (Some d) then c else system_slots) (elements_in (Some d))) (λ more. joined more (local_slots symbols))
+
+next_is : (c : List Slot) (g : Catalog) (more : Names) → AreKnown more → length c + length more ≤ greatest_id → next c (table_value more) g ≡ Ok (c ++ map local_slot more)
+unfolding next extended_of
+next_is c g more h few =
+    let symbols = Some (symbols_value more) in
+    let e0 : next c (table_value more) g ≡ next_layer c (Payload-F.Fields (table_fields more)) g = ap (λ (d : Layer). next_layer c d g) (views.outs-Fields (table_fields more)) in
+    let e1 : next_layer c (Payload-F.Fields (table_fields more)) g ≡ extended_of c g symbols (views.out-Payload (payloads.Symbol table_word)) = refl in
+    let e2 : extended_of c g symbols (views.out-Payload (payloads.Symbol table_word)) ≡ joined c (local_slots symbols) = ap (extended_of c g symbols) (views.outs-Symbol table_word) in
+    let n = length-map more local_slot in
+    e0 ∙ (e1 ∙ (e2 ∙ (ap (joined c) (local_are more h) ∙ joined_ok c (map local_slot more) (omega arith))))
+
+-- 4. Pieces.
+
+pub slots_long : (names : Names) → Starts names → suc (length (slots names)) ≡ length names
+slots_long [] b = absurd b
+slots_long (None ∷ names) b = let e = length-map names local_slot in omega arith
+slots_long (Some t ∷ names) b = absurd b
+
+module _ (g : Catalog) (l : Limits) where
+  table_turns : (u : List ℕ) (s : List Value) (names more : Names) → Starts names → AreAmong names table_symbols → AreKnown more → length (names ++ more) ≤ suc greatest_id → 2 ≤ l.depth
+      → length (value_octets (names ++ more) (table_value more)) ≤ l.item → Pieces g l u s (slots names) → Pieces g l (u ++ value_octets (names ++ more) (table_value more)) s (slots (names ++ more))
+  table_turns u s names more b a k few deep fits pieces =
+      let long = slots_long names b in
+      let both = length-append names more in
+      let bound = l.long.1 in
+      let r = subst (Resolves (slots names) (names ++ more)) (sym (symbols_table more)) (names_resolve_still names more table_symbols b a (omega arith)) in
+      let is = value_is (slots names) (names ++ more) (table_value more) (kept_table more k) r (omega arith) in
+      let d = depth_table more in
+      let n = next_is (slots names) g more k (omega arith) in
+      turns u (value_octets (names ++ more) (table_value more)) s (slots names) (slots (names ++ more)) (table_value more) pieces is (is_table_written more)
+      (n ∙ ap (λ (c : List Slot). Ok c) (sym (slots_more names more b))) (omega arith) fits
+
+  -- what comes before a value where it has new names
+  pub names_turn : (u : List ℕ) (s : List Value) (names more : Names) → Starts names → AreAmong names table_symbols → AreKnown more → length (names ++ more) ≤ suc greatest_id
+      → (length names < length (names ++ more) → 2 ≤ l.depth) → length (table_octets names (names ++ more)) ≤ l.item → Pieces g l u s (slots names)
+      → Pieces g l (u ++ table_octets names (names ++ more)) s (slots (names ++ more))
+  names_turn u s names [] b a k few deep fits pieces =
+      let e = append-nil names in
+      let same = ap length e in
+      let none : nat_lt (length names) (length (names ++ [])) ≡ false = le-ltb (length names) (length (names ++ [])) (omega arith) in
+      rw none (subst (λ (w : List ℕ). Pieces g l w s (slots (names ++ []))) (sym (append-nil u)) (subst (λ (ns : Names). Pieces g l u s (slots ns)) (sym e) pieces))
+  names_turn u s names (x ∷ more) b a k few deep fits pieces =
+      let both = length-append names (x ∷ more) in
+      let longer : length names < length (names ++ x ∷ more) = omega arith in
+      let some : nat_lt (length names) (length (names ++ x ∷ more)) ≡ true = lt-ltb (length names) (length (names ++ x ∷ more)) longer in
+      let e : drop (length names) (names ++ x ∷ more) ≡ x ∷ more = drop-append_seam names (x ∷ more) in
+      let fits' = rw (some, e) at fits in
+      rw (some, e) (table_turns u s names (x ∷ more) b a k few (deep longer) fits' pieces)

@@ -1,0 +1,10 @@
+-- The reader as a machine.
+pub mod Judge
+pub mod EachOctet
+pub mod Run
+pub mod Views
+pub mod Pieces
+pub mod AtOnce
+pub mod Framed
+pub mod Walked
+pub mod Alike

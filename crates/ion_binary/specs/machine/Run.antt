@@ -1,0 +1,64 @@
+-- Whole runs of the machine.
+use Rattle.std.specs.Prelude.{◌≡◌, ◌≢◌, ◌≤◌, ◌<◌, ℕ, ◌+◌, List, [], ◌∷◌, length, take, Option, Some, None, Result, Ok, Err, Bool, true, false, if◌then◌else◌}
+use Rattle.ion_model.specs.declared.value.Value.{Value}
+use Rattle.ion_model.specs.declared.refusal.Refusal.{Refusal}
+use Rattle.ion_model.specs.declared.refusal.Reason.TheVariants.{Memory, Incomplete}
+use Rattle.ion_symtab.specs.declared.items.Step.{Step}
+use Rattle.ion_symtab.specs.declared.limits.Limits.{Limits}
+use Rattle.ion_symtab.specs.declared.catalog.Catalog.{Catalog}
+use Rattle.ion_symtab.specs.Trace.{Trace}
+use Rattle.ion_binary.specs.declared.state.Frame.{Frame}
+use Rattle.ion_binary.specs.declared.state.Phase.{Phase}
+use Rattle.ion_binary.specs.declared.state.Phase.TheVariants.{Ready}
+use Rattle.ion_binary.specs.machine.EachOctet.{Machine, Outcome, goes, gives, refuses, feed, initial}
+
+-- the values with the octets up to where each came, and the machine or the refusal at which the octets end
+pub record Run : Type 0 where
+  pub given : List (Value × ℕ)
+  pub now : Result Machine Refusal
+
+abbrev pub with_value : Value → ℕ → Run → Run
+with_value v to r = record { given = (v, to) ∷ r.given; now = r.now }
+
+-- an octet was the one up to which there are `to`
+abbrev pub run_on : ℕ → (Machine → Run) → Outcome → Run
+run_on to rest (goes n) = rest n
+run_on to rest (gives v n) = with_value v to (rest n)
+run_on to rest (refuses reason) = record { given = []; now = Err (record { offset = to; reason = reason }) }
+
+module _ (g : Catalog) (l : Limits) where
+  -- behind `to` octets
+  abbrev pub run : ℕ → Machine → List ℕ → Run
+  run to m [] = record { given = []; now = Ok m }
+  run to m (b ∷ bs) = run_on (to + 1) (λ n. run (to + 1) n bs) (feed g l m b)
+
+-- Over this piece a step answered what a run from here says, and left the machine there.
+abbrev pub Advances : ℕ → (List ℕ → Run) → List ℕ → Result Step Refusal → Machine → Type 0
+Advances to run piece (Ok step) m = (step.used ≤ length piece) × Stopped step.value
+  where
+    Stopped : Option Value → Type 0
+    Stopped None = (step.used ≡ length piece) × (run piece ≡ record { given = []; now = Ok m })
+    Stopped (Some v) = (0 < step.used) × (run (take step.used piece) ≡ record { given = (v, to + step.used) ∷ []; now = Ok m })
+Advances to run piece (Err refusal) m = refusal.reason ≢ Memory → run piece ≡ record { given = []; now = Err refusal }
+
+abbrev pub whole : Phase → List Frame → Bool
+whole Ready [] = true
+whole _ _ = false
+
+-- what the end answers
+abbrev pub at_end : Machine → Result (Option Value) Refusal
+at_end m = if whole m.phase m.frames then Ok None else Err (record { offset = m.used; reason = Incomplete })
+
+abbrev pub refused_of : Result Machine Refusal → Option Refusal
+refused_of (Ok m) = None
+refused_of (Err refusal) = Some refusal
+
+abbrev pub ends_of : Result Machine Refusal → Result (Option Value) Refusal
+ends_of (Ok m) = at_end m
+ends_of (Err refusal) = Err refusal
+
+abbrev pub trace_of : Run → Trace
+trace_of r = record { given = r.given; refused = refused_of r.now; ends = ends_of r.now }
+
+abbrev pub trace : Catalog → Limits → List ℕ → Trace
+trace g l octets = trace_of (run g l 0 initial octets)

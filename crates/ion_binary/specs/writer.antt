@@ -1,0 +1,4 @@
+-- What the writer keeps.
+pub mod Ids
+pub mod Puts
+pub mod Names

@@ -1,0 +1,174 @@
+-- The names of a document: what is new is put at the end, and each name has its id in the context of its slots.
+use Rattle.std.proofs.Common.{if◌then◌else◌, cond, not, ◌≡◌, ℕ, suc, ◌+◌, ◌-◌, ◌^◌, ◌<◌, ◌≤◌, ◌||◌, Bool, true, false, List, [], ◌∷◌, ◌++◌, length, map, drop, Option, None, Some, Ok, slice_get, refl, sym, ap, subst, ◌∙◌, arith, append_assoc, append-nil, ne_eqb}
+use Rattle.std.specs.List.{list_any, position_or_len, fold}
+use Rattle.std.specs.Str.{IsUtf8}
+use Rattle.std.proofs.lemmas.List.{map-append}
+use Rattle.std.proofs.lemmas.List.Folds.{list_any-append}
+use Rattle.std.proofs.lemmas.List.Sums.{prefix_len-le-length}
+use Rattle.std.proofs.lemmas.Slice.Eq.{bytes_eq-Decides}
+use Rattle.ion_model.specs.Symbols.{symbol_same}
+use Rattle.ion_model.specs.Kept.{IsText, AreTexts}
+use Rattle.ion_symtab.specs.Slots.{Slot, system_slots, slot_symbol, resolve}
+use Rattle.ion_symtab.specs.Next.{local_slot}
+use Rattle.ion_binary.specs.Output.{Names, system_names, id_of, with_name, with_names}
+use Rattle.ion_binary.specs.laws.writing.Written.{Resolves}
+
+-- 1. Symbols among names.
+
+pub symbol_is : (s t : Option (List ℕ)) → symbol_same s t ≡ true → s ≡ t
+symbol_is None None h = refl
+symbol_is None (Some t) h = cc
+symbol_is (Some s) None h = cc
+symbol_is (Some s) (Some t) h = ap Some ((bytes_eq-Decides s t).0 h)
+
+pub symbol_self : (s : Option (List ℕ)) → symbol_same s s ≡ true
+symbol_self None = refl
+symbol_self (Some s) = (bytes_eq-Decides s s).1 refl
+
+abbrev pub IsAmong : Names → Option (List ℕ) → Type 0
+IsAmong names s = list_any (symbol_same s) names ≡ true
+
+abbrev pub AreAmong : Names → Names → Type 0
+AreAmong names [] = Unit {0}
+AreAmong names (s ∷ ss) = IsAmong names s × AreAmong names ss
+
+pub among_more : (names more : Names) (s : Option (List ℕ)) → IsAmong names s → IsAmong (names ++ more) s
+among_more names more s h = list_any-append (symbol_same s) names more ∙ rw h refl
+
+pub all_among_more : (names more ss : Names) → AreAmong names ss → AreAmong (names ++ more) ss
+all_among_more names more [] h = tt
+all_among_more names more (s ∷ ss) h = (among_more names more s h.0, all_among_more names more ss h.1)
+
+or_true : (b : Bool) → (b || true) ≡ true
+or_true true = refl
+or_true false = refl
+
+pub among_last : (names : Names) (s : Option (List ℕ)) → IsAmong (names ++ s ∷ []) s
+among_last names s = list_any-append (symbol_same s) names (s ∷ []) ∙ rw (symbol_self s) (or_true (list_any (symbol_same s) names))
+
+-- 2. Ids.
+
+-- the slots of names: those of all but the first, which is the symbol of unknown text
+abbrev pub slots : Names → List Slot
+slots names = map local_slot (drop 1 names)
+
+pub slots_system : slots system_names ≡ system_slots
+unfolding system_names system_slots
+slots_system = refl
+
+-- the first name is the symbol of unknown text
+abbrev pub Starts : Names → Type 0
+Starts [] = ⊥
+Starts (None ∷ names) = Unit {0}
+Starts (Some t ∷ names) = ⊥
+
+place_either : (s x : Option (List ℕ)) (rest : Names) (b : Bool) → symbol_same s x ≡ b → (b || list_any (symbol_same s) rest) ≡ true
+    → (IsAmong rest s → slice_get (map local_slot rest) (position_or_len (symbol_same s) rest) ≡ Some (local_slot s))
+    → slice_get (local_slot x ∷ map local_slot rest) (cond (not b) (1 + position_or_len (symbol_same s) rest) 0) ≡ Some (local_slot s)
+place_either s x rest true e h later = ap (λ (x : Option (List ℕ)). Some (local_slot x)) (sym (symbol_is s x e))
+place_either s x rest false e h later =
+    let n : 1 + position_or_len (symbol_same s) rest ≡ suc (position_or_len (symbol_same s) rest) = omega arith in
+    rw n (later h)
+
+at_place : (s : Option (List ℕ)) (names : Names) → IsAmong names s → slice_get (map local_slot names) (position_or_len (symbol_same s) names) ≡ Some (local_slot s)
+at_place s [] h = cc
+at_place s (x ∷ rest) h = place_either s x rest (symbol_same s x) refl h (at_place s rest)
+
+slot_back : (s : Option (List ℕ)) → slot_symbol (local_slot s) ≡ Ok s
+slot_back None = refl
+slot_back (Some t) = refl
+
+resolve_behind : (c : List Slot) (k : ℕ) (s : Option (List ℕ)) → slice_get c k ≡ Some (local_slot s) → resolve c (1 + k) ≡ Ok s
+unfolding resolve
+resolve_behind c k s e =
+    let n : 1 + k ≡ suc k = omega arith in
+    let m : suc k - 1 ≡ k = omega arith in
+    rw n (rw (ne_eqb (suc k) 0 (λ z. absurd (omega arith)), m, e) (slot_back s))
+
+resolve_zero : (c : List Slot) → resolve c 0 ≡ Ok None
+unfolding resolve
+resolve_zero c = refl
+
+-- a name has its id
+pub resolve_name : (names : Names) (s : Option (List ℕ)) → Starts names → IsAmong names s → resolve (slots names) (id_of names s) ≡ Ok s
+resolve_name [] s b h = absurd b
+resolve_name (Some t ∷ names) s b h = absurd b
+resolve_name (None ∷ names) None b h = resolve_zero (map local_slot names)
+resolve_name (None ∷ names) (Some t) b h = resolve_behind (map local_slot names) (position_or_len (symbol_same (Some t)) names) (Some t) (at_place (Some t) names h)
+
+pub id_few : (names : Names) (s : Option (List ℕ)) → id_of names s ≤ length names
+id_few names s = prefix_len-le-length (λ x. not (symbol_same s x)) names
+
+stays_either : (s : Option (List ℕ)) (names more : Names) (b : Bool) → (b || list_any (symbol_same s) names) ≡ true
+    → (IsAmong names s → id_of (names ++ more) s ≡ id_of names s) → cond (not b) (1 + id_of (names ++ more) s) 0 ≡ cond (not b) (1 + id_of names s) 0
+stays_either s names more true h later = refl
+stays_either s names more false h later = ap (λ (n : ℕ). 1 + n) (later h)
+
+-- and keeps it
+pub id_stays : (s : Option (List ℕ)) (names more : Names) → IsAmong names s → id_of (names ++ more) s ≡ id_of names s
+id_stays s [] more h = cc
+id_stays s (x ∷ names) more h = stays_either s names more (symbol_same s x) h (id_stays s names more)
+
+-- names resolve, in the context of their slots
+pub names_resolve : (names ss : Names) → Starts names → AreAmong names ss → length names < 2 ^ 63 → Resolves (slots names) names ss
+names_resolve names [] b h few = tt
+names_resolve names (s ∷ ss) b h few = ((resolve_name names s b h.0, omega (arith, id_few names s)), names_resolve names ss b h.1 few)
+
+-- and also by the ids that they have among more
+pub names_resolve_still : (names more ss : Names) → Starts names → AreAmong names ss → length names < 2 ^ 63 → Resolves (slots names) (names ++ more) ss
+names_resolve_still names more [] b h few = tt
+names_resolve_still names more (s ∷ ss) b h few =
+    let e = id_stays s names more h.0 in
+    ((ap (resolve (slots names)) e ∙ resolve_name names s b h.0, omega (arith, e, id_few names s)), names_resolve_still names more ss b h.1 few)
+
+-- 3. New names.
+
+pub starts_more : (names more : Names) → Starts names → Starts (names ++ more)
+starts_more [] more b = absurd b
+starts_more (None ∷ names) more b = tt
+starts_more (Some t ∷ names) more b = absurd b
+
+pub unknown_among : (names : Names) → Starts names → IsAmong names None
+unknown_among [] b = absurd b
+unknown_among (None ∷ names) b = refl
+unknown_among (Some t ∷ names) b = absurd b
+
+pub slots_more : (names more : Names) → Starts names → slots (names ++ more) ≡ slots names ++ map local_slot more
+slots_more [] more b = absurd b
+slots_more (None ∷ names) more b = map-append local_slot names more
+slots_more (Some t ∷ names) more b = absurd b
+
+-- each is a known text
+abbrev pub AreKnown : Names → Type 0
+AreKnown [] = Unit {0}
+AreKnown (None ∷ ss) = ⊥
+AreKnown (Some t ∷ ss) = IsUtf8 t × AreKnown ss
+
+-- the names have been put behind others, for these symbols
+pub record Grown (names ss later : Names) : Type 0 where
+  pub more : Names
+  pub whole : later ≡ names ++ more
+  pub among : AreAmong later ss
+  pub known : AreKnown more
+
+known_one : (s : Option (List ℕ)) (names more : Names) → IsAmong names None → list_any (symbol_same s) names ≡ false → IsText s → AreKnown more → AreKnown (s ∷ more)
+known_one None names more n e t k = cc
+known_one (Some s) names more n e t k = (t, k)
+
+grown_either : (names : Names) (s : Option (List ℕ)) (ss : Names) (b : Bool) → IsAmong names None → IsText s → list_any (symbol_same s) names ≡ b
+    → ((before : Names) → IsAmong before None → Grown before ss (with_names before ss)) → Grown names (s ∷ ss) (fold with_name (if b then names else names ++ s ∷ []) ss)
+grown_either names s ss true n t e later =
+    let g = later names n in
+    record { more = g.more; whole = g.whole; among = (subst (λ (x : Names). IsAmong x s) (sym g.whole) (among_more names g.more s e), g.among); known = g.known }
+grown_either names s ss false n t e later =
+    let g = later (names ++ s ∷ []) (among_more names (s ∷ []) None n) in
+    record {
+      more = s ∷ g.more;
+      whole = g.whole ∙ append_assoc names (s ∷ []) g.more;
+      among = (subst (λ (x : Names). IsAmong x s) (sym g.whole) (among_more (names ++ s ∷ []) g.more s (among_last names s)), g.among);
+      known = known_one s names g.more n e t g.known;
+    }
+
+pub grown : (ss names : Names) → IsAmong names None → AreTexts ss → Grown names ss (with_names names ss)
+grown [] names n t = record { more = []; whole = sym (append-nil names); among = tt; known = tt }
+grown (s ∷ ss) names n t = grown_either names s ss (list_any (symbol_same s) names) n t.0 refl (λ before m. grown ss before m t.1)

@@ -1,0 +1,195 @@
+//! The ids that a writer has given to symbols (Ion 1.0, "Symbols", "Symbol IDs").
+ghost use Rattle.std.specs.Prelude.{◌≡◌, ◌<◌, ◌≤◌, ◌^◌, Some, true, length, map, drop, MatchResult, IfErr, IfOk, OnOk};
+ghost use Rattle.ion_model.specs.Symbols.{symbol_same};
+ghost use Rattle.ion_symtab.specs.declared.fault.Fault.TheVariants as faults;
+ghost use Rattle.ion_binary.specs.Output.{system_names, id_of, with_name, with_names};
+ghost use Rattle.ion_binary.specs.Writing.{IsNumberingFault};
+
+use super::guesses::Guesses;
+use ion_model::Symbol;
+use ion_symtab::Fault;
+use std::alloc::Global;
+use std::collections::BTreeMap;
+use std::marker::Model;
+
+/// The greatest id that a symbol may have.
+const GREATEST_ID: usize = 0x7FFF_FFFF;
+
+/// The texts of the system symbols, from the id 1 on.
+const SYSTEM: [&str; 9] = [
+    "$ion",
+    "$ion_1_0",
+    "$ion_symbol_table",
+    "name",
+    "version",
+    "imports",
+    "symbols",
+    "max_id",
+    "$ion_shared_symbol_table",
+];
+
+/// Symbols by their ids. The symbol of unknown text has the id 0, and a text has one id. An id is found
+/// in an ordered map, so no choice of texts makes it slow; both share a text's memory.
+#[derive(Drop)]
+pub(crate) struct Names {
+    symbols: Vec<Symbol>,
+    ids: BTreeMap<Symbol, usize>,
+}
+
+impl Model for Names {
+    ghost use Rattle.ion_binary.specs.Output.{Names as SymbolsById};
+
+    ghost Value = { SymbolsById };
+
+    ghost view = { λ n. n.symbols.items };
+
+    ghost use Rattle.ion_binary.specs.writer.Ids.{IsIndex};
+
+    ghost invariant = { λ n. IsIndex n.symbols.items n.ids };
+}
+
+impl Names {
+    /// The symbols that every document begins with. The only fault is `Memory`.
+    #[tactic(auto, unfolding(crate::specs::Output::system_names))]
+    pub(crate) fn system(alloc: Global) -> Result<Names, Fault>
+        ensures { MatchResult result (λ n. n ≡ system_names) (λ f. f ≡ faults.Memory) }
+    {
+        let mut names = Names {
+            symbols: Vec::new(alloc),
+            ids: BTreeMap::new(alloc),
+        };
+        let _unknown = names.insert(Symbol::unknown())?;
+        names.insert_texts(alloc, &SYSTEM)?;
+        Ok(names)
+    }
+
+    // Gives each of the texts the next id, if it has none. The only fault is `Memory`.
+    fn insert_texts(&mut self, alloc: Global, texts: &[&str]) -> Result<(), Fault>
+        ensures { MatchResult result (λ _. self.new ≡ with_names self.old (map (λ t. Some t.now) texts.now)) (λ f. f ≡ faults.Memory) }
+    {
+        for text in texts {
+            let symbol = Symbol::known(alloc, text).map_err(|_| Fault::Memory)?;
+            let _id = self.insert(symbol)?;
+        }
+        Ok(())
+    }
+
+    /// How many symbols there are.
+    pub(crate) fn len(&self) -> usize
+        ensures count { result ≡ length self.now }
+        ensures small { result < 2 ^ 63 }
+    {
+        self.symbols.len()
+    }
+
+    /// Gives the symbol the next id, if it has none.
+    ///
+    /// `TooLarge` where that id would be above 2^31-1.
+    pub(crate) fn add(&mut self, guesses: &mut Guesses, symbol: &Symbol) -> Result<(), Fault>
+        ensures ok { OnOk result (self.new ≡ with_name self.old symbol.now) }
+        ensures cause { IfErr result (IsNumberingFault (with_name self.old symbol.now)) }
+    {
+        let guess = guesses.guess();
+        if self.stands_at(guess, symbol) {
+            guesses.note(guess);
+            return Ok(());
+        }
+        let id = self.add_by_text(symbol)?;
+        guesses.note(id);
+        Ok(())
+    }
+
+    // Whether this is the symbol's id. Takes no look by its text.
+    fn stands_at(&self, id: usize, symbol: &Symbol) -> bool
+        ensures id { result ≡ true → id ≡ id_of self.now symbol.now }
+        ensures small { result ≡ true → id < 2 ^ 63 }
+        ensures named { result ≡ true → with_name self.now symbol.now ≡ self.now }
+    {
+        match self.symbols.as_slice().get(id) {
+            None => false,
+            Some(other) => same(symbol, other),
+        }
+    }
+
+    // As `add`, with a look by the text; answers the symbol's id.
+    #[inline(never)]
+    fn add_by_text(&mut self, symbol: &Symbol) -> Result<usize, Fault>
+        ensures ok { OnOk result (self.new ≡ with_name self.old symbol.now) }
+        ensures cause { IfErr result (IsNumberingFault (with_name self.old symbol.now)) }
+    {
+        let key = copy_of(symbol)?;
+        if self.symbols.len() > GREATEST_ID && !self.ids.contains_key(&key) {
+            return Err(Fault::TooLarge);
+        }
+        self.insert(key)
+    }
+
+    // Gives the symbol the next id, if it has none, and answers its id. The only fault is `Memory`.
+    fn insert(&mut self, key: Symbol) -> Result<usize, Fault>
+        ensures { MatchResult result (λ _. self.new ≡ with_name self.old key) (λ f. f ≡ faults.Memory) }
+    {
+        if let Some(id) = self.ids.get(&key) {
+            return Ok(*id);
+        }
+        let id = self.symbols.len();
+        let symbol = copy_of(&key)?;
+        // Behind the map's growth nothing may fail.
+        self.symbols.reserve(1)?;
+        self.ids.insert(key, id)?;
+        self.symbols.push(symbol)?;
+        Ok(id)
+    }
+
+    /// The id of a symbol. The only fault is `Memory`.
+    pub(crate) fn id_of(&self, guesses: &mut Guesses, symbol: &Symbol) -> Result<u64, Fault>
+        ensures id { MatchResult result (λ id. id ≡ id_of self.now symbol.now) (λ f. f ≡ faults.Memory) }
+        ensures small { IfOk result (λ id. id < 2 ^ 63) }
+    {
+        let guess = guesses.guess();
+        if self.stands_at(guess, symbol) {
+            guesses.note(guess);
+            return Ok(guess as u64);
+        }
+        let id = self.id_by_text(symbol)?;
+        guesses.note(id);
+        Ok(id as u64)
+    }
+
+    // As `id_of`, with a look by the text.
+    #[inline(never)]
+    fn id_by_text(&self, symbol: &Symbol) -> Result<usize, Fault>
+        ensures id { MatchResult result (λ id. id ≡ id_of self.now symbol.now) (λ f. f ≡ faults.Memory) }
+        ensures small { IfOk result (λ id. id < 2 ^ 63) }
+    {
+        let key = copy_of(symbol)?;
+        let count = self.len();
+        Ok(self.ids.get(&key).copied().unwrap_or(count))
+    }
+
+    /// The symbols from an id on, in the order of their ids.
+    pub(crate) fn from(&self, id: usize) -> &[Symbol]
+        requires { id ≤ length self.now }
+        ensures { result.now ≡ drop id self.now }
+    {
+        &self.symbols.as_slice()[id..]
+    }
+}
+
+// A symbol that shares the text of this one.
+fn copy_of(symbol: &Symbol) -> Result<Symbol, Fault>
+    ensures { MatchResult result (λ s. s ≡ symbol.now) (λ f. f ≡ faults.Memory) }
+{
+    symbol.copy().map_err(|_| Fault::Memory)
+}
+
+// `Symbol::same`, without a call.
+#[inline(always)]
+fn same(symbol: &Symbol, other: &Symbol) -> bool
+    ensures { result ≡ symbol_same symbol.now other.now }
+{
+    match (symbol.text(), other.text()) {
+        (None, None) => true,
+        (Some(text), Some(other)) => text == other,
+        _ => false,
+    }
+}

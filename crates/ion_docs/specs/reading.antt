@@ -1,0 +1,8 @@
+-- How far documents were read.
+pub mod Read
+pub mod Standing
+pub mod Reached
+pub mod Courses
+pub mod Chosen
+pub mod Alongside
+pub mod DocStands

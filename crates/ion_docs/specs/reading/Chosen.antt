@@ -1,0 +1,11 @@
+-- What a reader of either encoding says of octets: the first chooses.
+use Rattle.std.specs.Prelude.{ℕ, List, if◌then◌else◌}
+use Rattle.ion_symtab.specs.declared.catalog.Catalog.{Catalog}
+use Rattle.ion_symtab.specs.declared.limits.Limits.{Limits}
+use Rattle.ion_symtab.specs.Trace.{Trace}
+use Rattle.ion_binary.specs.machine.Run as binary
+use Rattle.ion_text.specs.machine.Run as text
+use Rattle.ion_docs.specs.Documents.{is_binary}
+
+abbrev pub chosen : Catalog → Limits → List ℕ → Trace
+chosen g l octets = if is_binary octets then binary.trace g l octets else text.trace g l octets

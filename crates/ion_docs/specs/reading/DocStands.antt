@@ -1,0 +1,57 @@
+-- What a reader of either encoding stands for.
+use Rattle.std.specs.Prelude.{◌≡◌, ℕ, ◌==◌, Bool, true, false, List, [], ◌∷◌, length, Option, Some, None}
+use Rattle.ion_model.specs.declared.value.Value.{Value}
+use Rattle.ion_model.specs.declared.refusal.Refusal.{Refusal}
+use Rattle.ion_symtab.specs.declared.catalog.Catalog.{Catalog}
+use Rattle.ion_symtab.specs.declared.limits.Limits.{Limits}
+use Rattle.ion_binary.specs.machine.Views as binary
+use Rattle.ion_binary.specs.machine.Views.{body_so_far}
+use Rattle.ion_text.specs.machine.Progress as text
+use Rattle.ion_docs.specs.declared.doc_reader.Format.{Format}
+use Rattle.ion_docs.specs.declared.doc_reader.Format.TheVariants.{Unbegun, Refused, Binary, Text}
+use Rattle.ion_docs.specs.declared.doc_reader.DocReader.{DocReader}
+
+-- there are octets, and whether the first is E0
+abbrev pub Begins : Bool → List ℕ → Type 0
+Begins with_marker [] = ⊥
+Begins with_marker (first ∷ octets) = (first == 0xE0) ≡ with_marker
+
+-- octets that have begun so were handed to a reader under the same catalog and limits, which stands for them
+abbrev pub Handed : DocReader → Bool → Limits → Catalog → Type 0 → List ℕ → Type 0
+Handed d with_marker limits catalog Stood u = Stood × Begins with_marker u × (limits ≡ d.limits) × (catalog ≡ d.catalog.now)
+
+abbrev pub FormatStands : DocReader → Format → List ℕ → List (Value × ℕ) → Type 0
+FormatStands d Unbegun u s = (u ≡ []) × (s ≡ [])
+FormatStands d (Refused refusal) u s = ⊥
+FormatStands d (Binary r) u s = Handed d true r.limits r.catalog.now (binary.Stands r u s) u
+FormatStands d (Text r) u s = Handed d false r.limits r.catalog.now (text.Stands r u s) u
+
+-- what the reader holds is that of these octets, with which it gave these values
+abbrev pub DocStands : DocReader → List ℕ → List (Value × ℕ) → Type 0
+DocStands d u s = FormatStands d d.format u s
+
+abbrev pub taken_of : Format → ℕ
+taken_of Unbegun = 0
+taken_of (Refused _) = 0
+taken_of (Binary r) = r.used
+taken_of (Text r) = text.octets_used r
+
+abbrev pub failed_of : Format → Option Refusal
+failed_of Unbegun = None
+failed_of (Refused refusal) = Some refusal
+failed_of (Binary r) = r.failed
+failed_of (Text r) = text.failed r
+
+abbrev pub awaits_of : Format → Option ℕ
+awaits_of (Text r) = r.awaited
+awaits_of _ = None
+
+abbrev pub pending_of : Format → ℕ
+pending_of (Text r) = text.pending r
+pending_of _ = 0
+
+abbrev pub kept_of : Format → ℕ
+kept_of Unbegun = 0
+kept_of (Refused _) = 0
+kept_of (Binary r) = length (body_so_far r.phase r.body.items)
+kept_of (Text r) = text.octets_kept r

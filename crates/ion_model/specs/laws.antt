@@ -1,0 +1,11 @@
+-- What follows from the definitions of values.
+pub mod Kept
+pub mod Order
+pub mod OrderTotal
+pub mod Measures
+pub mod Counts
+pub mod Same
+pub mod Equivalence
+pub mod Calendar
+pub mod Timestamps
+pub mod PartingSteps

@@ -1,0 +1,216 @@
+-- The body of a timestamp in binary (Ion 1.0, "Ion Binary Encoding", timestamp): an offset, which is a VarInt of minutes, then in UTC year, month,
+-- day, hour, minute and second, each a VarUInt, then a fraction of the second: an exponent of ten, which is a VarInt, and a coefficient, which is an
+-- Int of the rest. Trailing parts may be absent, but offset and year stand there, and a minute behind each hour.
+use Rattle.std.specs.Prelude.{◌≡◌, ◌⊎◌, ℕ, ℤ, pos, ◌^◌, ◌<◌, ◌≤◌, Bool, true, false, List, [], ◌∷◌, ◌++◌, drop, nat_le, nat_lt, ◌&&◌, ◌==◌, not, if◌then◌else◌, Option, Some, None, Result, Ok, Err}
+use Rattle.ion_model.specs.declared.calendar.Date.{Date}
+use Rattle.ion_model.specs.declared.calendar.Minute.{Minute}
+use Rattle.ion_model.specs.declared.refusal.Reason.{Reason}
+use Rattle.ion_model.specs.declared.refusal.Reason.TheVariants.{TooLarge, Malformed}
+use Rattle.ion_model.specs.declared.timestamp.Local.{Local}
+use Rattle.ion_model.specs.declared.timestamp.Precision.{Precision}
+use Rattle.ion_model.specs.declared.timestamp.Precision.TheVariants as precisions
+use Rattle.ion_model.specs.Calendar.{month_length, minute_number}
+use Rattle.ion_model.specs.Timestamps.{TimestampParts, IsTimestamp, instant, minutes_ahead}
+use Rattle.ion_scalar.specs.declared.fields.Signed.{Signed}
+use Rattle.ion_scalar.specs.declared.timestamp_body.Utc.{Utc}
+use Rattle.ion_scalar.specs.binary.Fields.{VarUInt, VarInt, var_uint, var_int, int_negative, int_magnitude}
+use Rattle.ion_scalar.specs.text.Decimals.{signed}
+use Rattle.ion_scalar.specs.binary.Shifted.{day_of, moved}
+
+-- a day, of which nothing more is known
+abbrev pub day_known : Precision → Date → Utc
+day_known precision date =
+    record { minute = record { date = date; hour = 0; minute = 0 }; second = 0; fraction = 0; precision = precision }
+
+abbrev pub time_known : Precision → Minute → ℕ → ℕ → Utc
+time_known precision minute second fraction =
+    record { minute = minute; second = second; fraction = fraction; precision = precision }
+
+-- the minute of a day
+abbrev pub minute_of : Date → ℕ → ℕ → Minute
+minute_of date hour minute = record { date = date; hour = hour; minute = minute }
+
+-- octets that begin with a VarUInt in that range, behind which something stands
+pub record Begins (least most : ℕ) (Behind : ℕ → List ℕ → Type 0) (octets : List ℕ) : Type 0 where
+  pub field : List ℕ
+  pub rest : List ℕ
+  pub number : ℕ
+  pub cut : octets ≡ field ++ rest
+  pub is : VarUInt field number
+  pub range : (least ≤ number) × (number ≤ most)
+  pub behind : Behind number rest
+
+-- with the exponent -d the coefficient, 0 or more, has d digits; with any other it is 0, and there is no fraction
+abbrev pub IsFractionOf : Bool → ℕ → List ℕ → Minute → ℕ → Utc → Type 0
+IsFractionOf below power coefficient minute second utc =
+    ((below ≡ true) × (1 ≤ power) × (power ≤ 38) × ((int_negative coefficient ≡ false) ⊎ (int_magnitude coefficient ≡ 0)) × (int_magnitude coefficient < 10 ^ power)
+    × (utc ≡ time_known (precisions.Fraction power) minute second (int_magnitude coefficient)))
+    ⊎ (((below ≡ false) ⊎ (power ≡ 0)) × (int_magnitude coefficient ≡ 0) × (utc ≡ time_known precisions.Second minute second 0))
+
+-- an exponent, and a coefficient that all the rest is
+pub record IsSecondsFraction (minute : Minute) (second : ℕ) (octets : List ℕ) (utc : Utc) : Type 0 where
+  pub exponent : List ℕ
+  pub coefficient : List ℕ
+  pub below : Bool
+  pub power : ℕ
+  pub cut : octets ≡ exponent ++ coefficient
+  pub is : VarInt exponent below power
+  pub fraction : IsFractionOf below power coefficient minute second utc
+
+-- nothing behind a part, or the next one
+abbrev pub IsBehindSecond : Minute → ℕ → List ℕ → Utc → Type 0
+IsBehindSecond minute second octets utc =
+    ((octets ≡ []) × (utc ≡ time_known precisions.Second minute second 0)) ⊎ IsSecondsFraction minute second octets utc
+
+abbrev pub IsBehindMinute : Minute → List ℕ → Utc → Type 0
+IsBehindMinute minute octets utc =
+    ((octets ≡ []) × (utc ≡ time_known precisions.Minute minute 0 0)) ⊎ Begins 0 59 (λ second rest. IsBehindSecond minute second rest utc) octets
+
+abbrev pub IsBehindHour : Date → ℕ → List ℕ → Utc → Type 0
+IsBehindHour date hour octets utc = Begins 0 59 (λ minute rest. IsBehindMinute (minute_of date hour minute) rest utc) octets
+
+abbrev pub IsBehindDay : Date → List ℕ → Utc → Type 0
+IsBehindDay date octets utc =
+    ((octets ≡ []) × (utc ≡ day_known precisions.Day date)) ⊎ Begins 0 23 (λ hour rest. IsBehindHour date hour rest utc) octets
+
+abbrev pub IsBehindMonth : ℕ → ℕ → List ℕ → Utc → Type 0
+IsBehindMonth year month octets utc =
+    ((octets ≡ []) × (utc ≡ day_known precisions.Month (day_of year month 1)))
+    ⊎ Begins 1 (month_length year month) (λ day rest. IsBehindDay (day_of year month day) rest utc) octets
+
+abbrev pub IsBehindYear : ℕ → List ℕ → Utc → Type 0
+IsBehindYear year octets utc =
+    ((octets ≡ []) × (utc ≡ day_known precisions.Year (day_of year 1 1))) ⊎ Begins 1 12 (λ month rest. IsBehindMonth year month rest utc) octets
+
+-- these octets are the fields in UTC, from the year on
+abbrev pub AreFields : List ℕ → Utc → Type 0
+AreFields octets utc = Begins 1 9999 (λ year rest. IsBehindYear year rest utc) octets
+
+-- the offset in minutes; -0 is the unknown one
+abbrev pub offset_from : Bool → ℕ → Option ℤ
+offset_from negative n = if negative && (n == 0) then None else Some (signed negative n)
+
+-- below minute precision the offset isn't part of the value
+abbrev pub kept_offset : Precision → Option ℤ → Option ℤ
+kept_offset precisions.Year offset = None
+kept_offset precisions.Month offset = None
+kept_offset precisions.Day offset = None
+kept_offset _ offset = offset
+
+-- a whole body is that timestamp: it has the fields' instant and precision, and shows it by the offset
+pub record IsTimestampBody (body : List ℕ) (t : TimestampParts) : Type 0 where
+  pub ahead : List ℕ
+  pub fields : List ℕ
+  pub below : Bool
+  pub minutes : ℕ
+  pub utc : Utc
+  pub cut : body ≡ ahead ++ fields
+  pub is_ahead : VarInt ahead below minutes
+  pub range : minutes ≤ 1439
+  pub are_fields : AreFields fields utc
+  pub precision : t.precision ≡ utc.precision
+  pub offset : t.offset ≡ kept_offset utc.precision (offset_from below minutes)
+  pub at : instant t ≡ record { minute = pos (minute_number utc.minute); second = utc.second; fraction = utc.fraction }
+  pub is : IsTimestamp t
+
+-- How a body is judged: part by part, from left to right. A part is too large where its number is; it is malformed where it has no end, and where
+-- its number is out of range.
+abbrev pub in_range : ℕ → ℕ → Result (ℕ × ℕ) Reason → Result (ℕ × ℕ) Reason
+in_range least most (Ok read) = if nat_le least read.0 && nat_le read.0 most then Ok read else Err Malformed
+in_range least most (Err TooLarge) = Err TooLarge
+in_range least most (Err _) = Err Malformed
+
+-- a VarUInt in that range at the front: its number, and how many octets it takes
+unfoldable pub read_field : ℕ → ℕ → List ℕ → Result (ℕ × ℕ) Reason
+read_field least most octets = in_range least most (var_uint octets)
+
+-- what stands behind a part
+abbrev pub and_then : {X : Type 0} → List ℕ → (ℕ → List ℕ → Result X Reason) → Result (ℕ × ℕ) Reason → Result X Reason
+and_then octets judge (Ok read) = judge read.0 (drop read.1 octets)
+and_then octets judge (Err reason) = Err reason
+
+-- the coefficient behind the exponent -d, and behind one that isn't below 0
+abbrev pub read_digits : ℕ → Minute → ℕ → List ℕ → Result Utc Reason
+read_digits digits minute second octets =
+    if int_negative octets && nat_lt 0 (int_magnitude octets) then Err Malformed
+    else if nat_lt (int_magnitude octets) (10 ^ digits) then Ok (time_known (precisions.Fraction digits) minute second (int_magnitude octets))
+    else Err Malformed
+
+abbrev pub read_no_digits : Minute → ℕ → List ℕ → Result Utc Reason
+read_no_digits minute second octets =
+    if nat_lt 0 (int_magnitude octets) then Err Malformed else Ok (time_known precisions.Second minute second 0)
+
+-- more than 38 digits are too many
+unfoldable pub read_fraction : Minute → ℕ → Signed → List ℕ → Result Utc Reason
+read_fraction minute second power octets =
+    if power.negative && nat_lt 38 power.magnitude then Err TooLarge
+    else if not (nat_lt (int_magnitude octets) (2 ^ 127)) then Err TooLarge
+    else if power.negative && nat_lt 0 power.magnitude then read_digits power.magnitude minute second octets
+    else read_no_digits minute second octets
+
+abbrev pub with_power : Minute → ℕ → List ℕ → Result (Signed × ℕ) Reason → Result Utc Reason
+with_power minute second octets (Ok read) = read_fraction minute second read.0 (drop read.1 octets)
+with_power minute second octets (Err TooLarge) = Err TooLarge
+with_power minute second octets (Err _) = Err Malformed
+
+unfoldable pub read_behind_second : Minute → ℕ → List ℕ → Result Utc Reason
+read_behind_second minute second [] = Ok (time_known precisions.Second minute second 0)
+read_behind_second minute second (octet ∷ rest) = with_power minute second (octet ∷ rest) (var_int (octet ∷ rest))
+
+unfoldable pub read_behind_minute : Minute → List ℕ → Result Utc Reason
+read_behind_minute minute [] = Ok (time_known precisions.Minute minute 0 0)
+read_behind_minute minute (octet ∷ rest) = and_then (octet ∷ rest) (read_behind_second minute) (read_field 0 59 (octet ∷ rest))
+
+unfoldable pub read_behind_hour : Date → ℕ → List ℕ → Result Utc Reason
+read_behind_hour date hour octets = and_then octets (λ minute. read_behind_minute (minute_of date hour minute)) (read_field 0 59 octets)
+
+unfoldable pub read_behind_day : Date → List ℕ → Result Utc Reason
+read_behind_day date [] = Ok (day_known precisions.Day date)
+read_behind_day date (octet ∷ rest) = and_then (octet ∷ rest) (read_behind_hour date) (read_field 0 23 (octet ∷ rest))
+
+unfoldable pub read_behind_month : ℕ → ℕ → List ℕ → Result Utc Reason
+read_behind_month year month [] = Ok (day_known precisions.Month (day_of year month 1))
+read_behind_month year month (octet ∷ rest) =
+    and_then (octet ∷ rest) (λ day. read_behind_day (day_of year month day)) (read_field 1 (month_length year month) (octet ∷ rest))
+
+unfoldable pub read_behind_year : ℕ → List ℕ → Result Utc Reason
+read_behind_year year [] = Ok (day_known precisions.Year (day_of year 1 1))
+read_behind_year year (octet ∷ rest) = and_then (octet ∷ rest) (read_behind_month year) (read_field 1 12 (octet ∷ rest))
+
+unfoldable pub read_fields : List ℕ → Result Utc Reason
+read_fields octets = and_then octets read_behind_year (read_field 1 9999 octets)
+
+abbrev pub near : Result (Signed × ℕ) Reason → Result (Option ℤ × ℕ) Reason
+near (Ok read) = if nat_le read.0.magnitude 1439 then Ok (offset_from read.0.negative read.0.magnitude, read.1) else Err Malformed
+near (Err TooLarge) = Err TooLarge
+near (Err _) = Err Malformed
+
+unfoldable pub read_offset : List ℕ → Result (Option ℤ × ℕ) Reason
+read_offset octets = near (var_int octets)
+
+-- the fields that the place's clock and calendar show in a minute
+abbrev pub local_in : Utc → Minute → Local
+local_in utc m =
+    record { year = m.date.year; month = m.date.month; day = m.date.day; hour = m.hour; minute = m.minute; second = utc.second; fraction = utc.fraction }
+
+abbrev pub shown_at : Utc → Option ℤ → Minute → Result TimestampParts Reason
+shown_at utc offset m =
+    if nat_le 1 m.date.year && nat_le m.date.year 9999 then Ok (record { local = local_in utc m; precision = utc.precision; offset = offset })
+    else Err Malformed
+
+-- last, the local year is to be one of 1 to 9999
+unfoldable pub shown : Option ℤ → Utc → Result TimestampParts Reason
+shown offset utc =
+    shown_at utc (kept_offset utc.precision offset) (moved utc.minute (minutes_ahead (kept_offset utc.precision offset)))
+
+abbrev pub shown_by : Option ℤ → Result Utc Reason → Result TimestampParts Reason
+shown_by offset (Ok utc) = shown offset utc
+shown_by offset (Err reason) = Err reason
+
+abbrev pub with_offset : List ℕ → Result (Option ℤ × ℕ) Reason → Result TimestampParts Reason
+with_offset octets (Ok read) = shown_by read.0 (read_fields (drop read.1 octets))
+with_offset octets (Err reason) = Err reason
+
+-- what a body is as a timestamp
+unfoldable pub timestamp_of_body : List ℕ → Result TimestampParts Reason
+timestamp_of_body body = with_offset body (read_offset body)

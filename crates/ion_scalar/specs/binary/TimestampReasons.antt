@@ -1,0 +1,65 @@
+-- Which bodies are too large for a timestamp: those of which a part is, and each part before it ends and lies in its range.
+use Rattle.std.specs.Prelude.{◌≡◌, ◌⊎◌, ℕ, ◌^◌, ◌<◌, ◌≤◌, Bool, true, List, ◌++◌, Result, Ok, Err}
+use Rattle.ion_model.specs.declared.refusal.Reason.{Reason}
+use Rattle.ion_model.specs.declared.refusal.Reason.TheVariants.{TooLarge, Malformed}
+use Rattle.ion_model.specs.Calendar.{month_length}
+use Rattle.ion_model.specs.Timestamps.{TimestampParts}
+use Rattle.ion_scalar.specs.binary.Fields.{VarInt, int_magnitude}
+use Rattle.ion_scalar.specs.binary.Reads.{Reaches, ReachesInt}
+use Rattle.ion_scalar.specs.binary.Timestamp.{Begins, IsTimestampBody}
+
+-- a part that reaches 2^63, or one in its range with something too large behind it
+abbrev pub IsLargePart : ℕ → ℕ → (ℕ → List ℕ → Type 0) → List ℕ → Type 0
+IsLargePart least most IsLarge octets = Reaches 0 octets ⊎ Begins least most IsLarge octets
+
+-- more than 38 digits, or a coefficient of 2^127 or more
+pub record IsLargeFraction (octets : List ℕ) : Type 0 where
+  pub exponent : List ℕ
+  pub coefficient : List ℕ
+  pub below : Bool
+  pub power : ℕ
+  pub cut : octets ≡ exponent ++ coefficient
+  pub is : VarInt exponent below power
+  pub large : ((below ≡ true) × (38 < power)) ⊎ (2 ^ 127 ≤ int_magnitude coefficient)
+
+abbrev pub IsLargeBehindSecond : List ℕ → Type 0
+IsLargeBehindSecond octets = ReachesInt octets ⊎ IsLargeFraction octets
+
+abbrev pub IsLargeBehindMinute : List ℕ → Type 0
+IsLargeBehindMinute octets = IsLargePart 0 59 (λ second rest. IsLargeBehindSecond rest) octets
+
+abbrev pub IsLargeBehindHour : List ℕ → Type 0
+IsLargeBehindHour octets = IsLargePart 0 59 (λ minute rest. IsLargeBehindMinute rest) octets
+
+abbrev pub IsLargeBehindDay : List ℕ → Type 0
+IsLargeBehindDay octets = IsLargePart 0 23 (λ hour rest. IsLargeBehindHour rest) octets
+
+abbrev pub IsLargeBehindMonth : ℕ → ℕ → List ℕ → Type 0
+IsLargeBehindMonth year month octets = IsLargePart 1 (month_length year month) (λ day rest. IsLargeBehindDay rest) octets
+
+abbrev pub IsLargeBehindYear : ℕ → List ℕ → Type 0
+IsLargeBehindYear year octets = IsLargePart 1 12 (λ month rest. IsLargeBehindMonth year month rest) octets
+
+abbrev pub AreLargeFields : List ℕ → Type 0
+AreLargeFields octets = IsLargePart 1 9999 IsLargeBehindYear octets
+
+-- an offset in range, and fields of which one is too large
+pub record HasLargeFields (body : List ℕ) : Type 0 where
+  pub ahead : List ℕ
+  pub fields : List ℕ
+  pub below : Bool
+  pub minutes : ℕ
+  pub cut : body ≡ ahead ++ fields
+  pub is : VarInt ahead below minutes
+  pub range : minutes ≤ 1439
+  pub large : AreLargeFields fields
+
+abbrev pub IsLargeBody : List ℕ → Type 0
+IsLargeBody body = ReachesInt body ⊎ HasLargeFields body
+
+-- what each answer of reading a body says: the timestamp; `TooLarge` for a body that is; `Malformed` for one that is neither
+abbrev pub ReadsTimestampBody : List ℕ → Result TimestampParts Reason → Type 0
+ReadsTimestampBody body (Ok t) = IsTimestampBody body t
+ReadsTimestampBody body (Err TooLarge) = IsLargeBody body
+ReadsTimestampBody body (Err Malformed) = ((t : TimestampParts) → IsTimestampBody body t → ⊥) × (IsLargeBody body → ⊥)
+ReadsTimestampBody body (Err _) = ⊥

@@ -1,0 +1,224 @@
+-- A timestamp's fields are shown in local form as the calendar has it, and its body is read as what it is.
+use Rattle.std.proofs.Common.{◌≡◌, ◌⊎◌, ℕ, ℤ, pos, negsuc, ◌+ℤ◌, ◌-ℤ◌, Bool, true, false, cond, ◌++◌, ◌<◌, ◌≤◌, List, take, drop, refl, sym, ap, subst, ◌∙◌, arith, ◌^◌, FitsSigned, w16, Ok, Err, Result, inl, inr, Option, Some, None}
+use Rattle.std.specs.Prelude.{IfSome, unsigned_abs, ◌==◌}
+use Rattle.std.proofs.lemmas.Bool.{lt-leb, le-leb, cases_lt}
+use Rattle.std.proofs.lemmas.Int.{ints, fits_signed_from_abs}
+use Rattle.std.proofs.lemmas.List.{take-append-drop}
+use Rattle.std.proofs.Math.Seq.{drop-append_seam}
+use Rattle.ion_model.specs.declared.calendar.Minute.{Minute}
+use Rattle.ion_model.specs.declared.refusal.Reason.{Reason}
+use Rattle.ion_model.specs.declared.refusal.Reason.TheVariants.{TooLarge, Malformed, Incomplete}
+use Rattle.ion_model.specs.declared.timestamp.Local.{Local}
+use Rattle.ion_model.specs.declared.timestamp.Precision.{Precision}
+use Rattle.ion_model.specs.declared.timestamp.Precision.TheVariants as precisions
+use Rattle.ion_model.specs.Calendar.{IsMinute, InYears, minute_number}
+use Rattle.ion_model.specs.laws.Calendar.{minute-in_years, minute_number-injective}
+use Rattle.ion_model.specs.Timestamps.{TimestampParts, IsTimestamp, IsCut, IsOffset, HasOffset, instant, utc_minute, local_minute, minutes_ahead}
+use Rattle.ion_model.specs.laws.Timestamps.{local_minute-is}
+use Rattle.ion_scalar.specs.declared.fields.Signed.{Signed}
+use Rattle.ion_scalar.specs.declared.timestamp_body.Utc.{Utc}
+use Rattle.ion_scalar.specs.binary.Fields.{VarInt, var_int}
+use Rattle.ion_scalar.specs.binary.Reads.{ReadsVarInt}
+use Rattle.ion_scalar.specs.binary.laws.VarInt.{var_int_read, var_int_answers}
+use Rattle.ion_scalar.specs.text.Decimals.{signed}
+use Rattle.ion_scalar.specs.binary.Shifted.{moved}
+use Rattle.ion_scalar.specs.binary.laws.Shifted.{moved_is, moved_out, moved_minute, moved_number, moved_years}
+use Rattle.ion_scalar.specs.binary.Timestamp.{IsTimestampBody, offset_from, kept_offset, local_in, near, shown, shown_by, read_offset, read_fields, with_offset, timestamp_of_body}
+use Rattle.ion_scalar.specs.binary.laws.Timestamp.{IsUtc, fields_told, fields_read, fields_are}
+
+zero_near : IsOffset (pos 0)
+zero_near = (omega (arith, ints), omega (arith, ints))
+
+-- an offset has 16 bits
+abs_small : (z : ℤ) → IsOffset z → unsigned_abs z < 2 ^ 15
+abs_small (pos k) h = omega (arith, ints, h.1)
+abs_small (negsuc k) h = omega (arith, ints, h.0)
+
+pub near_fits : (z : ℤ) → IsOffset z → FitsSigned w16 z
+near_fits z h = fits_signed_from_abs w16 z (abs_small z h)
+
+-- the offset that is kept is less than a day
+near_kept : (p : Precision) (offset : Option ℤ) → IfSome offset IsOffset → IsOffset (minutes_ahead (kept_offset p offset))
+near_kept precisions.Year offset h = zero_near
+near_kept precisions.Month offset h = zero_near
+near_kept precisions.Day offset h = zero_near
+near_kept precisions.Minute None h = zero_near
+near_kept precisions.Minute (Some z) h = h
+near_kept precisions.Second None h = zero_near
+near_kept precisions.Second (Some z) h = h
+near_kept (precisions.Fraction digits) None h = zero_near
+near_kept (precisions.Fraction digits) (Some z) h = h
+
+has_offset : (p : Precision) (offset : Option ℤ) → IfSome offset IsOffset → HasOffset p (kept_offset p offset)
+has_offset precisions.Year offset h = refl
+has_offset precisions.Month offset h = refl
+has_offset precisions.Day offset h = refl
+has_offset precisions.Minute None h = tt
+has_offset precisions.Minute (Some z) h = h
+has_offset precisions.Second None h = tt
+has_offset precisions.Second (Some z) h = h
+has_offset (precisions.Fraction digits) None h = tt
+has_offset (precisions.Fraction digits) (Some z) h = h
+
+-- moving the minute leaves the fields cut
+pub cut_kept : (p : Precision) (offset : Option ℤ) (l k : Local) → IsCut p l → k.second ≡ l.second → k.fraction ≡ l.fraction → (kept_offset p offset ≡ None → k ≡ l) → IsCut p k
+cut_kept precisions.Year offset l k cut second fraction same = subst (IsCut precisions.Year) (sym (same refl)) cut
+cut_kept precisions.Month offset l k cut second fraction same = subst (IsCut precisions.Month) (sym (same refl)) cut
+cut_kept precisions.Day offset l k cut second fraction same = subst (IsCut precisions.Day) (sym (same refl)) cut
+cut_kept precisions.Minute offset l k cut second fraction same = (second ∙ cut.0, fraction ∙ cut.1)
+cut_kept precisions.Second offset l k cut second fraction same = fraction ∙ cut
+cut_kept (precisions.Fraction digits) offset l k cut second fraction same = (cut.0, cut.1, rw fraction cut.2)
+
+module _ (utc : Utc) (h : IsUtc utc) (offset : Option ℤ) (o : IfSome offset IsOffset) where
+  abbrev by : ℤ
+  by = minutes_ahead (kept_offset utc.precision offset)
+
+  abbrev parts : Minute → TimestampParts
+  parts m = record { local = local_in utc m; precision = utc.precision; offset = kept_offset utc.precision offset }
+
+  -- in the years 1 to 9999, and outside of them
+  shown_within : 1 ≤ (moved utc.minute by).date.year → (moved utc.minute by).date.year ≤ 9999 → shown offset utc ≡ Ok (parts (moved utc.minute by))
+  unfolding shown
+  shown_within low high =
+      rw (le-leb 1 (moved utc.minute by).date.year low, le-leb (moved utc.minute by).date.year 9999 high) refl
+
+  abbrev Shown : Type 0
+  Shown =
+      ((1 ≤ (moved utc.minute by).date.year) × ((moved utc.minute by).date.year ≤ 9999))
+      ⊎ (shown offset utc ≡ Err Malformed)
+
+  shown_cases : Shown
+  unfolding shown
+  shown_cases =
+      elim (cases_lt (moved utc.minute by).date.year 1) [
+        | inl none ↦ inr (rw (lt-leb 1 (moved utc.minute by).date.year none) refl)
+        | inr low ↦ elim (cases_lt 9999 (moved utc.minute by).date.year) [
+          | inl beyond ↦ inr (rw (le-leb 1 (moved utc.minute by).date.year low, lt-leb (moved utc.minute by).date.year 9999 beyond) refl)
+          | inr high ↦ inl (low, high)
+        ]
+      ]
+
+  near_by : IsOffset by
+  near_by = near_kept utc.precision offset o
+
+  pub shown_none : (InYears (pos (minute_number utc.minute) +ℤ minutes_ahead (kept_offset utc.precision offset)) → ⊥) → shown offset utc ≡ Err Malformed
+  shown_none out =
+      elim shown_cases [
+        | inl years ↦ absurd (out (moved_out utc.minute by h.minute near_by years.0 years.1))
+        | inr refused ↦ refused
+      ]
+
+  abbrev Lies : Minute → Type 0
+  Lies m = pos (minute_number m) ≡ pos (minute_number utc.minute) +ℤ minutes_ahead (kept_offset utc.precision offset)
+
+  pub shown_some : (m : Minute) → IsMinute m → Lies m → shown offset utc ≡ Ok (parts m)
+  shown_some m is number =
+      let within = rw number at (minute-in_years m is) in
+      let there = moved_is utc.minute by h.minute near_by within in
+      let years = moved_years utc.minute by h.minute near_by within in
+      let same = minute_number-injective (moved utc.minute by) m there.0 is (omega (arith, ints, there.1, number)) in
+      subst (λ x. shown offset utc ≡ Ok (parts x)) same (shown_within years.0 years.1)
+
+  unmoved : (m : Minute) → IsMinute m → Lies m → kept_offset utc.precision offset ≡ None → local_in utc m ≡ local_in utc utc.minute
+  unmoved m is number none =
+      let no_minutes : by ≡ pos 0 = ap minutes_ahead none in
+      ap (local_in utc) (minute_number-injective m utc.minute is h.minute (omega (arith, ints, number, no_minutes)))
+
+  -- such parts are a timestamp
+  pub shown_is : (m : Minute) → IsMinute m → Lies m → IsTimestamp (parts m)
+  shown_is m is number =
+      let back : pos (minute_number m) -ℤ by ≡ pos (minute_number utc.minute) = omega (arith, ints, number) in
+      record {
+        date = is.date;
+        time = (is.hour, is.minute, h.second);
+        cut = cut_kept utc.precision offset (local_in utc utc.minute) (local_in utc m) h.cut refl refl (unmoved m is number);
+        offset = has_offset utc.precision offset o;
+        years = rw back (minute-in_years utc.minute h.minute);
+      }
+
+  shown_told : (t : TimestampParts) → shown offset utc ≡ Ok t → IsMinute (moved utc.minute by) × Lies (moved utc.minute by) × (parts (moved utc.minute by) ≡ t)
+  shown_told t e =
+      elim shown_cases [
+        | inl years ↦
+            let here = shown_within years.0 years.1 in
+            (moved_minute utc.minute by h.minute near_by years.0 years.1, moved_number utc.minute by h.minute near_by, cc)
+        | inr refused ↦ absurd cc
+      ]
+
+negative_near : (n : ℕ) (none : Bool) → n ≤ 1439 → IfSome (cond none None (Some (signed true n))) IsOffset
+negative_near n true h = tt
+negative_near n false h = (omega (arith, ints, h), omega (arith, ints))
+
+pub near_from : (below : Bool) (n : ℕ) → n ≤ 1439 → IfSome (offset_from below n) IsOffset
+near_from false n h = (omega (arith, ints), omega (arith, ints, h))
+near_from true n h = negative_near n (n == 0) h
+
+module _ (body : List ℕ) (t : TimestampParts) where
+  fields_on : (read : Signed × ℕ) → VarInt (take read.1 body) read.0.negative read.0.magnitude → read.0.magnitude ≤ 1439
+      → (r : Result Utc Reason) → read_fields (drop read.1 body) ≡ r → shown_by (offset_from read.0.negative read.0.magnitude) r ≡ Ok t → IsTimestampBody body t
+  fields_on read is range (Ok utc) fields e =
+      let offset = offset_from read.0.negative read.0.magnitude in
+      let o : IfSome offset IsOffset = near_from read.0.negative read.0.magnitude range in
+      let are = fields_told utc (drop read.1 body) fields in
+      let u = fields_are (drop read.1 body) utc are in
+      let s = shown_told utc u offset o t e in
+      let m = moved utc.minute (minutes_ahead (kept_offset utc.precision offset)) in
+      let back : pos (minute_number m) -ℤ minutes_ahead (kept_offset utc.precision offset) ≡ pos (minute_number utc.minute) = omega (arith, ints, s.1) in
+      let at : instant (parts utc u offset o m) ≡ record { minute = pos (minute_number utc.minute); second = utc.second; fraction = utc.fraction } =
+      λ i. record { minute = back i; second = utc.second; fraction = utc.fraction } in
+      subst (IsTimestampBody body) s.2 (record {
+        ahead = take read.1 body;
+        fields = drop read.1 body;
+        below = read.0.negative;
+        minutes = read.0.magnitude;
+        utc = utc;
+        cut = sym (take-append-drop read.1 body);
+        is_ahead = is;
+        range = range;
+        are_fields = are;
+        precision = refl;
+        offset = refl;
+        at = at;
+        is = shown_is utc u offset o m s.0 s.1;
+      })
+  fields_on read is range (Err reason) fields e = absurd cc
+
+  offset_on : (r : Result (Signed × ℕ) Reason) → ReadsVarInt body r → with_offset body (near r) ≡ Ok t → IsTimestampBody body t
+  offset_on (Ok read) a e =
+      elim (cases_lt 1439 read.0.magnitude) [
+        | inl far ↦ absurd (let h = rw (lt-leb read.0.magnitude 1439 far) at e in cc)
+        | inr range ↦ fields_on read a.is range (read_fields (drop read.1 body)) refl (rw (le-leb read.0.magnitude 1439 range) at e)
+      ]
+  offset_on (Err TooLarge) a e = absurd cc
+  offset_on (Err Incomplete) a e = absurd cc
+  offset_on (Err _) a e = absurd a
+
+  pub timestamp_told : timestamp_of_body body ≡ Ok t → IsTimestampBody body t
+  unfolding timestamp_of_body read_offset
+  timestamp_told e = offset_on (var_int body) (var_int_answers body) e
+
+-- fields that are shown as a timestamp of that instant
+shown_so : (t : TimestampParts) (utc : Utc) (offset : Option ℤ) → IsUtc utc → IfSome offset IsOffset → IsTimestamp t → t.precision ≡ utc.precision → t.offset ≡ kept_offset utc.precision offset
+    → instant t ≡ record { minute = pos (minute_number utc.minute); second = utc.second; fraction = utc.fraction } → shown offset utc ≡ Ok t
+shown_so t utc offset u o is precision same at =
+    let m = local_minute t.local in
+    let ahead : minutes_ahead t.offset ≡ minutes_ahead (kept_offset utc.precision offset) = ap minutes_ahead same in
+    let utc_is : utc_minute t ≡ pos (minute_number utc.minute) = ap (λ x. x.minute) at in
+    let number : pos (minute_number m) ≡ pos (minute_number utc.minute) +ℤ minutes_ahead (kept_offset utc.precision offset) = omega (arith, ints, ahead, utc_is) in
+    let l = t.local in
+    let whole : parts utc u offset o m ≡ t = λ i. record {
+      local = record { year = l.year; month = l.month; day = l.day; hour = l.hour; minute = l.minute; second = (sym at i).second; fraction = (sym at i).fraction };
+      precision = sym precision i;
+      offset = sym same i;
+    } in
+    shown_some utc u offset o m (local_minute-is t is) number ∙ ap Ok whole
+
+pub timestamp_read : (body : List ℕ) (t : TimestampParts) → IsTimestampBody body t → timestamp_of_body body ≡ Ok t
+unfolding timestamp_of_body read_offset
+timestamp_read body t b =
+    let P : List ℕ → Type 0 = λ os. with_offset os (near (var_int os)) ≡ Ok t in
+    let offset = offset_from b.below b.minutes in
+    let so = shown_so t b.utc offset (fields_are b.fields b.utc b.are_fields) (near_from b.below b.minutes b.range) b.is b.precision b.offset b.at in
+    let here : P (b.ahead ++ b.fields) =
+    rw (var_int_read b.ahead b.fields b.below b.minutes b.is_ahead, le-leb b.minutes 1439 b.range, drop-append_seam b.ahead b.fields, fields_read b.utc b.fields b.are_fields) so in
+    subst P (sym b.cut) here

@@ -1,0 +1,164 @@
+-- Whether octets are the token of a timestamp, and whether there is such a day and time.
+use Rattle.std.proofs.Common.{◌≡◌, ℕ, ◌+◌, ◌*◌, ◌^◌, ◌≤◌, ◌⊎◌, inl, inr, List, length, drop, slice_index, ℤ, pos, neg_ℤ, Option, Some, None, refl}
+use Rattle.std.proofs.Math.Decide.{map_dec, ℕ_discrete, dec_le, dec_lt}
+use Rattle.ion_model.specs.Calendar.{IsDate, InYears, month_length, first_day, last_day}
+use Rattle.ion_model.specs.declared.calendar.Date.{Date}
+use Rattle.ion_model.specs.declared.timestamp.Local.{Local}
+use Rattle.ion_model.specs.declared.timestamp.Precision.{Precision}
+use Rattle.ion_model.specs.declared.timestamp.Precision.TheVariants as precisions
+use Rattle.ion_model.specs.Timestamps.{TimestampParts, IsTimestamp, IsTime, IsCut, IsOffset, HasOffset, local_date, utc_minute}
+use Rattle.ion_scalar.specs.text.Ints.{number}
+use Rattle.ion_scalar.specs.text.Decimals.{IsPlain}
+use Rattle.ion_scalar.specs.text.Timestamps.{IsAt, IsDigitAt, AreTwoAt, two, AreFourAt, four, BeginsWithMonth, BeginsWithDay, BeginsWithMinute, BeginsWithSecond, IsOffsetToken, IsYear, IsMonth, IsDay, IsTimestampToken, year, month, day, minute, second, fraction, dated, timed, IsShort}
+use Rattle.ion_scalar.specs.text.laws.Deciding.{both, three, five, either, below, at_most, Cut, some_cut}
+use Rattle.ion_scalar.specs.text.laws.DecidedNumbers.{plain}
+
+-- 1. The forms.
+
+octet_at : (os : List ℕ) (at c : ℕ) → Dec (IsAt os at c)
+octet_at os at c = both (dec_lt at (length os)) (ℕ_discrete (slice_index os at) c)
+
+digit_at : (os : List ℕ) (at : ℕ) → Dec (IsDigitAt os at)
+digit_at os at = three (dec_lt at (length os)) (dec_le 48 (slice_index os at)) (dec_le (slice_index os at) 57)
+
+two_at : (os : List ℕ) (at : ℕ) → Dec (AreTwoAt os at)
+two_at os at = both (digit_at os at) (digit_at os (at + 1))
+
+four_at : (os : List ℕ) (at : ℕ) → Dec (AreFourAt os at)
+four_at os at = both (two_at os at) (two_at os (at + 2))
+
+month_front : (os : List ℕ) → Dec (BeginsWithMonth os)
+month_front os = three (four_at os 0) (octet_at os 4 45) (two_at os 5)
+
+day_front : (os : List ℕ) → Dec (BeginsWithDay os)
+day_front os = three (month_front os) (octet_at os 7 45) (two_at os 8)
+
+minute_front : (os : List ℕ) → Dec (BeginsWithMinute os)
+minute_front os = five (day_front os) (octet_at os 10 84) (two_at os 11) (octet_at os 13 58) (two_at os 14)
+
+second_front : (os : List ℕ) → Dec (BeginsWithSecond os)
+second_front os = three (minute_front os) (octet_at os 16 58) (two_at os 17)
+
+clock : (os : List ℕ) → Dec (AreTwoAt os 1 × IsAt os 3 58 × AreTwoAt os 4 × (two os 1 ≤ 23) × (two os 4 ≤ 59))
+clock os = five (two_at os 1) (octet_at os 3 58) (two_at os 4) (dec_le (two os 1) 23) (dec_le (two os 4) 59)
+
+offset : (os : List ℕ) → Dec (IsOffsetToken os)
+offset os =
+    either (both (ℕ_discrete (length os) 1) (octet_at os 0 90))
+    (map_dec (λ p. (p.0, p.1, p.2.0, p.2.1, p.2.2, p.2.3, p.2.4)) (λ p. (p.0, p.1, (p.2, p.3, p.4, p.5, p.6)))
+    (three (ℕ_discrete (length os) 6) (either (octet_at os 0 43) (octet_at os 0 45)) (clock os)))
+
+is_year : (os : List ℕ) → Dec (IsYear os)
+is_year os = three (ℕ_discrete (length os) 5) (four_at os 0) (octet_at os 4 84)
+
+is_month : (os : List ℕ) → Dec (IsMonth os)
+is_month os = three (ℕ_discrete (length os) 8) (month_front os) (octet_at os 7 84)
+
+is_day : (os : List ℕ) → Dec (IsDay os)
+is_day os = both (day_front os) (either (ℕ_discrete (length os) 10) (both (ℕ_discrete (length os) 11) (octet_at os 10 84)))
+
+is_minute : (os : List ℕ) → Dec (BeginsWithMinute os × IsOffsetToken (drop 16 os))
+is_minute os = both (minute_front os) (offset (drop 16 os))
+
+is_second : (os : List ℕ) → Dec (BeginsWithSecond os × IsOffsetToken (drop 19 os))
+is_second os = both (second_front os) (offset (drop 19 os))
+
+abbrev FractionCut : List ℕ → List ℕ → Type 0
+FractionCut digits rest = IsPlain digits × IsOffsetToken rest
+
+is_fraction : (os : List ℕ) → Dec (BeginsWithSecond os × IsAt os 19 46 × Cut FractionCut (drop 20 os))
+is_fraction os = three (second_front os) (octet_at os 19 46) (some_cut FractionCut (λ digits rest. both (plain digits) (offset rest)) (drop 20 os))
+
+-- one of the six
+abbrev Form : List ℕ → Type 0
+Form os = IsYear os ⊎ (IsMonth os ⊎ (IsDay os ⊎ ((BeginsWithMinute os × IsOffsetToken (drop 16 os))
+    ⊎ ((BeginsWithSecond os × IsOffsetToken (drop 19 os)) ⊎ (BeginsWithSecond os × IsAt os 19 46 × Cut FractionCut (drop 20 os))))))
+
+form : (os : List ℕ) → Dec (Form os)
+form os = either (is_year os) (either (is_month os) (either (is_day os) (either (is_minute os) (either (is_second os) (is_fraction os)))))
+
+abbrev pub SomeTimestamp : List ℕ → Type 0
+SomeTimestamp os = (t : TimestampParts) × IsTimestampToken os t
+
+form_timestamp : (os : List ℕ) → Form os → SomeTimestamp os
+form_timestamp os (inl h) = (dated precisions.Year (four os 0) 1 1, year h)
+form_timestamp os (inr (inl h)) = (dated precisions.Month (four os 0) (two os 5) 1, month h)
+form_timestamp os (inr (inr (inl h))) = (dated precisions.Day (four os 0) (two os 5) (two os 8), day h)
+form_timestamp os (inr (inr (inr (inl h)))) = (timed os precisions.Minute 0 0 (drop 16 os), minute h.0 h.1)
+form_timestamp os (inr (inr (inr (inr (inl h))))) = (timed os precisions.Second (two os 17) 0 (drop 19 os), second h.0 h.1)
+form_timestamp os (inr (inr (inr (inr (inr h))))) =
+    let c = h.2 in (
+      timed os (precisions.Fraction (length c.front)) (two os 17) (number 10 c.front) c.rest,
+      fraction h.0 h.1 c.front c.rest (record { cut = c.octets; plain = c.is.0; offset = c.is.1 }),
+    )
+
+timestamp_form : (os : List ℕ) (t : TimestampParts) → IsTimestampToken os t → Form os
+timestamp_form os _ (year h) = inl h
+timestamp_form os _ (month h) = inr (inl h)
+timestamp_form os _ (day h) = inr (inr (inl h))
+timestamp_form os _ (minute h o) = inr (inr (inr (inl (h, o))))
+timestamp_form os _ (second h o) = inr (inr (inr (inr (inl (h, o)))))
+timestamp_form os _ (fraction h p digits rest e) = inr (inr (inr (inr (inr (h, p, record { front = digits; rest = rest; octets = e.cut; is = (e.plain, e.offset) })))))
+
+pub timestamp : (os : List ℕ) → Dec (SomeTimestamp os)
+timestamp os = map_dec (form_timestamp os) (λ h. timestamp_form os h.0 h.1) (form os)
+
+-- 2. The days and times that there are.
+
+date : (d : Date) → Dec (IsDate d)
+date d =
+    map_dec (λ p. record { year = p.0; month = p.1; day = p.2 }) (λ p. (p.year, p.month, p.day))
+    (three (both (dec_le 1 d.year) (dec_le d.year 9999)) (both (dec_le 1 d.month) (dec_le d.month 12)) (both (dec_le 1 d.day) (dec_le d.day (month_length d.year d.month))))
+
+time : (l : Local) → Dec (IsTime l)
+time l = three (dec_le l.hour 23) (dec_le l.minute 59) (dec_le l.second 59)
+
+no_seconds : (l : Local) → Dec ((l.second ≡ 0) × (l.fraction ≡ 0))
+no_seconds l = both (ℕ_discrete l.second 0) (ℕ_discrete l.fraction 0)
+
+no_time : (l : Local) → Dec ((l.hour ≡ 0) × (l.minute ≡ 0) × (l.second ≡ 0) × (l.fraction ≡ 0))
+no_time l = map_dec (λ p. (p.0, p.1, p.2.0, p.2.1)) (λ p. (p.0, p.1, (p.2, p.3))) (three (ℕ_discrete l.hour 0) (ℕ_discrete l.minute 0) (no_seconds l))
+
+cut_there : (p : Precision) (l : Local) → Dec (IsCut p l)
+cut_there precisions.Year l =
+    map_dec (λ p. (p.0, p.1, p.2.0, p.2.1, p.2.2, p.2.3)) (λ p. (p.0, p.1, (p.2, p.3, p.4, p.5))) (three (ℕ_discrete l.month 1) (ℕ_discrete l.day 1) (no_time l))
+cut_there precisions.Month l =
+    map_dec (λ p. (p.0, p.1.0, p.1.1, p.1.2, p.1.3)) (λ p. (p.0, (p.1, p.2, p.3, p.4))) (both (ℕ_discrete l.day 1) (no_time l))
+cut_there precisions.Day l = no_time l
+cut_there precisions.Minute l = no_seconds l
+cut_there precisions.Second l = ℕ_discrete l.fraction 0
+cut_there (precisions.Fraction digits) l = three (dec_le 1 digits) (dec_le digits 38) (dec_lt l.fraction (10 ^ digits))
+
+unknown : (o : Option ℤ) → Dec (o ≡ None)
+unknown None = yes refl
+unknown (Some z) = no (λ e. cc)
+
+near : (z : ℤ) → Dec (IsOffset z)
+near z = both (at_most (neg_ℤ (pos 1439)) z) (at_most z (pos 1439))
+
+offset_there : (p : Precision) (o : Option ℤ) → Dec (HasOffset p o)
+offset_there precisions.Year o = unknown o
+offset_there precisions.Month o = unknown o
+offset_there precisions.Day o = unknown o
+offset_there precisions.Minute None = yes tt
+offset_there precisions.Second None = yes tt
+offset_there (precisions.Fraction digits) None = yes tt
+offset_there precisions.Minute (Some z) = near z
+offset_there precisions.Second (Some z) = near z
+offset_there (precisions.Fraction digits) (Some z) = near z
+
+in_years : (z : ℤ) → Dec (InYears z)
+in_years z = both (at_most (pos (first_day * 1440)) z) (below z (pos ((last_day + 1) * 1440)))
+
+pub there : (t : TimestampParts) → Dec (IsTimestamp t)
+there t =
+    map_dec (λ p. record { date = p.0; time = p.1; cut = p.2; offset = p.3; years = p.4 }) (λ h. (h.date, h.time, h.cut, h.offset, h.years))
+    (five (date (local_date t.local)) (time t.local) (cut_there t.precision t.local) (offset_there t.precision t.offset) (in_years (utc_minute t)))
+
+pub short : (p : Precision) → Dec (IsShort p)
+short precisions.Year = yes tt
+short precisions.Month = yes tt
+short precisions.Day = yes tt
+short precisions.Minute = yes tt
+short precisions.Second = yes tt
+short (precisions.Fraction digits) = dec_le digits 38

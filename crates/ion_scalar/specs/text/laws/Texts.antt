@@ -1,0 +1,162 @@
+-- What is written as text spells the number.
+use Rattle.std.proofs.Common.{◌≡◌, ◌≢◌, ℕ, suc, ◌+◌, ◌-◌, ◌/◌, ◌%◌, ◌^◌, ◌<◌, ◌≤◌, inl, inr, List, [], ◌∷◌, ◌++◌, length, drop, set, get_or, Bool, true, false, ℤ, pos, negsuc, ◌-ℤ◌, to_z, of_z, refl, sym, ap, ◌∙◌, arith, length-append, append-nil, Ok}
+use lib.Signed.{mag}
+use Rattle.std.specs.Char.{digit_value}
+use Rattle.std.specs.Fmt.{decimal, signed_decimal}
+use Rattle.std.proofs.lemmas.Int.{ints}
+use Rattle.std.proofs.Math.Facts.{to_z-of_z}
+use Rattle.std.specs.Int.{w32, w128}
+use Rattle.std.proofs.lemmas.Bool.{cases_lt}
+use Rattle.std.proofs.lemmas.Fmt.{decimal_by_steps_wide, decimal_digit}
+use Rattle.std.proofs.lemmas.Str.{digit_value_digit}
+use Rattle.std.proofs.lemmas.List.{drop-set}
+use Rattle.ion_model.specs.Ranges.{IsWhole as IsKeptWhole}
+use Rattle.ion_model.specs.Decimals.{DecimalParts, IsDecimal}
+use Rattle.ion_scalar.specs.declared.number.Number.TheVariants as numbers
+use Rattle.ion_scalar.specs.binary.Fields.{positional}
+use Rattle.ion_scalar.specs.Positional.{positional_push}
+use Rattle.ion_scalar.specs.text.Ints.{IsDigits, digits_in, number, IsWhole, minus}
+use Rattle.ion_scalar.specs.text.Decimals.{signed, IsSigned, IsPower}
+use Rattle.ion_scalar.specs.text.Numbers.{IsNumber, ReadsNumber}
+use Rattle.ion_scalar.specs.text.Texts.{decimal_text, number_text}
+use Rattle.ion_scalar.specs.text.laws.DigitRuns.{digits_push, digits_in_push, digits_in_one}
+
+-- digits as they are written: plain, without a leading zero, and of that number
+pub record Spells (n : ℕ) (ds : List ℕ) : Type 0 where
+  pub digits : IsDigits 10 ds
+  pub plain : length (digits_in ds) ≡ length ds
+  pub value : number 10 ds ≡ n
+  pub some : 0 < length ds
+  pub first : 0 < n → get_or ds 0 0 ≢ 48
+
+pub digit_of : (d : ℕ) → d < 10 → digit_value (48 + d) ≡ d
+digit_of d h = omega (arith, digit_value_digit (48 + d) (omega arith, omega arith))
+
+one_digit : (n : ℕ) → n < 10 → Spells n ((48 + n) ∷ [])
+one_digit n h =
+    let v = digit_of n h in
+    let e : digits_in ((48 + n) ∷ []) ≡ n ∷ [] = digits_in_one 10 (48 + n) (omega arith) (omega arith) ∙ ap (λ x. x ∷ []) v in
+    record {
+      digits = omega arith;
+      plain = ap length e;
+      value = ap (positional 10) e ∙ omega arith;
+      some = omega arith;
+      first = λ p is. absurd (omega (arith, is));
+    }
+
+first_push : (ds : List ℕ) (c : ℕ) → 0 < length ds → get_or (ds ++ c ∷ []) 0 0 ≡ get_or ds 0 0
+first_push [] c h = absurd (omega arith)
+first_push (d ∷ ds) c h = refl
+
+one_more : (n : ℕ) (ds : List ℕ) → 10 ≤ n → Spells (n / 10) ds → Spells n (ds ++ ((48 + n % 10) ∷ []))
+one_more n ds h s =
+    let d = n % 10 in
+    let small : d < 10 = omega arith in
+    let v = digit_of d small in
+    let is : digit_value (48 + d) < 10 = omega arith in
+    let e : digits_in (ds ++ (48 + d) ∷ []) ≡ digits_in ds ++ d ∷ [] = digits_in_push 10 (48 + d) ds (omega arith) is ∙ ap (λ x. digits_in ds ++ x ∷ []) v in
+    record {
+      digits = digits_push 10 ds (48 + d) s.digits is;
+      plain = ap length e ∙ omega (arith, length-append (digits_in ds) (d ∷ []), length-append ds ((48 + d) ∷ []), s.plain);
+      value = ap (positional 10) e ∙ (positional_push 10 (digits_in ds) d ∙ omega (arith, s.value));
+      some = omega (arith, length-append ds ((48 + d) ∷ []));
+      first = λ p is0. s.first (omega arith) (sym (first_push ds (48 + d) s.some) ∙ is0);
+    }
+
+pub spells : (n : ℕ) → n < 10 ^ 64 → Spells n (decimal n)
+spells = decimal_by_steps_wide Spells one_digit one_more
+
+whole_text : (n : ℕ) → n < 10 ^ 64 → IsWhole (decimal n)
+whole_text n h =
+    let s = spells n h in
+    elim (cases_lt 0 n) [
+      | inl lt ↦ inr (s.digits, s.first lt)
+      | inr le ↦ inl (let e : n ≡ 0 = omega arith in rw e (decimal_digit 0 (omega arith)))
+    ]
+
+pub int_text : (z : ℤ) → IsKeptWhole z → IsNumber (signed_decimal z) (numbers.Int z)
+int_text (pos n) h = let s = spells n (omega arith) in record { negative = false; body = decimal n; octets = refl; is = (n, inl (whole_text n (omega arith), sym s.value), refl) }
+int_text (negsuc n) h = let s = spells (suc n) (omega arith) in record { negative = true; body = decimal (suc n); octets = refl; is = (suc n, inl (whole_text (suc n) (omega arith), sym s.value), refl) }
+
+plain_signed : (os : List ℕ) (n : ℕ) → Spells n os → IsSigned os false n
+plain_signed [] n s = absurd (omega (arith, s.some))
+plain_signed (c ∷ os) n s = inr (inr (refl, (s.digits, s.plain), sym s.value))
+
+-- a written exponent
+power_text : (e : ℤ) → IsKeptWhole e → (below : Bool) × (n : ℕ) × IsSigned (signed_decimal e) below n × (e ≡ signed below n)
+power_text (pos n) h = let s = spells n (omega arith) in (false, n, plain_signed (decimal n) n s, refl)
+power_text (negsuc n) h = let s = spells (suc n) (omega arith) in (true, suc n, inl (refl, refl, (s.digits, s.plain), sym s.value), refl)
+
+no_less : (z : ℤ) → z -ℤ pos 0 ≡ z
+no_less (pos n) = grind (arith, ints)
+no_less (negsuc n) = grind (arith, ints)
+
+pub decimal_is : (d : DecimalParts) → d.magnitude < 2 ^ 127 → IsKeptWhole d.exponent → IsNumber (decimal_text d) (numbers.Decimal d)
+decimal_is d m e =
+    let p = power_text d.exponent e in
+    let s = spells d.magnitude (omega arith) in
+    record {
+      negative = d.negative;
+      body = decimal d.magnitude ++ 100 ∷ signed_decimal d.exponent;
+      octets = refl;
+      is = (
+        refl,
+        record {
+          whole = decimal d.magnitude;
+          tail = 100 ∷ signed_decimal d.exponent;
+          fraction = [];
+          below = p.0;
+          written = p.1;
+          octets = refl;
+          is_whole = whole_text d.magnitude (omega arith);
+          is_tail = inr (refl, (inl refl, p.2));
+          digits = sym s.value ∙ ap (number 10) (sym (append-nil (decimal d.magnitude)));
+          power = p.3 ∙ sym (no_less (signed p.0 p.1));
+        },
+      );
+    }
+
+-- a decimal behind its letter
+pub letter_text : (r : ℕ) (octets text : List ℕ) → 0 < r → r ≤ length octets → drop r octets ≡ text → drop (r - 1) (set octets (r - 1) 100) ≡ 100 ∷ text
+letter_text r octets text some within e =
+    let same : r - 1 + 1 ≡ r = omega arith in
+    rw (drop-set octets (r - 1) 100 (omega arith), same) (ap (λ (x : List ℕ). 100 ∷ x) e)
+
+pub signed_end : (octets : List ℕ) (r : ℕ) (sign digits rest text : List ℕ) → drop r octets ≡ sign ++ (digits ++ rest) → rest ≡ [] → text ≡ sign ++ digits → drop r octets ≡ text
+signed_end octets r sign digits rest text e nothing t = e ∙ (ap (λ (x : List ℕ). sign ++ (digits ++ x)) nothing ∙ (ap (λ (x : List ℕ). sign ++ x) (append-nil digits) ∙ sym t))
+
+-- a number that is kept comes back from its bits as it was
+pub back_kept : (z : ℤ) → IsKeptWhole z → to_z w128 (of_z w128 z) ≡ z
+back_kept (pos n) h = to_z-of_z {w = w128} (record { sfits = h })
+back_kept (negsuc n) h = let small : n < 2 ^ 127 = omega arith in to_z-of_z {w = w128} (record { sfits = small })
+
+-- so does a number of 32 bits
+pub power_back : (z : ℤ) → mag z < 2 ^ 31 → to_z w32 (of_z w32 z) ≡ z
+power_back z h = to_z-of_z {w = w32} (record { sfits = h })
+
+pub power_kept : (z : ℤ) → mag z < 2 ^ 31 → IsKeptWhole z × IsPower z
+power_kept (pos n) h = (omega arith, grind (arith, ints))
+power_kept (negsuc n) h = (omega arith, grind (arith, ints))
+
+pub power_parts : (z y : ℤ) (sign digits : List ℕ) → mag z < 2 ^ 31 → y ≡ to_z w32 (of_z w32 z) → signed_decimal (to_z w128 (of_z w128 y)) ≡ sign ++ digits → signed_decimal z ≡ sign ++ digits
+power_parts z y sign digits h e t =
+    let same : y ≡ z = e ∙ power_back z h in
+    let wide = back_kept z (power_kept z h).0 in
+    rw (same, wide) at t
+
+-- the whole text of a decimal
+pub decimal_end : (negative : Bool) (m r s : ℕ) (one two text : List ℕ) → 0 < r → r ≤ length one → drop r one ≡ text
+    → drop s two ≡ minus negative ++ (decimal m ++ drop (r - 1) (set one (r - 1) 100)) → drop s two ≡ minus negative ++ (decimal m ++ 100 ∷ text)
+decimal_end negative m r s one two text some within e t = t ∙ ap (λ (x : List ℕ). minus negative ++ (decimal m ++ x)) (letter_text r one text some within e)
+
+-- the texts of an int and of a decimal that are kept are read as them
+pub int_reads : (z : ℤ) → IsKeptWhole z → ReadsNumber (number_text (numbers.Int z)) (Ok (numbers.Int z))
+int_reads z h = (int_text z h, h, tt)
+
+-- an exponent that is kept is an int that is kept
+power_is : (e : ℤ) → IsPower e → IsKeptWhole e
+power_is (pos n) h = omega (arith, ints, h.1)
+power_is (negsuc n) h = omega (arith, ints, h.0)
+
+pub decimal_reads : (d : DecimalParts) → IsDecimal d → ReadsNumber (number_text (numbers.Decimal d)) (Ok (numbers.Decimal d))
+decimal_reads d h = (decimal_is d h.0 (power_is d.exponent (h.1, h.2)), h, tt)

@@ -1,0 +1,232 @@
+-- What is written of a timestamp spells it.
+use Rattle.std.proofs.Common.{◌≡◌, ℕ, zero, suc, ◌+◌, ◌/◌, ◌%◌, ◌^◌, ◌<◌, ◌≤◌, inl, inr, List, [], ◌∷◌, ◌++◌, length, get_or, Bool, true, false, cond, ℤ, pos, negsuc, to_z, of_z, refl, sym, ap, subst, ◌∙◌, arith, length-append, append_assoc, Option, Some, None, IfSome, Ok}
+use lib.Signed.{lt_z}
+use lib.IntN.{nat_abs}
+use Rattle.std.specs.Int.{w16}
+use Rattle.std.specs.Char.{digit_value}
+use Rattle.std.proofs.Math.Facts.{to_z-of_z}
+use Rattle.std.proofs.Math.Nat.{pow-suc}
+use Rattle.std.proofs.lemmas.Nat.{div_below}
+use Rattle.std.proofs.lemmas.Int.{ints}
+use Rattle.std.proofs.lemmas.Bool.{false≢true, ne_eqb}
+use Rattle.ion_model.specs.Calendar.{month_length, is_leap}
+use Rattle.ion_model.specs.Timestamps.{TimestampParts, IsTimestamp, IsCut, IsOffset, HasOffset}
+use Rattle.ion_model.specs.declared.timestamp.Local.{Local}
+use Rattle.ion_model.specs.declared.timestamp.Precision.{Precision}
+use Rattle.ion_model.specs.declared.timestamp.Precision.TheVariants as precisions
+use Rattle.ion_scalar.specs.binary.Fields.{positional}
+use Rattle.ion_scalar.specs.Positional.{positional_push}
+use Rattle.ion_scalar.specs.text.Ints.{IsDigits, digits_in, number}
+use Rattle.ion_scalar.specs.text.Timestamps.{IsAt, AreTwoAt, two, AreFourAt, four, BeginsWithMonth, BeginsWithDay, BeginsWithMinute, BeginsWithSecond, minute_read, dated, timed, IsOffsetToken, offset_read, offset_minutes, IsTimestampToken, year, month, day, minute, second, fraction}
+use Rattle.ion_scalar.specs.text.Texts.{two_digits, four_digits, padded, month_text, day_text, minute_text, second_text, clock_text, offset_text, cut_text, timestamp_text, number_text}
+use Rattle.ion_scalar.specs.declared.number.Number.TheVariants as numbers
+use Rattle.ion_scalar.specs.text.Numbers.{ReadsNumber}
+use Rattle.ion_scalar.specs.text.laws.TimestampForms.{there_short}
+use Rattle.ion_scalar.specs.text.laws.DigitRuns.{digits_push, digits_in_push, digits_in_one}
+use Rattle.ion_scalar.specs.text.laws.Texts.{digit_of}
+
+pub padded_step : (w n : ℕ) (tail more text : List ℕ) → padded (suc w) n ++ tail ≡ text → more ≡ (48 + n % 10) ∷ tail → padded w (n / 10) ++ more ≡ text
+padded_step w n tail more text e m = ap (λ (x : List ℕ). padded w (n / 10) ++ x) m ∙ (sym (append_assoc (padded w (n / 10)) ((48 + n % 10) ∷ []) tail) ∙ e)
+
+ahead_text : (z : ℤ) (n : ℕ) → lt_z (pos 0) z ≡ true → n ≡ nat_abs z → 43 ∷ clock_text n ≡ offset_text (Some z)
+ahead_text (pos zero) n h e = absurd (false≢true h)
+ahead_text (pos (suc k)) n h e = ap (λ (x : ℕ). 43 ∷ clock_text x) e
+ahead_text (negsuc k) n h e = absurd (false≢true h)
+
+back_offset : (z : ℤ) → IsOffset z → to_z w16 (of_z w16 z) ≡ z
+back_offset (pos n) h = let small : n < 2 ^ 15 = grind (arith, ints) in to_z-of_z {w = w16} (record { sfits = small })
+back_offset (negsuc n) h = let small : n < 2 ^ 15 = grind (arith, ints) in to_z-of_z {w = w16} (record { sfits = small })
+
+pub offset_ahead : (z : ℤ) (o : Option ℤ) (n : ℕ) (text : List ℕ) → IfSome o IsOffset → o ≡ Some z → lt_z (pos 0) (to_z w16 (of_z w16 z)) ≡ true → n ≡ nat_abs (to_z w16 (of_z w16 z)) → text ≡ 43 ∷ clock_text n → text ≡ offset_text o
+offset_ahead z o n text near e h k t =
+    let P : Option ℤ → Type 0 = λ x. IfSome x IsOffset in
+    let back = back_offset z (subst P e near) in
+    t ∙ (ahead_text z n (rw back at h) (rw back at k) ∙ ap offset_text (sym e))
+
+-- fields of two and of four digits
+two_at : (os : List ℕ) (at n : ℕ) → n < 100 → at + 1 < length os → get_or os at 0 ≡ 48 + n / 10 → get_or os (at + 1) 0 ≡ 48 + n % 10 → AreTwoAt os at × (two os at ≡ n)
+two_at os at n h within a b = (((omega arith, omega arith, omega arith), (omega arith, omega arith, omega arith)), omega arith)
+
+four_at : (os : List ℕ) (n : ℕ) → n < 10000 → 3 < length os → get_or os 0 0 ≡ 48 + n / 100 / 10 → get_or os 1 0 ≡ 48 + n / 100 % 10 → get_or os 2 0 ≡ 48 + n % 100 / 10 → get_or os 3 0 ≡ 48 + n % 100 % 10 → AreFourAt os 0 × (four os 0 ≡ n)
+four_at os n h within a b c d =
+    let front = two_at os 0 (n / 100) (omega arith) (omega arith) a b in
+    let back = two_at os 2 (n % 100) (omega arith) (omega arith) c d in
+    ((front.0, back.0), omega (arith, front.1, back.1))
+
+if_le : (b : Bool) (x y k : ℕ) → x ≤ k → y ≤ k → cond b x y ≤ k
+if_le true x y k p q = p
+if_le false x y k p q = q
+
+month_short : (y m : ℕ) → month_length y m ≤ 31
+month_short y m = if_le _ _ _ 31 (if_le (is_leap y) 29 28 31 (omega arith) (omega arith)) (if_le _ 30 31 31 (omega arith) (omega arith))
+
+pub small_fields : (t : TimestampParts) → IsTimestamp t → (t.local.year < 10000) × (t.local.month < 100) × (t.local.day < 100) × (t.local.hour < 100) × (t.local.minute < 100) × (t.local.second < 100)
+small_fields t h =
+    let short = month_short t.local.year t.local.month in
+    (omega (arith, h.date.year.1), omega (arith, h.date.month.1), omega (arith, h.date.day.1), omega (arith, h.time.0), omega (arith, h.time.1), omega (arith, h.time.2))
+
+pub near_offset : (p : Precision) (o : Option ℤ) → HasOffset p o → IfSome o IsOffset
+near_offset p None h = tt
+near_offset precisions.Year (Some z) h = cc
+near_offset precisions.Month (Some z) h = cc
+near_offset precisions.Day (Some z) h = cc
+near_offset precisions.Minute (Some z) h = h
+near_offset precisions.Second (Some z) h = h
+near_offset (precisions.Fraction d) (Some z) h = h
+
+clock_is : (c n : ℕ) → n ≤ 1439 → let os = c ∷ clock_text n in AreTwoAt os 1 × IsAt os 3 58 × AreTwoAt os 4 × (two os 1 ≤ 23) × (two os 4 ≤ 59) × (offset_minutes os ≡ n)
+clock_is c n h =
+    let os = c ∷ clock_text n in
+    let hours = two_at os 1 (n / 60) (omega arith) (omega arith) refl refl in
+    let minutes = two_at os 4 (n % 60) (omega arith) (omega arith) refl refl in
+    (hours.0, (omega arith, refl), minutes.0, omega (arith, hours.1), omega (arith, minutes.1), omega (arith, hours.1, minutes.1))
+
+behind_read : (os : List ℕ) (n : ℕ) → get_or os 0 0 ≡ 45 → offset_minutes os ≡ suc n → offset_read os ≡ Some (negsuc n)
+behind_read os n sign e = rw (sign, e) (rw (ne_eqb (suc n) 0 (λ is. absurd (omega arith))) refl)
+
+pub offset_is : (o : Option ℤ) → IfSome o IsOffset → IsOffsetToken (offset_text o) × (offset_read (offset_text o) ≡ o)
+offset_is None h = let k = clock_is 45 0 (omega arith) in (inr (refl, inr (omega arith, refl), k.0, k.1, k.2, k.3, k.4), refl)
+offset_is (Some (pos zero)) h = (inl (refl, (omega arith, refl)), refl)
+offset_is (Some (pos (suc n))) h =
+    let small : suc n ≤ 1439 = grind (arith, ints) in
+    let k = clock_is 43 (suc n) small in
+    (inr (refl, inl (omega arith, refl), k.0, k.1, k.2, k.3, k.4), ap (λ (x : ℕ). Some (pos x)) k.5)
+offset_is (Some (negsuc n)) h =
+    let small : suc n ≤ 1439 = grind (arith, ints) in
+    let k = clock_is 45 (suc n) small in
+    (inr (refl, inr (omega arith, refl), k.0, k.1, k.2, k.3, k.4), behind_read (45 ∷ clock_text (suc n)) n refl k.5)
+
+-- so many digits of a number below ten to their number
+record Pads (width n : ℕ) (ds : List ℕ) : Type 0 where
+  pub digits : IsDigits 10 ds
+  pub plain : length (digits_in ds) ≡ length ds
+  pub value : number 10 ds ≡ n
+  pub size : length ds ≡ width
+
+pads : (w n : ℕ) → n < 10 ^ suc w → Pads (suc w) n (padded (suc w) n)
+pads zero n h =
+    let v = digit_of (n % 10) (omega arith) in
+    let e : digits_in ((48 + n % 10) ∷ []) ≡ n % 10 ∷ [] = digits_in_one 10 (48 + n % 10) (omega arith) (omega (arith, v)) ∙ ap (λ x. x ∷ []) v in
+    record {
+      digits = omega (arith, v);
+      plain = ap length e;
+      value = ap (positional 10) e ∙ omega arith;
+      size = refl;
+    }
+pads (suc w) n h =
+    let s = pads w (n / 10) (div_below n 10 (10 ^ suc w) (omega arith) (rw (← pow-suc 10 (suc w)) h)) in
+    let ds = padded (suc w) (n / 10) in
+    let v = digit_of (n % 10) (omega arith) in
+    let is : digit_value (48 + n % 10) < 10 = omega (arith, v) in
+    let e : digits_in (ds ++ (48 + n % 10) ∷ []) ≡ digits_in ds ++ n % 10 ∷ [] = digits_in_push 10 (48 + n % 10) ds (omega arith) is ∙ ap (λ x. digits_in ds ++ x ∷ []) v in
+    record {
+      digits = digits_push 10 ds (48 + n % 10) s.digits is;
+      plain = ap length e ∙ omega (arith, length-append (digits_in ds) (n % 10 ∷ []), length-append ds ((48 + n % 10) ∷ []), s.plain);
+      value = ap (positional 10) e ∙ (positional_push 10 (digits_in ds) (n % 10) ∙ omega (arith, s.value));
+      size = omega (arith, length-append ds ((48 + n % 10) ∷ []), s.size);
+    }
+
+pub year_end : (y : ℕ) (text end old : List ℕ) → text ≡ four_digits y ++ end → end ≡ 84 ∷ old → old ≡ [] → text ≡ four_digits y ++ (84 ∷ [])
+year_end y text end old e f g = e ∙ ap (λ (x : List ℕ). four_digits y ++ x) (f ∙ ap (λ (x : List ℕ). 84 ∷ x) g)
+
+pub month_end : (l : Local) (text end old : List ℕ) → text ≡ month_text l ++ end → end ≡ 84 ∷ old → old ≡ [] → text ≡ month_text l ++ (84 ∷ [])
+month_end l text end old e f g = e ∙ ap (λ (x : List ℕ). month_text l ++ x) (f ∙ ap (λ (x : List ℕ). 84 ∷ x) g)
+
+pub day_end : (l : Local) (text end : List ℕ) → text ≡ day_text l ++ end → end ≡ [] → text ≡ day_text l
+day_end l text end e g = e ∙ ap (λ (x : List ℕ). day_text l ++ x) g
+
+abbrev Small : Local → Type 0
+Small l = (l.year < 10000) × (l.month < 100) × (l.day < 100) × (l.hour < 100) × (l.minute < 100) × (l.second < 100)
+
+month_front : (l : Local) (rest : List ℕ) → Small l → BeginsWithMonth (month_text l ++ rest) × (four (month_text l ++ rest) 0 ≡ l.year) × (two (month_text l ++ rest) 5 ≡ l.month)
+month_front l rest s =
+    let os = month_text l ++ rest in
+    let y = four_at os l.year s.0 (omega arith) refl refl refl refl in
+    let m = two_at os 5 l.month s.1 (omega arith) refl refl in
+    ((y.0, (omega arith, refl), m.0), y.1, m.1)
+
+day_front : (l : Local) (rest : List ℕ) → Small l → BeginsWithDay (day_text l ++ rest) × (two (day_text l ++ rest) 8 ≡ l.day)
+day_front l rest s =
+    let os = day_text l ++ rest in
+    let m = month_front l (45 ∷ two_digits l.day ++ rest) s in
+    let d = two_at os 8 l.day s.2 (omega arith) refl refl in
+    ((m.0, (omega arith, refl), d.0), d.1)
+
+minute_front : (l : Local) (rest : List ℕ) → Small l → BeginsWithMinute (minute_text l ++ rest) × (two (minute_text l ++ rest) 11 ≡ l.hour) × (two (minute_text l ++ rest) 14 ≡ l.minute)
+minute_front l rest s =
+    let os = minute_text l ++ rest in
+    let d = day_front l (84 ∷ two_digits l.hour ++ (58 ∷ two_digits l.minute ++ rest)) s in
+    let hours = two_at os 11 l.hour s.3 (omega arith) refl refl in
+    let minutes = two_at os 14 l.minute s.4 (omega arith) refl refl in
+    ((d.0, (omega arith, refl), hours.0, (omega arith, refl), minutes.0), hours.1, minutes.1)
+
+second_front : (l : Local) (rest : List ℕ) → Small l → BeginsWithSecond (second_text l ++ rest) × (two (second_text l ++ rest) 17 ≡ l.second)
+second_front l rest s =
+    let os = second_text l ++ rest in
+    let m = minute_front l (58 ∷ two_digits l.second ++ rest) s in
+    let seconds = two_at os 17 l.second s.5 (omega arith) refl refl in
+    ((m.0, (omega arith, refl), seconds.0), seconds.1)
+
+-- the local fields as they are read back
+read_back : (l : Local) (rest : List ℕ) → Small l → minute_read (minute_text l ++ rest) ≡ record l { second = 0; fraction = 0 }
+read_back l rest s =
+    let month = month_front l (45 ∷ two_digits l.day ++ (84 ∷ two_digits l.hour ++ (58 ∷ two_digits l.minute ++ rest))) s in
+    let day = day_front l (84 ∷ two_digits l.hour ++ (58 ∷ two_digits l.minute ++ rest)) s in
+    let minute = minute_front l rest s in
+    λ i. record { year = month.1 i; month = month.2 i; day = day.1 i; hour = minute.1 i; minute = minute.2 i; second = 0; fraction = 0 }
+
+cut_again : (l : Local) (p : Precision) (o : Option ℤ) → Small l → IsCut p l → HasOffset p o → IsTimestampToken (cut_text p l o) (record { local = l; precision = p; offset = o })
+cut_again l precisions.Year o s c h =
+    let os = four_digits l.year ++ (84 ∷ []) in
+    let y = four_at os l.year s.0 (omega arith) refl refl refl refl in
+    let e : Path TimestampParts (dated precisions.Year (four os 0) 1 1) (record { local = l; precision = precisions.Year; offset = o }) =
+    λ i. record { local = record { year = y.1 i; month = sym (c.0) i; day = sym (c.1) i; hour = sym (c.2) i; minute = sym (c.3) i; second = sym (c.4) i; fraction = sym (c.5) i }; precision = precisions.Year; offset = sym h i } in
+    subst (IsTimestampToken os) e (year (refl, y.0, (omega arith, refl)))
+cut_again l precisions.Month o s c h =
+    let os = month_text l ++ (84 ∷ []) in
+    let m = month_front l (84 ∷ []) s in
+    let e : Path TimestampParts (dated precisions.Month (four os 0) (two os 5) 1) (record { local = l; precision = precisions.Month; offset = o }) =
+    λ i. record { local = record { year = m.1 i; month = m.2 i; day = sym (c.0) i; hour = sym (c.1) i; minute = sym (c.2) i; second = sym (c.3) i; fraction = sym (c.4) i }; precision = precisions.Month; offset = sym h i } in
+    subst (IsTimestampToken os) e (month (refl, m.0, (omega arith, refl)))
+cut_again l precisions.Day o s c h =
+    let os = day_text l in
+    let m = month_front l (45 ∷ two_digits l.day) s in
+    let d = day_front l [] s in
+    let e : Path TimestampParts (dated precisions.Day (four os 0) (two os 5) (two os 8)) (record { local = l; precision = precisions.Day; offset = o }) =
+    λ i. record { local = record { year = m.1 i; month = m.2 i; day = d.1 i; hour = sym (c.0) i; minute = sym (c.1) i; second = sym (c.2) i; fraction = sym (c.3) i }; precision = precisions.Day; offset = sym h i } in
+    subst (IsTimestampToken os) e (day (d.0, inl refl))
+cut_again l precisions.Minute o s c h =
+    let os = minute_text l ++ offset_text o in
+    let m = minute_front l (offset_text o) s in
+    let b = read_back l (offset_text o) s in
+    let k = offset_is o (near_offset precisions.Minute o h) in
+    let e : Path TimestampParts (timed os precisions.Minute 0 0 (offset_text o)) (record { local = l; precision = precisions.Minute; offset = o }) =
+    λ i. record { local = record (b i) { second = sym (c.0) i; fraction = sym (c.1) i }; precision = precisions.Minute; offset = k.1 i } in
+    subst (IsTimestampToken os) e (minute m.0 k.0)
+cut_again l precisions.Second o s c h =
+    let os = second_text l ++ offset_text o in
+    let m = second_front l (offset_text o) s in
+    let b = read_back l (58 ∷ two_digits l.second ++ offset_text o) s in
+    let k = offset_is o (near_offset precisions.Second o h) in
+    let e : Path TimestampParts (timed os precisions.Second (two os 17) 0 (offset_text o)) (record { local = l; precision = precisions.Second; offset = o }) =
+    λ i. record { local = record (b i) { second = m.1 i; fraction = sym c i }; precision = precisions.Second; offset = k.1 i } in
+    subst (IsTimestampToken os) e (second m.0 k.0)
+cut_again l (precisions.Fraction zero) o s c h = absurd (omega (arith, c.0))
+cut_again l (precisions.Fraction (suc d)) o s c h =
+    let digits = padded (suc d) l.fraction in
+    let rest = offset_text o in
+    let os = second_text l ++ (46 ∷ (digits ++ rest)) in
+    let m = second_front l (46 ∷ (digits ++ rest)) s in
+    let b = read_back l (58 ∷ two_digits l.second ++ (46 ∷ (digits ++ rest))) s in
+    let k = offset_is o (near_offset (precisions.Fraction (suc d)) o h) in
+    let q = pads d l.fraction (c.2) in
+    let e : Path TimestampParts (timed os (precisions.Fraction (length digits)) (two os 17) (number 10 digits) rest) (record { local = l; precision = precisions.Fraction (suc d); offset = o }) =
+    λ i. record { local = record (b i) { second = m.1 i; fraction = q.value i }; precision = precisions.Fraction (q.size i); offset = k.1 i } in
+    subst (IsTimestampToken os) e (fraction m.0 (omega arith, refl) digits rest (record { cut = refl; plain = (q.digits, q.plain); offset = k.0 }))
+
+pub timestamp_again : (t : TimestampParts) → IsTimestamp t → IsTimestampToken (timestamp_text t) t
+timestamp_again t h = cut_again t.local t.precision t.offset (small_fields t h) h.cut h.offset
+
+-- the text of a timestamp is read as it
+pub timestamp_reads : (t : TimestampParts) → IsTimestamp t → ReadsNumber (number_text (numbers.Timestamp t)) (Ok (numbers.Timestamp t))
+timestamp_reads t h = (timestamp_again t h, there_short t h, h)

@@ -1,0 +1,9 @@
+-- What follows from the definitions of tables, contexts and devices.
+pub mod Told
+pub mod Heard
+pub mod Took
+pub mod Causes
+pub mod Promises
+pub mod Tables
+pub mod Contexts
+pub mod ContextTexts

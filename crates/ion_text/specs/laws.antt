@@ -1,0 +1,4 @@
+-- What follows for text documents.
+pub mod reading
+pub mod showing
+pub mod writing

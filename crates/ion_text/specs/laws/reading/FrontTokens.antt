@@ -1,0 +1,69 @@
+-- Tokens at the front of octets where a container is open: as values, and as names of fields.
+use Rattle.std.specs.Prelude.{◌≡◌, ℕ, ◌==◌, ◌&&◌, ◌||◌, Bool, false, not, nat_lt, List, Option, Some, None, Ok}
+use Rattle.ion_model.specs.declared.value.Payload.{Payload}
+use Rattle.ion_model.specs.declared.value.Payload.TheVariants as payloads
+use Rattle.ion_tokens.specs.declared.beside.FoundToken.{FoundToken}
+use Rattle.ion_tokens.specs.declared.mode.Place.{Place}
+use Rattle.ion_tokens.specs.declared.whole.Rest.{Rest}
+use Rattle.ion_tokens.specs.Bodies.{Content, Word, Quoted, Short, TypedNull, Operator, Clob, Blob}
+use Rattle.ion_tokens.specs.machine.Rests.{IsFound}
+use Rattle.ion_tokens.specs.machine.Said.{said}
+use Rattle.ion_text.specs.Grammar.{is_keyword}
+use Rattle.ion_text.specs.machine.EachToken.{held_word, held_payload}
+use Rattle.ion_text.specs.declared.state.Held.{Held}
+use Rattle.ion_text.specs.declared.state.Held.TheVariants as helds
+
+-- the octet shows that no `::` follows a symbol: it is no blank, and begins no colon and no comment
+abbrev pub ends_symbol : ℕ → Bool
+ends_symbol o = nat_lt 32 o && not ((o == 58) || (o == 47))
+
+-- what may be an annotation
+abbrev pub held_of : Content → Option Held
+held_of (Word w) = Some (held_word w)
+held_of (Quoted w) = Some (helds.Symbol (Some w))
+held_of (TypedNull k) = Some (helds.Null k)
+held_of _ = None
+
+-- what is a value at once
+abbrev pub value_of : Content → Option Payload
+value_of (Short w) = Some (payloads.Str w)
+value_of (Operator w) = Some (payloads.Symbol (Some w))
+value_of (Clob w) = Some (payloads.Clob w)
+value_of (Blob w) = Some (payloads.Blob w)
+value_of _ = None
+
+-- what is held is this value, unless `::` follows
+abbrev pub Pays : Option Held → Payload → Type 0
+Pays None payload = ⊥
+Pays (Some held) payload = held_payload held ≡ Ok payload
+
+-- what is said is this name of a field; a keyword is none unless it is quoted
+abbrev pub Names : Content → Option (List ℕ) → Type 0
+Names (Word w) name = (name ≡ Some w) × (is_keyword w ≡ false)
+Names (Quoted w) name = name ≡ Some w
+Names (Short w) name = name ≡ Some w
+Names _ name = ⊥
+
+-- octets begin with this token, which is this value unless `::` follows
+pub record BeginsSymbol (p : Place) (r : Rest) (octets : List ℕ) (token : FoundToken) (payload : Payload) : Type 0 where
+  pub kept : List ℕ
+  pub content : Content
+  pub found : IsFound p r octets token.kind kept token.count token.left
+  pub says : said token.kind kept ≡ Ok content
+  pub pays : Pays (held_of content) payload
+
+-- octets begin with this token, which is this value
+pub record BeginsValue (p : Place) (r : Rest) (octets : List ℕ) (token : FoundToken) (payload : Payload) : Type 0 where
+  pub kept : List ℕ
+  pub content : Content
+  pub found : IsFound p r octets token.kind kept token.count token.left
+  pub says : said token.kind kept ≡ Ok content
+  pub is : value_of content ≡ Some payload
+
+-- octets begin with this token, which is this name of a field
+pub record BeginsName (p : Place) (r : Rest) (octets : List ℕ) (token : FoundToken) (name : Option (List ℕ)) : Type 0 where
+  pub kept : List ℕ
+  pub content : Content
+  pub found : IsFound p r octets token.kind kept token.count token.left
+  pub says : said token.kind kept ≡ Ok content
+  pub names : Names content name

@@ -1,0 +1,471 @@
+-- Why octets are refused: for their own sake.
+use Rattle.std.proofs.Common.{◌≡◌, ℕ, zero, suc, ◌+◌, nat_le, nat_lt, List, [], ◌∷◌, length, Bool, true, false, cond, ◌&&◌, not, Result, Ok, Err, Option, Some, None, refl, ap, sym, subst, if◌then◌else◌, ◌⊎◌, inl, inr}
+use Rattle.std.specs.Prelude.{◌==◌}
+use Rattle.ion_model.specs.declared.value.Value.{Value}
+use Rattle.ion_model.specs.declared.value.Payload.{Payload}
+use Rattle.ion_model.specs.declared.kind.Kind.{Kind}
+use Rattle.ion_model.specs.declared.refusal.Reason.{Reason}
+use Rattle.ion_model.specs.declared.refusal.Reason.TheVariants as reasons
+use Rattle.ion_model.specs.declared.refusal.Refusal.{Refusal}
+use Rattle.ion_model.specs.Reasons.{reason_number}
+use Rattle.ion_model.specs.Kinds.{is_table}
+use Rattle.ion_scalar.specs.text.Numbers.{ReadsNumber}
+use Rattle.ion_symtab.specs.declared.limits.Limits.{Limits}
+use Rattle.ion_symtab.specs.declared.catalog.Catalog.{Catalog}
+use Rattle.ion_symtab.specs.Slots.{Slot, resolve}
+use Rattle.ion_symtab.specs.Next.{next}
+use Rattle.ion_symtab.specs.Decided.{IsDecided, Decides, resolve_decides, next_decides}
+use Rattle.ion_tokens.specs.declared.mode.Mark.TheVariants as marks
+use Rattle.ion_tokens.specs.declared.mode.Mode.{Mode}
+use Rattle.ion_tokens.specs.declared.mode.Mode.TheVariants as modes
+use Rattle.ion_tokens.specs.declared.mode.Place.{Place}
+use Rattle.ion_tokens.specs.declared.mode.Keep.{Keep}
+use Rattle.ion_tokens.specs.declared.mode.Keep.TheVariants as keeps
+use Rattle.ion_tokens.specs.declared.mode.End.TheVariants as ends'
+use Rattle.ion_tokens.specs.declared.mode.TokenKind.{TokenKind}
+use Rattle.ion_tokens.specs.declared.mode.TokenKind.TheVariants as kinds
+use Rattle.ion_tokens.specs.machine.Table.{end_of}
+use Rattle.ion_tokens.specs.Places.{is_sexp}
+use Rattle.ion_tokens.specs.machine.Bounds.{is_idle}
+use Rattle.ion_tokens.specs.Bodies.{Content, Word, Id, Quoted, Short, Long, Number', TypedNull, Operator, Clob, Blob, Mark', IsBody, IsWordBody, id_of, kind_named, null_of}
+use Rattle.ion_tokens.specs.machine.Said.{said, says}
+use Rattle.ion_tokens.specs.machine.Scanning.{Known, Lexeme, Outcome, Next, Given, Left, Refused, feed, follow, at_end, ends_at}
+use Rattle.ion_tokens.proofs.Fits.{is_octet_reason}
+use Rattle.ion_tokens.proofs.Causes.{IsFair, run_fair}
+use Rattle.ion_text.specs.declared.state.Held.{Held}
+use Rattle.ion_text.specs.declared.state.Held.TheVariants as helds
+use Rattle.ion_text.specs.declared.state.Now.{Now}
+use Rattle.ion_text.specs.declared.state.Now.TheVariants as nows
+use Rattle.ion_text.specs.declared.state.Frame.{Frame}
+use Rattle.ion_text.specs.declared.state.Frame.TheVariants as frames
+use Rattle.ion_text.specs.Grammar.{is_keyword}
+use Rattle.ion_text.specs.machine.EachToken.{Reading, Turn, goes, gives, refuses, late, Token, Symbols, at, fresh, place, settle, turn, turn_now, ended, within, turned, held_symbol, held_payload, released, begun_at, on_ready, on_after, on_name, on_pending, on_long, on_long_name, on_keyed, on_comma, struct_closed, list_closed, sexp_closed, bare_close, deeper, paid, noted, resolved, keyed, named}
+use Rattle.ion_text.specs.machine.Run.{State, Effect, uses, tells, leaves, fails, begun, eats, takes, unsettled, noticed, shut, reaches, lesser, or_worse, on_scan, on_settled, on_said, behind_given, behind_left, with_scan, token_of, Run, run, run_on, once_more, trace, ends_of, refused_of, cut_short, end_late, end_settled, end_turned, end_said, end_waiting, end_ready, end_now, is_fresh}
+
+abbrev pub TurnDecides : Turn → Type 0
+TurnDecides (goes r) = Unit {0}
+TurnDecides (gives v r) = Unit {0}
+TurnDecides (refuses e) = IsDecided e
+TurnDecides (late e r) = IsDecided e
+
+within_decides : (item start end : ℕ) (t : Turn) → TurnDecides t → TurnDecides (within item start end t)
+within_decides item start end t h = go (nat_le end (start + item))
+  where
+    go : (b : Bool) → TurnDecides (if b then t else refuses reasons.ItemTooLong)
+    go true = h
+    go false = tt
+
+top_decides : (item start end : ℕ) (c : List Slot) (v : Value) (d : Result (List Slot) Reason) (b : Bool) → Decides d → TurnDecides (if b then turned item start end d else within item start end (gives v (fresh c)))
+top_decides item start end c v (Ok d) true h = within_decides item start end (goes (fresh d)) tt
+top_decides item start end c v (Err e) true h = h
+top_decides item start end c v d false h = within_decides item start end (gives v (fresh c)) tt
+
+ended_decides : (g : Catalog) (item end start : ℕ) (c : List Slot) (fs : List Frame) (v : Value) → TurnDecides (ended g item end start c fs v)
+ended_decides g item end start c [] v = top_decides item start end c v (next c v g) (is_table v) (next_decides c v g)
+ended_decides g item end start c (frames.List ss vs ∷ fs) v = tt
+ended_decides g item end start c (frames.Sexp ss vs ∷ fs) v = tt
+ended_decides g item end start c (frames.Named ss ms s ∷ fs) v = tt
+ended_decides g item end start c (frames.Fields ss ms ∷ fs) v = tt
+
+payload_decides : (h : Held) → Decides (held_payload h)
+payload_decides (helds.Symbol s) = tt
+payload_decides (helds.Version b s) = tt
+payload_decides (helds.Null k) = tt
+payload_decides (helds.Truth b) = tt
+payload_decides helds.Nan = tt
+
+symbol_decides : (h : Held) → Decides (held_symbol h)
+symbol_decides (helds.Symbol s) = tt
+symbol_decides (helds.Version b s) = tt
+symbol_decides (helds.Null k) = tt
+symbol_decides (helds.Truth b) = tt
+symbol_decides helds.Nan = tt
+
+paid_decides : (g : Catalog) (item end start : ℕ) (c : List Slot) (fs : List Frame) (ss : Symbols) (q : Result Payload Reason) → Decides q → TurnDecides (paid g item end start c fs ss q)
+paid_decides g item end start c fs ss (Ok q) h = ended_decides g item end start c fs _
+paid_decides g item end start c fs ss (Err e) h = h
+
+released_decides : (g : Catalog) (item end start : ℕ) (c : List Slot) (fs : List Frame) (ss : Symbols) (h : Held) → TurnDecides (released g item end start c fs ss h)
+released_decides g item end start c [] [] (helds.Version true s) = within_decides item start end _ tt
+released_decides g item end start c [] [] (helds.Version false s) = tt
+released_decides g item end start c [] [] (helds.Symbol s) = paid_decides g item end start c [] [] (held_payload (helds.Symbol s)) tt
+released_decides g item end start c [] [] (helds.Null k) = paid_decides g item end start c [] [] (held_payload (helds.Null k)) tt
+released_decides g item end start c [] [] (helds.Truth b) = paid_decides g item end start c [] [] (held_payload (helds.Truth b)) tt
+released_decides g item end start c [] [] helds.Nan = tt
+released_decides g item end start c [] (s ∷ ss) h = paid_decides g item end start c [] (s ∷ ss) (held_payload h) (payload_decides h)
+released_decides g item end start c (f ∷ fs) ss h = paid_decides g item end start c (f ∷ fs) ss (held_payload h) (payload_decides h)
+
+resolved_decides : (r : Result (Option (List ℕ)) Reason) (f : Option (List ℕ) → Turn) → Decides r → ((s : Option (List ℕ)) → TurnDecides (f s)) → TurnDecides (resolved r f)
+resolved_decides (Ok s) f h k = k s
+resolved_decides (Err e) f h k = h
+
+deeper_decides : (depth : ℕ) (fs : List Frame) (t deep : Turn) → TurnDecides t → TurnDecides deep → TurnDecides (deeper depth fs t deep)
+deeper_decides depth fs t deep h k = go (nat_lt (length fs) depth)
+  where
+    go : (b : Bool) → TurnDecides (if b then t else deep)
+    go true = h
+    go false = k
+
+list_decides : (g : Catalog) (item end start : ℕ) (c : List Slot) (fs : List Frame) → TurnDecides (list_closed g item end start c fs)
+list_decides g item end start c (frames.List ss vs ∷ fs) = ended_decides g item end start c fs _
+list_decides g item end start c (frames.Sexp ss vs ∷ fs) = tt
+list_decides g item end start c (frames.Fields ss vs ∷ fs) = tt
+list_decides g item end start c (frames.Named ss vs s ∷ fs) = tt
+list_decides g item end start c [] = tt
+
+sexp_decides : (g : Catalog) (item end start : ℕ) (c : List Slot) (fs : List Frame) → TurnDecides (sexp_closed g item end start c fs)
+sexp_decides g item end start c (frames.Sexp ss vs ∷ fs) = ended_decides g item end start c fs _
+sexp_decides g item end start c (frames.List ss vs ∷ fs) = tt
+sexp_decides g item end start c (frames.Fields ss vs ∷ fs) = tt
+sexp_decides g item end start c (frames.Named ss vs s ∷ fs) = tt
+sexp_decides g item end start c [] = tt
+
+struct_decides : (g : Catalog) (item end start : ℕ) (c : List Slot) (fs : List Frame) → TurnDecides (struct_closed g item end start c fs)
+struct_decides g item end start c (frames.Fields ss vs ∷ fs) = ended_decides g item end start c fs _
+struct_decides g item end start c (frames.List ss vs ∷ fs) = tt
+struct_decides g item end start c (frames.Sexp ss vs ∷ fs) = tt
+struct_decides g item end start c (frames.Named ss vs s ∷ fs) = tt
+struct_decides g item end start c [] = tt
+
+bare_decides : (ss : Symbols) (t : Turn) → TurnDecides t → TurnDecides (bare_close ss t)
+bare_decides [] t h = h
+bare_decides (s ∷ ss) t h = tt
+
+module _ (g : Catalog) (l : Limits) where
+  ready_decides : (end start : ℕ) (c : List Slot) (fs : List Frame) (ss : Symbols) (x : Content) → TurnDecides (on_ready g l.depth l.item end start c fs ss x)
+  ready_decides end start c fs ss (Word w) = tt
+  ready_decides end start c fs ss (Id id) = resolved_decides (resolve c id) _ (resolve_decides c id) (λ s. tt)
+  ready_decides end start c fs ss (Quoted w) = tt
+  ready_decides end start c fs ss (TypedNull k) = tt
+  ready_decides end start c fs ss (Long w) = tt
+  ready_decides end start c fs ss (Short w) = ended_decides g l.item end start c fs _
+  ready_decides end start c fs ss (Number' n) = ended_decides g l.item end start c fs _
+  ready_decides end start c fs ss (Operator w) = ended_decides g l.item end start c fs _
+  ready_decides end start c fs ss (Clob w) = ended_decides g l.item end start c fs _
+  ready_decides end start c fs ss (Blob w) = ended_decides g l.item end start c fs _
+  ready_decides end start c fs ss (Mark' marks.ListOpen) = deeper_decides l.depth fs _ _ tt tt
+  ready_decides end start c fs ss (Mark' marks.SexpOpen) = deeper_decides l.depth fs _ _ tt tt
+  ready_decides end start c fs ss (Mark' marks.FieldsOpen) = deeper_decides l.depth fs _ _ tt tt
+  ready_decides end start c fs ss (Mark' marks.ListClose) = bare_decides ss _ (list_decides g l.item end start c fs)
+  ready_decides end start c fs ss (Mark' marks.SexpClose) = bare_decides ss _ (sexp_decides g l.item end start c fs)
+  ready_decides end start c fs ss (Mark' marks.FieldsClose) = tt
+  ready_decides end start c fs ss (Mark' marks.Comma) = tt
+  ready_decides end start c fs ss (Mark' marks.Colon) = tt
+  ready_decides end start c fs ss (Mark' marks.Colons) = tt
+
+  noted_decides : (start : ℕ) (c : List Slot) (fs : List Frame) (ss : Symbols) (r : Result (Option (List ℕ)) Reason) → Decides r → TurnDecides (noted start c fs ss r)
+  noted_decides start c fs ss (Ok s) h = tt
+  noted_decides start c fs ss (Err e) h = h
+
+  pending_decides : (start : ℕ) (c : List Slot) (fs : List Frame) (ss : Symbols) (h : Held) (x : Content) → TurnDecides (on_pending start c fs ss h x)
+  pending_decides start c fs ss h (Mark' marks.Colons) = noted_decides start c fs ss (held_symbol h) (symbol_decides h)
+  pending_decides start c fs ss h _ = tt
+
+  long_decides : (end start : ℕ) (c : List Slot) (fs : List Frame) (ss : Symbols) (v : List ℕ) (x : Content) → TurnDecides (on_long end start c fs ss v x)
+  long_decides end start c fs ss v (Long w) = tt
+  long_decides end start c fs ss v _ = tt
+
+  comma_decides : (start : ℕ) (c : List Slot) (fs : List Frame) → TurnDecides (on_comma start c fs)
+  comma_decides start c (frames.List ss vs ∷ fs) = tt
+  comma_decides start c (frames.Fields ss ms ∷ fs) = tt
+  comma_decides start c (frames.Sexp ss vs ∷ fs) = tt
+  comma_decides start c (frames.Named ss ms s ∷ fs) = tt
+  comma_decides start c [] = tt
+
+  after_decides : (end start : ℕ) (c : List Slot) (fs : List Frame) (x : Content) → TurnDecides (on_after g l.item end start c fs x)
+  after_decides end start c fs (Mark' marks.Comma) = comma_decides start c fs
+  after_decides end start c fs (Mark' marks.ListClose) = list_decides g l.item end start c fs
+  after_decides end start c fs (Mark' marks.FieldsClose) = struct_decides g l.item end start c fs
+  after_decides end start c fs _ = tt
+
+  name_decides : (end start : ℕ) (c : List Slot) (fs : List Frame) (x : Content) → TurnDecides (on_name g l.item end start c fs x)
+  name_decides end start c fs (Word w) = go (is_keyword w)
+    where
+      go : (b : Bool) → TurnDecides (if b then late reasons.KeywordAsName (keyed start c fs (Some w)) else goes (keyed start c fs (Some w)))
+      go true = tt
+      go false = tt
+  name_decides end start c fs (TypedNull k) = tt
+  name_decides end start c fs (Id id) = resolved_decides (resolve c id) _ (resolve_decides c id) (λ s. tt)
+  name_decides end start c fs (Quoted w) = tt
+  name_decides end start c fs (Short w) = tt
+  name_decides end start c fs (Long w) = tt
+  name_decides end start c fs (Mark' marks.FieldsClose) = struct_decides g l.item end start c fs
+  name_decides end start c fs _ = tt
+
+  long_name_decides : (start : ℕ) (c : List Slot) (fs : List Frame) (v : List ℕ) (x : Content) → TurnDecides (on_long_name start c fs v x)
+  long_name_decides start c fs v (Long w) = tt
+  long_name_decides start c fs v _ = tt
+
+  named_decides : (start : ℕ) (c : List Slot) (fs : List Frame) (s : Option (List ℕ)) → TurnDecides (named start c fs s)
+  named_decides start c (frames.Fields ss ms ∷ fs) s = tt
+  named_decides start c (frames.List ss vs ∷ fs) s = tt
+  named_decides start c (frames.Sexp ss vs ∷ fs) s = tt
+  named_decides start c (frames.Named ss ms x ∷ fs) s = tt
+  named_decides start c [] s = tt
+
+  keyed_decides : (start : ℕ) (c : List Slot) (fs : List Frame) (s : Option (List ℕ)) (x : Content) → TurnDecides (on_keyed start c fs s x)
+  keyed_decides start c fs s (Mark' marks.Colon) = named_decides start c fs s
+  keyed_decides start c fs s _ = tt
+
+  now_decides : (begin end start : ℕ) (c : List Slot) (fs : List Frame) (ss : Symbols) (x : Content) (now : Now) → TurnDecides (turn_now g l begin end start c fs ss x now)
+  now_decides begin end start c fs ss x nows.Ready = ready_decides end (begun_at start begin fs ss) c fs ss x
+  now_decides begin end start c fs ss x (nows.Pending h e) = pending_decides start c fs ss h x
+  now_decides begin end start c fs ss x (nows.Long w e) = long_decides end start c fs ss w x
+  now_decides begin end start c fs ss x nows.After = after_decides end start c fs x
+  now_decides begin end start c fs ss x nows.Name = name_decides end start c fs x
+  now_decides begin end start c fs ss x (nows.LongName w) = long_name_decides start c fs w x
+  now_decides begin end start c fs ss x (nows.Keyed s) = keyed_decides start c fs s x
+
+  turn_decides : (r : Reading) (t : Token) → TurnDecides (turn g l r t)
+  turn_decides r t = now_decides t.start t.end r.start r.context r.frames r.notes t.said r.now
+
+  settle_decides : (r : Reading) → TurnDecides (settle g l r)
+  settle_decides r = go r.now
+    where
+      go : (n : Now) → TurnDecides (settle g l (at r.start r.context r.frames r.notes n))
+      go (nows.Pending h e) = released_decides g l.item e r.start r.context r.frames r.notes h
+      go (nows.Long w e) = ended_decides g l.item e r.start r.context r.frames _
+      go (nows.LongName w) = tt
+      go nows.Ready = tt
+      go nows.After = tt
+      go nows.Name = tt
+      go (nows.Keyed s) = tt
+
+  -- what a scanner refuses for, and what a token that says nothing is refused for
+
+  octet_decided : (e : Reason) → is_octet_reason e ≡ true → IsDecided e
+  octet_decided reasons.Memory h = absurd cc
+  octet_decided reasons.Incomplete h = absurd cc
+  octet_decided reasons.DuplicateTable h = absurd cc
+  octet_decided reasons.BadTable h = absurd cc
+  octet_decided _ h = tt
+
+  fair_decided : (n : ℕ) (e : Reason) → IsFair (Refused n e) → is_octet_reason e ≡ true
+  unfolding IsFair
+  fair_decided n e h = h
+
+  feed_decided : (p : Place) (s : Known) (o n : ℕ) (e : Reason) → feed p s o ≡ Refused n e → IsDecided e
+  feed_decided p s o n e h = octet_decided e (fair_decided n e (subst IsFair (ap (λ y. follow y (λ t. Next t)) h) (run_fair p (o ∷ []) s)))
+
+  number_decided : (octets : List ℕ) (e : Reason) → ReadsNumber octets (Err e) → IsDecided e
+  number_decided octets reasons.Memory h = absurd h
+  number_decided octets reasons.Incomplete h = absurd h
+  number_decided octets reasons.DuplicateTable h = absurd h
+  number_decided octets reasons.BadTable h = absurd h
+  number_decided octets _ h = tt
+
+  word_decided : (octets : List ℕ) (id : Option ℕ) (e : Reason) → IsWordBody octets id (Err e) → IsDecided e
+  word_decided octets None e h = subst IsDecided (sym h.0) tt
+  word_decided octets (Some id) e h = absurd cc
+
+  null_decided : (kind : Option Kind) (e : Reason) → Err e ≡ null_of kind → IsDecided e
+  null_decided None e h = let k : reasons.Malformed ≡ e = cc in subst IsDecided k tt
+  null_decided (Some kind) e h = absurd cc
+
+  body_decided : (k : TokenKind) (octets : List ℕ) (e : Reason) → IsBody k octets (Err e) → IsDecided e
+  body_decided kinds.Word octets e h = word_decided octets (id_of octets) e h
+  body_decided kinds.KindName octets e h = null_decided (kind_named octets) e h
+  body_decided kinds.Number octets e h = number_decided octets e h
+  body_decided kinds.Operator octets e h = subst IsDecided (sym h.0) tt
+  body_decided kinds.QuotedSymbol octets e h = subst IsDecided (sym h.0) tt
+  body_decided kinds.ShortString octets e h = subst IsDecided (sym h.0) tt
+  body_decided kinds.LongString octets e h = subst IsDecided (sym h.0) tt
+  body_decided kinds.Clob octets e h = absurd cc
+  body_decided kinds.Blob octets e h = absurd cc
+  body_decided (kinds.Mark m) octets e h = absurd cc
+
+  said_decided : (k : TokenKind) (octets : List ℕ) (e : Reason) → said k octets ≡ Err e → IsDecided e
+  said_decided k octets e h = body_decided k octets e (subst (IsBody k octets) h (says k octets))
+
+  -- of effects
+  abbrev EffectDecides : Effect → Type 0
+  EffectDecides (fails e) = IsDecided e
+  EffectDecides _ = Unit {0}
+
+  noticed_decides : (r : Reading) (s : Known) → EffectDecides (noticed l r s)
+  noticed_decides r s = go (shut r.now && not (is_idle s.mode)) (nat_le (reaches r.frames r s) l.item)
+    where
+      go : (a b : Bool) → EffectDecides (if a then fails reasons.Unexpected else (if b then uses (record { scan = s; reading = r }) else fails reasons.ItemTooLong))
+      go true b = tt
+      go false true = tt
+      go false false = tt
+
+  lesser_decides : (e f : Reason) → IsDecided e → IsDecided f → IsDecided (lesser e f)
+  lesser_decides e f h k = go (nat_lt (reason_number f) (reason_number e))
+    where
+      go : (b : Bool) → IsDecided (if b then f else e)
+      go true = k
+      go false = h
+
+  worse_decides : (e : Reason) (x : Effect) → IsDecided e → EffectDecides x → EffectDecides (or_worse e x)
+  worse_decides e (fails f) h k = lesser_decides e f h k
+  worse_decides e (uses m) h k = h
+  worse_decides e (tells v m) h k = h
+  worse_decides e (leaves v m) h k = h
+
+  given_decides : (s : Known) (t : Turn) → TurnDecides t → EffectDecides (behind_given l s t)
+  given_decides s (goes r) h = noticed_decides r s
+  given_decides s (gives v r) h = tt
+  given_decides s (refuses e) h = h
+  given_decides s (late e r) h = worse_decides e (noticed l r s) h (noticed_decides r s)
+
+  left_decides : (again : State → Effect) (s : Known) (t : Turn) → ((m : State) → EffectDecides (again m)) → TurnDecides t → EffectDecides (behind_left again s t)
+  left_decides again s (goes r) f h = f (with_scan s r)
+  left_decides again s (gives v r) f h = tt
+  left_decides again s (refuses e) f h = h
+  left_decides again s (late e r) f h = worse_decides e (again (with_scan s r)) h (f (with_scan s r))
+
+  on_said_decides : (c : Result Content Reason) (f : Content → Effect) → ((e : Reason) → c ≡ Err e → IsDecided e) → ((c : Content) → EffectDecides (f c)) → EffectDecides (on_said c f)
+  on_said_decides (Ok c) f h k = k c
+  on_said_decides (Err e) f h k = h e refl
+
+  scan_decides : (again : State → Effect) (p : Place) (s : Known) (o : ℕ) (r : Reading) (x : Outcome) → feed p s o ≡ x → ((m : State) → EffectDecides (again m)) → EffectDecides (on_scan g l again r x)
+  scan_decides again p s o r (Next t) e f = noticed_decides r t
+  scan_decides again p s o r (Given x t) e f = on_said_decides (said x.kind x.octets) _ (said_decided x.kind x.octets) (λ c. given_decides t (turn g l r (token_of x c)) (turn_decides r (token_of x c)))
+  scan_decides again p s o r (Left x t) e f = on_said_decides (said x.kind x.octets) _ (said_decided x.kind x.octets) (λ c. left_decides again t (turn g l r (token_of x c)) f (turn_decides r (token_of x c)))
+  scan_decides again p s o r (Refused n y) e f = feed_decided p s o n y e
+
+  settled_decides : (again : State → Effect) (p : Place) (s : Known) (o : ℕ) (t : Turn) → TurnDecides t → ((m : State) → EffectDecides (again m)) → EffectDecides (on_settled g l again s (feed p s o) t)
+  settled_decides again p s o (goes r) h f = scan_decides again p s o r (feed p s o) refl f
+  settled_decides again p s o (gives v r) h f = tt
+  settled_decides again p s o (refuses e) h f = h
+  settled_decides again p s o (late e r) h f = worse_decides e (on_scan g l again r (feed p s o)) h (scan_decides again p s o r (feed p s o) refl f)
+
+  takes_decides : (n : ℕ) (m : State) (o : ℕ) → EffectDecides (takes g l n m o)
+  takes_decides zero m o = tt
+  takes_decides (suc n) m o = go (unsettled m.scan m.reading (feed (place m.reading) m.scan o)) (λ k. takes_decides n k o)
+    where
+      go : (b : Bool) → ((k : State) → EffectDecides (takes g l n k o))
+          → EffectDecides (if b then on_scan g l (λ k. takes g l n k o) m.reading (feed (place m.reading) m.scan o) else on_settled g l (λ k. takes g l n k o) m.scan (feed (place m.reading) m.scan o) (settle g l m.reading))
+      go true f = scan_decides (λ k. takes g l n k o) (place m.reading) m.scan o m.reading (feed (place m.reading) m.scan o) refl f
+      go false f = settled_decides (λ k. takes g l n k o) (place m.reading) m.scan o (settle g l m.reading) (settle_decides m.reading) f
+
+  -- of runs
+  abbrev NowDecides : Result State Refusal → Type 0
+  NowDecides (Ok m) = Unit {0}
+  NowDecides (Err r) = IsDecided r.reason
+
+  more_decides : (to : ℕ) (rest : State → Run) (x : Effect) → EffectDecides x → ((n : State) → NowDecides (rest n).now) → NowDecides (once_more to rest x).now
+  more_decides to rest (uses m) h f = f m
+  more_decides to rest (tells v m) h f = f m
+  more_decides to rest (leaves v m) h f = tt
+  more_decides to rest (fails e) h f = h
+
+  octet_decides : (to o : ℕ) (rest : State → Run) (x : Effect) → EffectDecides x → ((n : State) → NowDecides (rest n).now) → NowDecides (run_on to (λ n. eats g l n o) rest x).now
+  octet_decides to o rest (uses m) h f = f m
+  octet_decides to o rest (tells v m) h f = f m
+  octet_decides to o rest (leaves v m) h f = more_decides to rest (eats g l m o) (takes_decides 3 m o) f
+  octet_decides to o rest (fails e) h f = h
+
+  run_decides : (os : List ℕ) (to : ℕ) (m : State) → NowDecides (run g l to m os).now
+  run_decides [] to m = tt
+  run_decides (o ∷ os) to m = octet_decides to o (λ n. run g l (to + 1) n os) (eats g l m o) (takes_decides 3 m o) (λ n. run_decides os (to + 1) n)
+
+  step_decided : (now : Result State Refusal) (r : Refusal) → NowDecides now → refused_of now ≡ Some r → IsDecided r.reason
+  step_decided (Ok m) r h e = absurd cc
+  step_decided (Err q) r h e = let k : q ≡ r = cc in subst (λ (x : Refusal). IsDecided x.reason) k h
+
+  -- A step refuses for no want of memory or of more octets, and for no reason for which a catalog is refused.
+  pub step_reason : (u : List ℕ) (r : Refusal) → (trace g l u).refused ≡ Some r → IsDecided r.reason
+  step_reason u r h = step_decided (run g l 0 begun u).now r (run_decides u 0 begun) h
+
+  -- The end refuses for such a reason, or for want of more octets.
+  abbrev pub IsEndReason : Reason → Type 0
+  IsEndReason e = IsDecided e ⊎ (e ≡ reasons.Incomplete)
+
+  abbrev EndDecides : Result (Option Value) Refusal → Type 0
+  EndDecides (Ok v) = Unit {0}
+  EndDecides (Err r) = IsEndReason r.reason
+
+  late_ends : (used : ℕ) (e : Reason) → IsDecided e → EndDecides (end_late used e)
+  late_ends used reasons.Depth h = inr refl
+  late_ends used _ h = inl h
+
+  fresh_ends : (used : ℕ) (b : Bool) → EndDecides (if b then Ok None else cut_short used)
+  fresh_ends used true = tt
+  fresh_ends used false = inr refl
+
+  settled_ends : (used : ℕ) (t : Turn) → TurnDecides t → EndDecides (end_settled used t)
+  settled_ends used (goes r) h = fresh_ends used (is_fresh r)
+  settled_ends used (gives v r) h = tt
+  settled_ends used (refuses e) h = inl h
+  settled_ends used (late e r) h = late_ends used e h
+
+  turned_ends : (used : ℕ) (t : Turn) → TurnDecides t → EndDecides (end_turned g l used t)
+  turned_ends used (goes r) h = settled_ends used (settle g l r) (settle_decides r)
+  turned_ends used (gives v r) h = tt
+  turned_ends used (refuses e) h = inl h
+  turned_ends used (late e r) h = late_ends used e h
+
+  said_ends : (used : ℕ) (r : Reading) (x : Lexeme) (c : Result Content Reason) → ((e : Reason) → c ≡ Err e → IsDecided e) → EndDecides (end_said g l used r x c)
+  said_ends used r x (Ok c) h = turned_ends used (turn g l r (token_of x c)) (turn_decides r (token_of x c))
+  said_ends used r x (Err e) h = inl (h e refl)
+
+  -- what the scanner's end refuses for
+  EndsWell : Result (Option Lexeme) Reason → Type 0
+  EndsWell (Ok x) = Unit {0}
+  EndsWell (Err e) = IsEndReason e
+
+  operator_well : (s : Known) (b : Bool) (k : Keep) → EndsWell (ends_at s (cond b (ends'.Token kinds.Operator k) (ends'.Refuse reasons.Incomplete)))
+  unfolding EndsWell
+  operator_well s true k = tt
+  operator_well s false k = inr refl
+
+  float_well : (s : Known) (b : Bool) → EndsWell (ends_at s (ends'.Refuse (if b then reasons.Float else reasons.Incomplete)))
+  unfolding EndsWell
+  float_well s true = inl tt
+  float_well s false = inr refl
+
+  mode_well : (p : Place) (s : Known) (m : Mode) → EndsWell (ends_at s (end_of p m))
+  unfolding EndsWell
+  mode_well p s modes.Blank = tt
+  mode_well p s modes.LineComment = tt
+  mode_well p s modes.Slash = operator_well s (is_sexp p) (keeps.One 47)
+  mode_well p s modes.OperatorSlash = operator_well s (is_sexp p) (keeps.One 47)
+  mode_well p s (modes.Operator e) = operator_well s (is_sexp p) keeps.Nothing
+  mode_well p s modes.Colon = tt
+  mode_well p s modes.Word = tt
+  mode_well p s modes.KindName = tt
+  mode_well p s modes.Number = tt
+  mode_well p s modes.NumberSlash = tt
+  mode_well p s modes.Quotes = tt
+  mode_well p s modes.Brace = tt
+  mode_well p s (modes.Infinity n) = float_well s (n == 3)
+  mode_well p s modes.BlockComment = inr refl
+  mode_well p s modes.BlockCommentStar = inr refl
+  mode_well p s modes.Quote = inr refl
+  mode_well p s (modes.Text t w) = inr refl
+  mode_well p s (modes.Lob k) = inr refl
+
+  waiting_ends : (used : ℕ) (x : Result (Option Lexeme) Reason) (t : Turn) → TurnDecides t → EndDecides (end_waiting g l used x t)
+  waiting_ends used (Ok None) t h = settled_ends used t h
+  waiting_ends used (Ok (Some x)) (goes r) h = inr refl
+  waiting_ends used (Ok (Some x)) (gives v r) h = inr refl
+  waiting_ends used (Ok (Some x)) (refuses e) h = inl h
+  waiting_ends used (Ok (Some x)) (late e r) h = late_ends used e h
+  waiting_ends used (Err y) (goes r) h = inr refl
+  waiting_ends used (Err y) (gives v r) h = inr refl
+  waiting_ends used (Err y) (refuses e) h = inl h
+  waiting_ends used (Err y) (late e r) h = late_ends used e h
+
+  ready_ends : (used : ℕ) (r : Reading) (x : Result (Option Lexeme) Reason) → EndsWell x → EndDecides (end_ready g l used r x)
+  unfolding EndsWell
+  ready_ends used r (Ok None) h = fresh_ends used (is_fresh r)
+  ready_ends used r (Ok (Some x)) h = said_ends used r x (said x.kind x.octets) (said_decided x.kind x.octets)
+  ready_ends used r (Err e) h = h
+
+  ends_decide : (used : ℕ) (r : Reading) (x : Result (Option Lexeme) Reason) (n : Now) → EndsWell x → EndDecides (end_now g l used r x n)
+  ends_decide used r x (nows.Pending h e) w = waiting_ends used x (settle g l r) (settle_decides r)
+  ends_decide used r x (nows.Long v e) w = waiting_ends used x (settle g l r) (settle_decides r)
+  ends_decide used r x (nows.LongName v) w = inr refl
+  ends_decide used r x nows.Ready w = ready_ends used r x w
+  ends_decide used r x nows.After w = ready_ends used r x w
+  ends_decide used r x nows.Name w = ready_ends used r x w
+  ends_decide used r x (nows.Keyed s) w = ready_ends used r x w
+
+  of_now : (now : Result State Refusal) → NowDecides now → EndDecides (ends_of g l now)
+  of_now (Ok m) h = ends_decide m.scan.used m.reading (at_end (place m.reading) m.scan) m.reading.now (mode_well (place m.reading) m.scan m.scan.mode)
+  of_now (Err r) h = inl h
+
+  pub end_reason : (u : List ℕ) (r : Refusal) → (trace g l u).ends ≡ Err r → IsEndReason r.reason
+  end_reason u r e = subst EndDecides e (of_now (run g l 0 begun u).now (run_decides u 0 begun))

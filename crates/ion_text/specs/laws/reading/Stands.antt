@@ -1,0 +1,68 @@
+-- What is known of a reader that stands for octets, also where it awaits the octet that showed the end of the last value.
+use Rattle.std.proofs.Common.{◌≡◌, ℕ, ◌+◌, List, [], ◌∷◌, ◌++◌, length, true, Option, Some, None, refl, ap, sym, ◌∙◌, arith, append_assoc}
+use Rattle.std.specs.Option.{is_some}
+use Rattle.std.specs.Prelude.{IsNone, IfSome}
+use Rattle.ion_model.specs.declared.value.Value.{Value}
+use Rattle.ion_symtab.specs.declared.limits.Limits.{Limits}
+use Rattle.ion_symtab.specs.declared.catalog.Catalog.{Catalog}
+use Rattle.ion_symtab.specs.Trace.{IsFront}
+use Rattle.ion_tokens.specs.machine.Views.{failure}
+use Rattle.ion_text.specs.declared.reader.TextReader.{TextReader}
+use Rattle.ion_text.specs.machine.Run.{State, Run, run, run_on, eats, begun, trace, trace_of}
+use Rattle.ion_text.specs.machine.Pieces.{then_run, run-append}
+use Rattle.ion_text.specs.machine.Views.{state_of}
+use Rattle.ion_text.specs.machine.Progress.{Ran, Stands, failed, or_first, BeginsWith, resumed, octets_used}
+
+-- the values in front of what a run gives
+abbrev pub behind : List (Value × ℕ) → Run → Run
+behind s r = record { given = s ++ r.given; now = r.now }
+
+module _ (g : Catalog) (l : Limits) where
+  -- octets that follow u go on from what is held
+  pub further : (to : ℕ) (u w : List ℕ) (s : List (Value × ℕ)) (m : State) (awaited : Option ℕ) → to ≡ length u → Ran g l u s m awaited → BeginsWith awaited w → run g l 0 begun (u ++ w) ≡ behind s (resumed g l (is_some awaited) to m w)
+  further to u w s m None e ran begins = run-append g l 0 to u w (omega arith) begun ∙ ap (λ r. then_run r (λ n. run g l to n w)) ran
+  further to u w s m (Some o) e ran begins =
+      let rest = begins.0 in
+      let onward = resumed g l true to m (o ∷ rest) in
+      let values : ran.given ++ (ran.value, to) ∷ onward.given ≡ s ++ onward.given =
+      sym (append_assoc ran.given ((ran.value, to) ∷ []) onward.given) ∙ ap (λ vs. vs ++ onward.given) (ap (λ k. ran.given ++ (ran.value, k) ∷ []) e ∙ sym ran.all) in
+      ap (λ x. run g l 0 begun (u ++ x)) begins.1
+      ∙ (run-append g l 0 to u (o ∷ rest) (omega arith) begun
+      ∙ (ap (λ r. then_run r (λ n. run g l to n (o ∷ rest))) ran.ran
+      ∙ (ap (λ x. behind ran.given (run_on to (λ n. eats g l n o) (λ n. run g l (to + 1) n rest) x)) ran.left
+      ∙ (ap (λ vs. record { given = vs; now = onward.now }) values
+      ∙ ap (λ x. behind s (resumed g l true to m x)) (sym begins.1)))))
+
+none_is : {X : Type 0} (o : Option X) → IsNone o → o ≡ None
+none_is None h = refl
+none_is (Some x) h = absurd cc
+
+-- It refused nothing.
+pub not_failed : (r : TextReader) (u : List ℕ) (s : List (Value × ℕ)) → Stands r u s → failed r ≡ None
+not_failed r u s h = ap (λ o. or_first o (failure r.scanner)) h.fine ∙ none_is (failure r.scanner) h.scanner_fine
+
+module _ (g : Catalog) (l : Limits) (u : List ℕ) (s : List (Value × ℕ)) (m : State) where
+  ran_unrefused : (awaited : Option ℕ) → Ran g l u s m awaited → (trace g l u).refused ≡ None
+  ran_unrefused None h = ap (λ (x : Run). (trace_of g l x).refused) h
+  ran_unrefused (Some o) h = ap (λ (x : Run). (trace_of g l x).refused) h.ran
+
+  ran_given : (awaited : Option ℕ) → IsNone awaited → Ran g l u s m awaited → (trace g l u).given ≡ s
+  ran_given None none h = ap (λ (x : Run). (trace_of g l x).given) h
+  ran_given (Some o) none h = absurd cc
+
+  ran_front : (to : ℕ) (awaited : Option ℕ) → to ≡ length u → Ran g l u s m awaited → IfSome awaited (λ octet. IsFront s (trace g l (u ++ octet ∷ [])).given)
+  ran_front to None e h = tt
+  ran_front to (Some o) e h =
+      ((resumed g l true to m (o ∷ [])).given, ap (λ (x : Run). (trace_of g l x).given) (further g l to u (o ∷ []) s m (Some o) e h ([], refl)))
+
+-- No octet was refused.
+pub not_refused : (r : TextReader) (u : List ℕ) (s : List (Value × ℕ)) → Stands r u s → (trace r.catalog.now r.limits u).refused ≡ None
+not_refused r u s h = ran_unrefused r.catalog.now r.limits u s (state_of r) r.awaited h.ran
+
+-- Unless it awaits an octet, it gave all values.
+pub given_so_far : (r : TextReader) (u : List ℕ) (s : List (Value × ℕ)) → Stands r u s → IsNone r.awaited → (trace r.catalog.now r.limits u).given ≡ s
+given_so_far r u s h none = ran_given r.catalog.now r.limits u s (state_of r) r.awaited none h.ran
+
+-- The values that it gave are the first of those that come once the octet that it awaits is there.
+pub given_with_next : (r : TextReader) (u : List ℕ) (s : List (Value × ℕ)) → Stands r u s → IfSome r.awaited (λ octet. IsFront s (trace r.catalog.now r.limits (u ++ octet ∷ [])).given)
+given_with_next r u s h = ran_front r.catalog.now r.limits u s (state_of r) (octets_used r) r.awaited h.counted h.ran

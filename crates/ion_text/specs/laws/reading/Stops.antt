@@ -1,0 +1,213 @@
+-- Where a run is refused, and what the refusal says.
+use Rattle.std.proofs.Common.{◌≡◌, ℕ, ◌+◌, ◌≤◌, List, [], ◌∷◌, ◌++◌, length, take, Bool, true, false, Result, Ok, Err, Option, Some, None, refl, ap, sym, ◌∙◌, subst, arith, append_assoc, append-nil, length-append, if◌then◌else◌}
+use Rattle.std.proofs.Math.Seq.{take-append-add}
+use Rattle.ion_model.specs.declared.value.Value.{Value}
+use Rattle.ion_model.specs.declared.refusal.Reason.{Reason}
+use Rattle.ion_model.specs.declared.refusal.Reason.TheVariants as reasons
+use Rattle.ion_model.specs.declared.refusal.Refusal.{Refusal}
+use Rattle.ion_model.specs.Kinds.{is_table}
+use Rattle.ion_symtab.specs.declared.limits.Limits.{Limits}
+use Rattle.ion_symtab.specs.declared.catalog.Catalog.{Catalog}
+use Rattle.ion_symtab.specs.Trace.{plain}
+use Rattle.ion_symtab.specs.Promises.{BeginsNone, NoTables, GivesNoTable}
+use Rattle.ion_tokens.specs.Bodies.{Content}
+use Rattle.ion_tokens.specs.machine.Scanning.{Lexeme, at_end}
+use Rattle.ion_tokens.proofs.Runs.{next_used}
+use Rattle.ion_tokens.specs.machine.Said.{said}
+use Rattle.ion_text.specs.declared.state.Now.{Now}
+use Rattle.ion_text.specs.declared.state.Now.TheVariants as nows
+use Rattle.ion_text.specs.Grammar.{Document}
+use Rattle.ion_text.specs.machine.EachToken.{Reading, Turn, goes, gives, refuses, late, place, settle, turn}
+use Rattle.ion_text.specs.machine.Run.{State, Effect, uses, tells, leaves, fails, begun, eats, Run, run, run_on, once_more, trace, ends_of, refused_of, cut_short, end_late, end_settled, end_turned, end_said, end_waiting, end_ready, end_now, is_fresh, token_of}
+use Rattle.ion_text.specs.machine.Pieces.{run-append, on_now}
+use Rattle.ion_text.specs.laws.reading.Steps.{Stood, Ran, run_ran, begun_stood}
+use Rattle.ion_text.specs.laws.reading.Admits.{stood_accepted}
+use Rattle.ion_text.specs.laws.reading.Accepts.{accepts}
+use Rattle.ion_text.specs.laws.reading.ValuesKept.{pieces_values}
+use Rattle.ion_tokens.proofs.Ended.{stands_used}
+
+end_offset : Result (Option Value) Refusal → ℕ → ℕ
+end_offset (Err r) d = r.offset
+end_offset (Ok v) d = d
+
+module _ (g : Catalog) (l : Limits) where
+  pub stood_used : (u : List ℕ) (vs : List Value) (m : State) → Stood g l u vs m → m.scan.used ≡ length u
+  stood_used u vs m b =
+      let k = stands_used b.scanned.behind b.scanned.front (b.front ++ b.item) b.scanned.left b.scanned.told in
+      omega (arith, k, next_used (place m.reading) b.scanned.since b.scanned.behind m.scan (sym b.scanned.ran), ap length b.scanned.cut, length-append b.scanned.front b.scanned.since)
+
+  -- Refused octets: those before one go on, and with it they are refused.
+  pub record Stop (u : List ℕ) (r : Refusal) : Type 0 where
+    pub before : List ℕ
+    pub o : ℕ
+    pub rest : List ℕ
+    pub n : State
+    pub parts : u ≡ before ++ o ∷ rest
+    pub ran : (run g l 0 begun before).now ≡ Ok n
+    pub stopped : (run g l 0 begun (before ++ o ∷ [])).now ≡ Err r
+    pub same : run g l 0 begun u ≡ run g l 0 begun (before ++ o ∷ [])
+
+  pub behind_run : (u w : List ℕ) → run g l 0 begun (u ++ w) ≡ on_now (run g l 0 begun u).given (run g l 0 begun u).now (λ n. run g l (length u) n w)
+  behind_run u w = run-append g l 0 (length u) u w (omega arith) begun
+
+  refused_on : (x : Run) (r : Refusal) (f : State → Run) → x.now ≡ Err r → on_now x.given x.now f ≡ x
+  refused_on x r f e = ap (λ y. on_now x.given y f) e ∙ ap (λ y. record { given = x.given; now = y }) (sym e)
+
+  stop_from : (os done : List ℕ) (n : State) (r : Refusal) → (run g l 0 begun done).now ≡ Ok n → (run g l 0 begun (done ++ os)).now ≡ Err r → Stop (done ++ os) r
+  stop_from [] done n r h e = absurd (let k : Ok n ≡ Err r = sym h ∙ (ap (λ x. (run g l 0 begun x).now) (sym (append-nil done)) ∙ e) in cc)
+  stop_from (o ∷ os) done n r h e = go (run g l 0 begun (done ++ o ∷ [])).now refl (λ k f. stop_from os (done ++ o ∷ []) k r f (ap (λ x. (run g l 0 begun x).now) (append_assoc done (o ∷ []) os) ∙ e))
+    where
+      cut : done ++ o ∷ os ≡ (done ++ o ∷ []) ++ os
+      cut = sym (append_assoc done (o ∷ []) os)
+
+      go : (x : Result State Refusal) → (run g l 0 begun (done ++ o ∷ [])).now ≡ x → ((k : State) → (run g l 0 begun (done ++ o ∷ [])).now ≡ Ok k → Stop ((done ++ o ∷ []) ++ os) r) → Stop (done ++ o ∷ os) r
+      go (Ok k) f more = subst (λ x. Stop x r) (append_assoc done (o ∷ []) os) (more k f)
+      go (Err q) f more =
+          let whole : run g l 0 begun (done ++ o ∷ os) ≡ run g l 0 begun (done ++ o ∷ []) = ap (run g l 0 begun) cut ∙ (behind_run (done ++ o ∷ []) os ∙ refused_on (run g l 0 begun (done ++ o ∷ [])) q (λ n. run g l (length (done ++ o ∷ [])) n os) f) in
+          record { before = done; o = o; rest = os; n = n; parts = refl; ran = h; stopped = ap (λ (x : Run). x.now) (sym whole) ∙ e; same = whole }
+
+  pub stop_of : (u : List ℕ) (r : Refusal) → (run g l 0 begun u).now ≡ Err r → Stop u r
+  stop_of u r e = stop_from u [] begun r refl e
+
+  offset_in : Result State Refusal → ℕ → ℕ
+  offset_in (Err r) d = r.offset
+  offset_in (Ok m) d = d
+
+  -- one octet is refused where it ends
+  one_offset : (to o : ℕ) (r : Refusal) (x : Effect) → (run_on to (λ n. eats g l n o) (λ n. run g l (to + 1) n []) x).now ≡ Err r → r.offset ≡ to + 1
+  unfolding offset_in
+  one_offset to o r (uses n) e = absurd cc
+  one_offset to o r (tells v n) e = absurd cc
+  one_offset to o r (fails y) e = sym (ap (λ z. offset_in z 0) e)
+  one_offset to o r (leaves v n) e = by (eats g l n o) e
+    where
+      by : (x : Effect) → (once_more to (λ n. run g l (to + 1) n []) x).now ≡ Err r → r.offset ≡ to + 1
+      by (uses k) e = absurd cc
+      by (tells w k) e = absurd cc
+      by (leaves w k) e = sym (ap (λ z. offset_in z 0) e)
+      by (fails y) e = sym (ap (λ z. offset_in z 0) e)
+
+  pub stop_offset : (u : List ℕ) (r : Refusal) (p : Stop u r) → r.offset ≡ length p.before + 1
+  stop_offset u r p =
+      one_offset (length p.before) p.o r (eats g l p.n p.o)
+      (sym (ap (λ (x : Run). x.now) (behind_run p.before (p.o ∷ [])) ∙ ap (λ y. (on_now (run g l 0 begun p.before).given y (λ n. run g l (length p.before) n (p.o ∷ []))).now) p.ran) ∙ p.stopped)
+
+  -- the octets up to the refused one
+  pub stop_taken : (u : List ℕ) (r : Refusal) (p : Stop u r) → take r.offset u ≡ p.before ++ p.o ∷ []
+  stop_taken u r p =
+      let k = stop_offset u r p in
+      ap (λ (x : ℕ). take x u) k ∙ (ap (take (length p.before + 1)) p.parts ∙ take-append-add p.before (p.o ∷ p.rest) 1)
+
+  pub stop_within : (u : List ℕ) (r : Refusal) → Stop u r → r.offset ≤ length u
+  stop_within u r p = let k = stop_offset u r p in omega (arith, k, ap length p.parts, length-append p.before (p.o ∷ p.rest))
+
+  -- no document begins with octets that are refused
+  pub begins_none : (u : List ℕ) (r : Refusal) → (run g l 0 begun u).now ≡ Err r → BeginsNone (Document g l) u
+  begins_none u r h rest s d =
+      let x = accepts g l (u ++ rest) s d in
+      let now : (run g l 0 begun (u ++ rest)).now ≡ Err r = ap (λ (y : Run). y.now) (behind_run u rest) ∙ ap (λ y. (on_now (run g l 0 begun u).given y (λ n. run g l (length u) n rest)).now) h in
+      let never : Err r ≡ Ok x.last = sym (ap (ends_of g l) now) ∙ x.ends in
+      absurd cc
+
+  refused_is : (now : Result State Refusal) (r : Refusal) → refused_of now ≡ Some r → now ≡ Err r
+  refused_is (Ok m) r h = absurd cc
+  refused_is (Err e) r h = let k : e ≡ r = cc in ap Err k
+
+  pub refused_run : (u : List ℕ) (r : Refusal) → (trace g l u).refused ≡ Some r → (run g l 0 begun u).now ≡ Err r
+  refused_run u r h = refused_is (run g l 0 begun u).now r h
+
+  -- no document begins with the octets up to a refusal's offset
+  pub refused_none : (u : List ℕ) (r : Refusal) → (trace g l u).refused ≡ Some r → BeginsNone (Document g l) (take r.offset u)
+  refused_none u r h =
+      let p = stop_of u r (refused_run u r h) in
+      subst (BeginsNone (Document g l)) (sym (stop_taken u r p)) (begins_none (p.before ++ p.o ∷ []) r p.stopped)
+
+  -- the end repeats it
+  pub refused_ends : (u : List ℕ) (r : Refusal) → (trace g l u).refused ≡ Some r → (trace g l u).ends ≡ Err r
+  refused_ends u r h = ap (ends_of g l) (refused_run u r h)
+
+  -- what the end refuses is at the octets used
+  late_offset : (used : ℕ) (e : Reason) (r : Refusal) → end_late used e ≡ Err r → r.offset ≡ used
+  unfolding end_offset
+  late_offset used reasons.Depth r h = sym (ap (λ z. end_offset z 0) h)
+  late_offset used _ r h = sym (ap (λ z. end_offset z 0) h)
+
+  fresh_offset : (used : ℕ) (b : Bool) (r : Refusal) → (if b then Ok None else cut_short used) ≡ Err r → r.offset ≡ used
+  unfolding end_offset
+  fresh_offset used true r h = absurd cc
+  fresh_offset used false r h = sym (ap (λ z. end_offset z 0) h)
+
+  settled_offset : (used : ℕ) (t : Turn) (r : Refusal) → end_settled used t ≡ Err r → r.offset ≡ used
+  unfolding end_offset
+  settled_offset used (goes n) r h = fresh_offset used (is_fresh n) r h
+  settled_offset used (gives v n) r h = absurd cc
+  settled_offset used (refuses e) r h = sym (ap (λ z. end_offset z 0) h)
+  settled_offset used (late e n) r h = late_offset used e r h
+
+  turned_offset : (used : ℕ) (t : Turn) (r : Refusal) → end_turned g l used t ≡ Err r → r.offset ≡ used
+  unfolding end_offset
+  turned_offset used (goes n) r h = settled_offset used (settle g l n) r h
+  turned_offset used (gives v n) r h = absurd cc
+  turned_offset used (refuses e) r h = sym (ap (λ z. end_offset z 0) h)
+  turned_offset used (late e n) r h = late_offset used e r h
+
+  said_offset : (used : ℕ) (n : Reading) (x : Lexeme) (c : Result Content Reason) (r : Refusal) → end_said g l used n x c ≡ Err r → r.offset ≡ used
+  unfolding end_offset
+  said_offset used n x (Ok c) r h = turned_offset used (turn g l n (token_of x c)) r h
+  said_offset used n x (Err e) r h = sym (ap (λ z. end_offset z 0) h)
+
+  waiting_offset : (used : ℕ) (x : Result (Option Lexeme) Reason) (t : Turn) (r : Refusal) → end_waiting g l used x t ≡ Err r → r.offset ≡ used
+  unfolding end_offset
+  waiting_offset used (Ok None) t r h = settled_offset used t r h
+  waiting_offset used (Ok (Some x)) (goes n) r h = sym (ap (λ z. end_offset z 0) h)
+  waiting_offset used (Ok (Some x)) (gives v n) r h = sym (ap (λ z. end_offset z 0) h)
+  waiting_offset used (Ok (Some x)) (refuses e) r h = sym (ap (λ z. end_offset z 0) h)
+  waiting_offset used (Ok (Some x)) (late e n) r h = late_offset used e r h
+  waiting_offset used (Err y) (goes n) r h = sym (ap (λ z. end_offset z 0) h)
+  waiting_offset used (Err y) (gives v n) r h = sym (ap (λ z. end_offset z 0) h)
+  waiting_offset used (Err y) (refuses e) r h = sym (ap (λ z. end_offset z 0) h)
+  waiting_offset used (Err y) (late e n) r h = late_offset used e r h
+
+  ready_offset : (used : ℕ) (n : Reading) (x : Result (Option Lexeme) Reason) (r : Refusal) → end_ready g l used n x ≡ Err r → r.offset ≡ used
+  unfolding end_offset
+  ready_offset used n (Ok None) r h = fresh_offset used (is_fresh n) r h
+  ready_offset used n (Ok (Some x)) r h = said_offset used n x (said x.kind x.octets) r h
+  ready_offset used n (Err y) r h = sym (ap (λ z. end_offset z 0) h)
+
+  now_offset : (used : ℕ) (n : Reading) (x : Result (Option Lexeme) Reason) (now : Now) (r : Refusal) → end_now g l used n x now ≡ Err r → r.offset ≡ used
+  unfolding end_offset
+  now_offset used n x (nows.Pending k e) r h = waiting_offset used x (settle g l n) r h
+  now_offset used n x (nows.Long w e) r h = waiting_offset used x (settle g l n) r h
+  now_offset used n x (nows.LongName w) r h = sym (ap (λ z. end_offset z 0) h)
+  now_offset used n x nows.Ready r h = ready_offset used n x r h
+  now_offset used n x nows.After r h = ready_offset used n x r h
+  now_offset used n x nows.Name r h = ready_offset used n x r h
+  now_offset used n x (nows.Keyed k) r h = ready_offset used n x r h
+
+  unfinished_now : (u : List ℕ) (given : List (Value × ℕ)) (now : Result State Refusal) (r : Refusal) → Ran g l u [] (record { given = given; now = now }) → refused_of now ≡ None → ends_of g l now ≡ Err r → r.offset ≡ length u
+  unfinished_now u given (Ok m) r b h e = now_offset m.scan.used m.reading (at_end (place m.reading) m.scan) m.reading.now r e ∙ stood_used u (plain given) m b
+  unfinished_now u given (Err q) r b h e = absurd cc
+
+  -- A refusal at the end counts all octets.
+  pub unfinished : (u : List ℕ) (r : Refusal) → (trace g l u).refused ≡ None → (trace g l u).ends ≡ Err r → r.offset ≡ length u
+  unfinished u r h e = let x = run g l 0 begun u in unfinished_now u x.given x.now r (run_ran g l u [] [] 0 begun (begun_stood g l)) h e
+
+  front_values : (s : List Value) (v : Value) → NoTables (s ++ v ∷ []) → NoTables s × (is_table v ≡ false)
+  front_values [] v h = (tt, h.0)
+  front_values (w ∷ s) v h = let k = front_values s v h.1 in ((h.0, k.0), k.1)
+
+  -- behind octets, refused or not, the values given are those of whole pieces
+  given_values : (u : List ℕ) (given : List (Value × ℕ)) (now : Result State Refusal) → Ran g l u [] (record { given = given; now = now }) → NoTables (plain given)
+  given_values u given (Ok m) b = pieces_values g l b.front (plain given) m.reading.context b.pieces
+  given_values u given (Err e) b = pieces_values g l b.0 (plain given) b.1 b.2
+
+  last_value : (u : List ℕ) (given : List (Value × ℕ)) (now : Result State Refusal) (v : Value) → Ran g l u [] (record { given = given; now = now }) → ends_of g l now ≡ Ok (Some v) → is_table v ≡ false
+  last_value u given (Ok m) v b e = let d = stood_accepted g l u (plain given) m (Some v) b e in (front_values (plain given) v (pieces_values g l d.tokens (plain given ++ v ∷ []) d.context d.pieces)).1
+  last_value u given (Err q) v b e = absurd cc
+
+  -- No value given is a local symbol table.
+  pub no_tables : (u : List ℕ) → GivesNoTable (trace g l u)
+  no_tables u =
+      let x = run g l 0 begun u in
+      let b = run_ran g l u [] [] 0 begun (begun_stood g l) in
+      record { given = given_values u x.given x.now b; last = λ v e. last_value u x.given x.now v b e }

@@ -1,0 +1,180 @@
+-- What is written of a stream of values is a document with these values.
+use Rattle.std.proofs.Common.{◌≡◌, ℕ, ◌+◌, ◌≤◌, Bool, true, false, List, [], ◌∷◌, ◌++◌, length, inl, refl, sym, ◌∙◌, subst, arith, append_assoc, append-nil}
+use Rattle.std.specs.Prelude.{◌==◌, ◌||◌, ◌&&◌}
+use Rattle.std.specs.List.{flat_map, AllByRecursion}
+use Rattle.std.proofs.lemmas.Bool.{false≢true}
+use Rattle.std.proofs.lemmas.Bool.Decides.{nat_tests}
+use Rattle.ion_model.specs.declared.value.Value.{Value}
+use Rattle.ion_model.specs.Kinds.{is_table}
+use Rattle.ion_model.specs.Measures.{depth}
+use Rattle.ion_symtab.specs.declared.limits.Limits.{Limits}
+use Rattle.ion_symtab.specs.declared.catalog.Catalog.{Catalog}
+use Rattle.ion_symtab.specs.Slots.{system_slots}
+use Rattle.ion_symtab.specs.Promises.{NoTables}
+use Rattle.ion_tokens.specs.declared.mode.Place.{Place}
+use Rattle.ion_tokens.specs.declared.mode.Place.TheVariants as places
+use Rattle.ion_tokens.specs.declared.mode.TokenKind.{TokenKind}
+use Rattle.ion_tokens.specs.declared.mode.TokenKind.TheVariants as kinds
+use Rattle.ion_tokens.specs.Octets.{is_white}
+use Rattle.ion_tokens.specs.Blanks.{BlankPiece, IsBlank, IsBlankPiece, blank_spelling, IsLastBlank, White, LineComment, BlockComment}
+use Rattle.ion_tokens.specs.Lexemes.{IsLexeme}
+use Rattle.ion_tokens.specs.Lexed.{Placed, LexesTo, Lexes}
+use Rattle.ion_text.specs.Grammar.{Means, ends_long, begins_as_long, is_version, is_version_word, Pieces, begins, holds, Document}
+use Rattle.ion_text.specs.Output.{value_text, text_of}
+use Rattle.ion_model.specs.Kept.{IsKept, AreKept}
+use Rattle.ion_text.specs.laws.writing.Written.{NoneLong, none_long, Written, tokens, span_within, white_before, lexes_end}
+use Rattle.ion_text.specs.laws.writing.ValuesWritten.{value_written, value_no_colon, starts_badly, bad_octet, either_false, line_stops}
+
+-- a value as it is written is within the limits
+pub record ValueFits (l : Limits) (v : Value) : Type 0 where
+  pub long : length (value_text v) ≤ l.item
+  pub deep : depth v ≤ l.depth
+
+-- each value is
+abbrev pub FitsIn : Limits → List Value → Type 0
+FitsIn l [] = Unit {0}
+FitsIn l (v ∷ vs) = ValueFits l v × FitsIn l vs
+
+-- 1. No value is written as the marker of a version.
+
+never : (b : Bool) → (b && false) ≡ false
+never false = refl
+never true = refl
+
+no_version : (w : List ℕ) → starts_badly w ≡ false → is_version w ≡ false
+no_version [] h = refl
+no_version (o ∷ []) h = never (36 == o)
+no_version (o ∷ p ∷ os) h = by (bad_octet o) (36 == o) (105 == p) _ h where
+  by : (k x y z : Bool) → (k || (x && y)) ≡ false → (x && (y && z)) ≡ false
+  by k false y z h = refl
+  by k true false z h = refl
+  by true true true z h = absurd (false≢true (sym h))
+  by false true true z h = absurd (false≢true (sym h))
+
+-- a blank in front begins badly
+blank_badly : (w r : List ℕ) → IsBlank w → starts_badly (w ++ r) ≡ false → w ≡ []
+blank_badly w r b h = by b.pieces b.each b.spelled where
+  first : (o : ℕ) (os : List ℕ) → bad_octet o ≡ true → w ≡ o ∷ os → w ≡ []
+  first o os bad e = absurd (clash (os ++ r) (subst (λ (x : List ℕ). starts_badly (x ++ r) ≡ false) e h)) where
+    clash : (x : List ℕ) → starts_badly (o ∷ x) ≡ false → ⊥
+    clash [] g = false≢true (sym g ∙ bad)
+    clash (p ∷ x) g = false≢true (sym (either_false (bad_octet o) _ g) ∙ bad)
+
+  white : (o : ℕ) → is_white o ≡ true → bad_octet o ≡ true
+  white o g = grind (arith, nat_tests)
+
+  by : (ps : List BlankPiece) → AllByRecursion IsBlankPiece ps → w ≡ flat_map blank_spelling ps → w ≡ []
+  by [] each e = e
+  by (White o ∷ ps) each e = first o _ (white o each.0) e
+  by (LineComment os last ∷ ps) each e = first 47 _ refl e
+  by (BlockComment os ∷ ps) each e = first 47 _ refl e
+
+bad_front : (w r : List ℕ) → starts_badly (w ++ r) ≡ false → starts_badly w ≡ false
+bad_front [] r h = refl
+bad_front (a ∷ []) [] h = h
+bad_front (a ∷ []) (b ∷ r) h = either_false (bad_octet a) _ h
+bad_front (a ∷ b ∷ w) r h = h
+
+-- a token of these parts
+abbrev token_of : Place → ℕ → ℕ → TokenKind → List ℕ → Placed
+token_of p start end kind octets = record { place = p; lexeme = record { start = start; end = end; kind = kind; octets = octets } }
+
+-- the octets of a token at the front
+word_of : (p : Place) (start end : ℕ) (kind : TokenKind) (octets : List ℕ) (colon : Bool) (w r : List ℕ) → IsLexeme p colon w r kind octets → starts_badly (w ++ r) ≡ false → is_version_word (token_of p start end kind octets ∷ []) ≡ false
+word_of p start end kinds.Word octets colon w r h g = no_version octets (subst (λ (x : List ℕ). starts_badly x ≡ false) (sym h.0) (bad_front w r g))
+word_of p start end kinds.KindName octets colon w r h g = refl
+word_of p start end kinds.Number octets colon w r h g = refl
+word_of p start end kinds.Operator octets colon w r h g = refl
+word_of p start end kinds.QuotedSymbol octets colon w r h g = refl
+word_of p start end kinds.ShortString octets colon w r h g = refl
+word_of p start end kinds.LongString octets colon w r h g = refl
+word_of p start end kinds.Clob octets colon w r h g = refl
+word_of p start end kinds.Blob octets colon w r h g = refl
+word_of p start end (kinds.Mark m) octets colon w r h g = refl
+
+no_marker : (colon : Bool) (before : ℕ) (octets : List ℕ) (t : Placed) (ts : List Placed) (after : Bool) (end : ℕ) (rest : List ℕ) → LexesTo colon before octets (t ∷ ts) after end rest → starts_badly octets ≡ false → is_version_word (t ∷ ts) ≡ false
+no_marker colon before octets t (u ∷ ts) after end rest h g = refl
+no_marker colon before octets t [] after end rest (others, b, h) g =
+    let whole = b.cut ∙ append_assoc b.blank b.token others in
+    let g' = subst (λ (x : List ℕ). starts_badly x ≡ false) whole g in
+    let none = blank_badly b.blank (b.token ++ others) b.is_blank g' in
+    word_of t.place t.lexeme.start t.lexeme.end t.lexeme.kind t.lexeme.octets colon b.token others b.is (subst (λ (x : List ℕ). starts_badly (x ++ (b.token ++ others)) ≡ false) none g')
+
+-- 2. Lines.
+
+-- no long string ends tokens of which none is one
+ends_short : (ts : List Placed) → NoneLong ts → ends_long ts ≡ false
+ends_short [] h = refl
+ends_short (t ∷ []) h = h.0
+ends_short (t ∷ u ∷ ts) h = ends_short (u ∷ ts) h.1
+
+behind_short : (ts us : List Placed) → NoneLong ts → (ends_long ts && begins_as_long us) ≡ false
+behind_short ts us h = rw (ends_short ts h) refl
+
+last_line : IsLastBlank (10 ∷ [])
+last_line = inl (record { pieces = White 10 ∷ []; each = (refl, tt); spelled = refl })
+
+one_line : (v : Value) (vs : List Value) → text_of (v ∷ vs) ≡ value_text v ++ (10 ∷ text_of vs)
+one_line v vs = append_assoc (value_text v) (10 ∷ []) (text_of vs)
+
+module _ (g : Catalog) (l : Limits) where
+  -- pieces of what is written: no table among them, no marker, and no long string
+  record Wrote (ts : List Placed) (s : List Value) : Type 0 where
+    pieces : Pieces g l ts s system_slots
+    short : NoneLong ts
+
+  -- behind a value: its line's end, and the lines of the other values
+  record Lines (us : List Placed) (done vs : List Value) (colon : Bool) (before : ℕ) : Type 0 where
+    tokens : List Placed
+    lexes : Lexes colon before (10 ∷ text_of vs) tokens
+    pieces : Pieces g l (us ++ tokens) (done ++ vs) system_slots
+
+  abbrev IsTop : Value → List Placed → Type 0
+  IsTop v ts = Means system_slots places.Top ts v
+
+  -- one value more
+  value_holds : (us : List Placed) (done : List Value) (v : Value) (at : ℕ) (rest : List ℕ) → Wrote us done → IsKept v → is_table v ≡ false → ValueFits l v → (h : Written (IsTop v) at (value_text v) rest) → Wrote (us ++ tokens h) (done ++ v ∷ [])
+  value_holds us done v at rest w k no_table fits h =
+      let n = no_marker false at (value_text v ++ rest) h.first h.others h.after (at + length (value_text v)) rest (h.lexes false) (value_no_colon v k rest) in
+      let s = span_within false at (value_text v ++ rest) (tokens h) h.after (at + length (value_text v)) rest (h.lexes false) in
+      let long = fits.long in
+      record {
+        pieces = holds us (tokens h) done system_slots v w.pieces h.is no_table n fits.deep (omega arith) (behind_short us (tokens h) w.short);
+        short = none_long us (tokens h) w.short h.short;
+      }
+
+  lines : (us : List Placed) (done : List Value) → Wrote us done → (vs : List Value) → AreKept vs → NoTables vs → FitsIn l vs → (colon : Bool) (before : ℕ) → Lines us done vs colon before
+  lines us done w [] k n f colon before = record {
+    tokens = [];
+    lexes = last_line;
+    pieces = subst (λ (x : List Placed). Pieces g l x (done ++ []) system_slots) (sym (append-nil us)) (subst (λ (x : List Value). Pieces g l us x system_slots) (sym (append-nil done)) w.pieces);
+  }
+  lines us done w (v ∷ vs) k n f colon before =
+      let rest = 10 ∷ text_of vs in
+      let h = value_written system_slots v k.0 places.Top refl (before + 1) rest (line_stops (text_of vs)) in
+      let ts = tokens h in
+      let more = lines (us ++ ts) (done ++ v ∷ []) (value_holds us done v (before + 1) rest w k.0 n.0 f.0 h) vs k.1 n.1 f.1 h.after (before + 1 + length (value_text v)) in
+      record {
+        tokens = ts ++ more.tokens;
+        lexes = subst (λ (x : List ℕ). Lexes colon before (10 ∷ x) (ts ++ more.tokens)) (sym (one_line v vs))
+            (white_before 10 refl (λ c b o. IsLastBlank o) colon before (value_text v ++ rest) h.first (h.others ++ more.tokens)
+            (lexes_end (λ c b o. IsLastBlank o) colon (before + 1) (value_text v ++ rest) ts more.tokens h.after (before + 1 + length (value_text v)) rest (h.lexes colon) more.lexes));
+        pieces = subst (λ (x : List Placed). Pieces g l x (done ++ v ∷ vs) system_slots) (append_assoc us ts more.tokens)
+            (subst (λ (x : List Value). Pieces g l ((us ++ ts) ++ more.tokens) x system_slots) (append_assoc done (v ∷ []) vs) more.pieces);
+      }
+
+  -- the text that is written of a stream of values is a document with these values
+  pub round_trip : (s : List Value) → AreKept s → NoTables s → FitsIn l s → Document g l (text_of s) s
+  round_trip [] k n f = record { tokens = []; context = system_slots; lexed = inl (record { pieces = []; each = tt; spelled = refl }); pieces = begins }
+  round_trip (v ∷ vs) k n f =
+      let rest = 10 ∷ text_of vs in
+      let h = value_written system_slots v k.0 places.Top refl 0 rest (line_stops (text_of vs)) in
+      let ts = tokens h in
+      let more = lines ts (v ∷ []) (value_holds [] [] v 0 rest (record { pieces = begins; short = tt }) k.0 n.0 f.0 h) vs k.1 n.1 f.1 h.after (0 + length (value_text v)) in
+      record {
+        tokens = ts ++ more.tokens;
+        context = system_slots;
+        lexed = subst (λ (x : List ℕ). Lexes false 0 x (ts ++ more.tokens)) (sym (one_line v vs))
+            (lexes_end (λ c b o. IsLastBlank o) false 0 (value_text v ++ rest) ts more.tokens h.after (0 + length (value_text v)) rest (h.lexes false) more.lexes);
+        pieces = more.pieces;
+      }

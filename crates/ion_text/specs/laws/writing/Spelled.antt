@@ -1,0 +1,261 @@
+-- What is written of a symbol, number, text or lob is one token that says it, before what may follow.
+use Rattle.std.proofs.Common.{◌≡◌, ℕ, ◌<◌, inl, inr, Bool, true, false, List, [], ◌∷◌, ◌++◌, Option, Some, None, Ok, refl, ap, subst, arith, IsUtf8}
+use Rattle.std.specs.Prelude.{◌==◌, ◌||◌, nat_lt, not, codes}
+use Rattle.std.specs.List.{list_all, filter}
+use Rattle.std.proofs.lemmas.Bool.{and_parts, false≢true}
+use Rattle.std.proofs.lemmas.Bool.Decides.{nat_tests}
+use Rattle.std.proofs.lemmas.Str.{IsUtf8-append, IsUtf8-nil, IsUtf8-encode, encode_ascii}
+use lib.Utf8.{low_scalar}
+use Rattle.ion_model.specs.Kinds.{kind_name}
+use Rattle.ion_model.specs.Octets.{AreOctets}
+use Rattle.ion_model.specs.declared.kind.Kind.{Kind}
+use Rattle.ion_model.specs.declared.kind.Kind.TheVariants as values
+use Rattle.ion_scalar.specs.declared.number.Number.{Number}
+use Rattle.ion_scalar.specs.text.Numbers.{ReadsNumber}
+use Rattle.ion_scalar.specs.text.Texts.{number_text}
+use Rattle.ion_symtab.specs.Slots.{Slot, resolve}
+use Rattle.ion_tokens.specs.Octets.{is_letter, is_digit, begins_word, is_word_octet, is_stop, is_white, is_base64}
+use Rattle.ion_tokens.specs.declared.mode.Place.{Place}
+use Rattle.ion_tokens.specs.declared.mode.TokenKind.{TokenKind}
+use Rattle.ion_tokens.specs.declared.mode.TokenKind.TheVariants as kinds
+use Rattle.ion_tokens.specs.declared.mode.Style.TheVariants as styles
+use Rattle.ion_tokens.specs.Places.{is_name}
+use Rattle.ion_tokens.specs.Blobs.{base64_of, IsBase64}
+use Rattle.ion_tokens.specs.laws.Blobs.{base64_each}
+use Rattle.ion_tokens.specs.laws.Numerals.{numeric_run}
+use Rattle.ion_tokens.specs.Bodies.{Content, Word, Id, Quoted, Short, Number', TypedNull, Clob, Blob, IsBody, id_of, kind_named}
+use Rattle.ion_tokens.specs.Lexemes.{IsLexeme, Each, begins, ShortText}
+use Rattle.ion_tokens.specs.machine.Scanning.{takes_colon}
+use Rattle.ion_tokens.specs.machine.Ahead.{is_segment}
+use Rattle.ion_text.specs.Grammar.{is_keyword, IsSymbol, is_word, is_id, is_quoted}
+use Rattle.ion_text.specs.Output.{of_string, of_symbol, of_clob, is_identifier, is_unquoted, symbol_text, quoted, escaped_text, null_text, truth_text, clob_text, blob_text}
+use Rattle.ion_model.specs.Kept.{IsText}
+use Rattle.ion_text.specs.laws.writing.Quoted.{text_quoted, clob_quoted, string_between, symbol_between}
+
+-- 1. What may follow.
+
+-- no octet of a word, no dot, no `'`
+pub record Apart (r : List ℕ) : Type 0 where
+  pub word : begins is_word_octet r ≡ false
+  pub dot : begins (λ o. o == 46) r ≡ false
+  pub quote : begins (λ o. o == 39) r ≡ false
+
+-- and what ends a number
+pub record Stops (r : List ℕ) : Type 0 where
+  pub apart : Apart r
+  pub stop : begins is_stop r ≡ true
+
+-- The octets w before r are a token of this place, whether or not a colon may stand there, and say this. None is a long string.
+pub record Spelling (p : Place) (w r : List ℕ) (said : Content) : Type 0 where
+  pub kind : TokenKind
+  pub octets : List ℕ
+  pub lexeme : (colon : Bool) → IsLexeme p colon w r kind octets
+  pub body : IsBody kind octets (Ok said)
+  pub short : is_segment kind ≡ false
+
+-- 2. Symbols.
+
+-- a symbol's token, behind which a colon may stand
+pub record SymbolSpelling (c : List Slot) (p : Place) (s : Option (List ℕ)) (r : List ℕ) : Type 0 where
+  pub said : Content
+  pub token : Spelling p (symbol_text s) r said
+  pub takes : takes_colon p token.kind ≡ true
+  pub is : IsSymbol c said s
+
+first_of_word : (o : ℕ) → (is_letter o || (o == 95)) ≡ true → begins_word o ≡ true
+first_of_word o h = grind (arith, nat_tests)
+
+no_dollar : (o : ℕ) → (is_letter o || (o == 95)) ≡ true → (o == 36) ≡ false
+no_dollar o h = grind (arith, nat_tests)
+
+word_first : (o : ℕ) → begins_word o ≡ true → is_word_octet o ≡ true
+word_first o h = ap (λ b. b || is_digit o) h
+
+all_each : (class : ℕ → Bool) (os : List ℕ) → list_all class os ≡ true → Each class os
+all_each class [] h = tt
+all_each class (o ∷ os) h = let p = and_parts _ _ h in (p.0, all_each class os p.1)
+
+word_is : (p : Place) (w r : List ℕ) → is_identifier w ≡ true → Apart r → (colon : Bool) → IsLexeme p colon w r kinds.Word w
+word_is p [] r h a colon = absurd (false≢true h)
+word_is p (o ∷ os) r h a colon =
+    let q = and_parts _ _ h in
+    let f = first_of_word o q.0 in
+    (refl, (f, (word_first o f, all_each is_word_octet os q.1)), a.word, λ e. a.dot)
+
+no_id : (w : List ℕ) → is_identifier w ≡ true → id_of w ≡ None
+no_id [] h = refl
+no_id (o ∷ os) h = let q = and_parts _ _ h in rw (no_dollar o q.0) refl
+
+not_true : (b : Bool) → not b ≡ true → b ≡ false
+not_true false h = refl
+not_true true h = absurd (false≢true h)
+
+quoted_is : (p : Place) (w r : List ℕ) → IsUtf8 w → Apart r → (colon : Bool) → IsLexeme p colon (quoted of_symbol w) r kinds.QuotedSymbol w
+quoted_is p w r u a colon = (escaped_text of_symbol w, text_quoted styles.QuotedSymbol 39 symbol_between w u, refl, λ e. a.quote)
+
+word_spelled : (p : Place) (w r : List ℕ) → is_identifier w ≡ true → IsUtf8 w → Apart r → Spelling p w r (Word w)
+word_spelled p w r h u a = record {
+  kind = kinds.Word;
+  octets = w;
+  lexeme = λ colon. word_is p w r h a colon;
+  body = rw (no_id w h) (refl, u);
+  short = refl;
+}
+
+unquoted_spelled : (c : List Slot) (p : Place) (w r : List ℕ) → IsUtf8 w → Apart r → is_unquoted w ≡ true → SymbolSpelling c p (Some w) r
+unfolding symbol_text
+unquoted_spelled c p w r u a h =
+    let q = and_parts _ _ h in
+    record {
+      said = Word w;
+      token = record {
+        kind = kinds.Word;
+        octets = w;
+        lexeme = λ colon. rw h (word_is p w r q.0 a colon);
+        body = rw (no_id w q.0) (refl, u);
+        short = refl;
+      };
+      takes = refl;
+      is = is_word w (not_true (is_keyword w) q.1);
+    }
+
+quoted_spelled : (c : List Slot) (p : Place) (w r : List ℕ) → IsUtf8 w → Apart r → is_unquoted w ≡ false → SymbolSpelling c p (Some w) r
+unfolding symbol_text
+quoted_spelled c p w r u a h = record {
+  said = Quoted w;
+  token = record {
+    kind = kinds.QuotedSymbol;
+    octets = w;
+    lexeme = λ colon. rw h (quoted_is p w r u a colon);
+    body = (refl, u);
+    short = refl;
+  };
+  takes = refl;
+  is = is_quoted w;
+}
+
+unknown_spelled : (c : List Slot) (p : Place) (r : List ℕ) → Apart r → SymbolSpelling c p None r
+unfolding symbol_text resolve
+unknown_spelled c p r a = record {
+  said = Id 0;
+  token = record {
+    kind = kinds.Word;
+    octets = codes "$0";
+    lexeme = λ colon. (refl, (refl, (refl, (refl, tt))), a.word, λ e. a.dot);
+    body = refl;
+    short = refl;
+  };
+  takes = refl;
+  is = is_id 0 None refl;
+}
+
+pub symbol_spelled : (c : List Slot) (p : Place) (s : Option (List ℕ)) (r : List ℕ) → IsText s → Apart r → SymbolSpelling c p s r
+symbol_spelled c p None r t a = unknown_spelled c p r a
+symbol_spelled c p (Some w) r u a = by (is_unquoted w) refl where
+  by : (b : Bool) → is_unquoted w ≡ b → SymbolSpelling c p (Some w) r
+  by true h = unquoted_spelled c p w r u a h
+  by false h = quoted_spelled c p w r u a h
+
+-- 3. Numbers, bools, nulls and strings.
+
+pub number_spelled : (p : Place) (n : Number) (r : List ℕ) → is_name p ≡ false → ReadsNumber (number_text n) (Ok n) → Stops r → Spelling p (number_text n) r (Number' n)
+number_spelled p n r place h s =
+    let run = numeric_run (number_text n) n h in
+    record {
+      kind = kinds.Number;
+      octets = number_text n;
+      lexeme = λ colon. (refl, place, record { begun = run.begun; each = run.each; longest = inr (inl s.stop) });
+      body = h;
+      short = refl;
+    }
+
+ascii_text : (w : List ℕ) → list_all (λ o. nat_lt o 128) w ≡ true → IsUtf8 w
+ascii_text [] h = IsUtf8-nil
+ascii_text (o ∷ os) h =
+    let q = and_parts _ _ h in
+    let small : o < 128 = by o q.0 in
+    IsUtf8-append (o ∷ []) os (subst IsUtf8 (encode_ascii o small) (IsUtf8-encode o (low_scalar o (omega arith)))) (ascii_text os q.1) where
+      by : (o : ℕ) → nat_lt o 128 ≡ true → o < 128
+      by o h = grind (arith, nat_tests)
+
+pub truth_spelled : (p : Place) (b : Bool) (r : List ℕ) → Apart r → Spelling p (truth_text b) r (Word (truth_text b))
+truth_spelled p false r a = word_spelled p (codes "false") r refl (ascii_text (codes "false") refl) a
+truth_spelled p true r a = word_spelled p (codes "true") r refl (ascii_text (codes "true") refl) a
+
+-- what the token of a null says
+abbrev pub null_said : Kind → Content
+null_said values.Null = Word (codes "null")
+null_said k = TypedNull k
+
+typed_null : (p : Place) (k : Kind) (r : List ℕ) → Each is_word_octet (kind_name k) → kind_named (kind_name k) ≡ Some k → Apart r → Spelling p (codes "null." ++ kind_name k) r (TypedNull k)
+typed_null p k r e f a = record {
+  kind = kinds.KindName;
+  octets = kind_name k;
+  lexeme = λ colon. (refl, e, a.word);
+  body = rw f refl;
+  short = refl;
+}
+
+pub null_spelled : (p : Place) (k : Kind) (r : List ℕ) → Apart r → Spelling p (null_text k) r (null_said k)
+null_spelled p values.Null r a = word_spelled p (codes "null") r refl (ascii_text (codes "null") refl) a
+null_spelled p values.Bool r a = typed_null p values.Bool r (all_each is_word_octet (kind_name values.Bool) refl) refl a
+null_spelled p values.Int r a = typed_null p values.Int r (all_each is_word_octet (kind_name values.Int) refl) refl a
+null_spelled p values.Float r a = typed_null p values.Float r (all_each is_word_octet (kind_name values.Float) refl) refl a
+null_spelled p values.Decimal r a = typed_null p values.Decimal r (all_each is_word_octet (kind_name values.Decimal) refl) refl a
+null_spelled p values.Timestamp r a = typed_null p values.Timestamp r (all_each is_word_octet (kind_name values.Timestamp) refl) refl a
+null_spelled p values.Symbol r a = typed_null p values.Symbol r (all_each is_word_octet (kind_name values.Symbol) refl) refl a
+null_spelled p values.Str r a = typed_null p values.Str r (all_each is_word_octet (kind_name values.Str) refl) refl a
+null_spelled p values.Clob r a = typed_null p values.Clob r (all_each is_word_octet (kind_name values.Clob) refl) refl a
+null_spelled p values.Blob r a = typed_null p values.Blob r (all_each is_word_octet (kind_name values.Blob) refl) refl a
+null_spelled p values.List r a = typed_null p values.List r (all_each is_word_octet (kind_name values.List) refl) refl a
+null_spelled p values.Sexp r a = typed_null p values.Sexp r (all_each is_word_octet (kind_name values.Sexp) refl) refl a
+null_spelled p values.Fields r a = typed_null p values.Fields r (all_each is_word_octet (kind_name values.Fields) refl) refl a
+
+pub string_spelled : (p : Place) (text r : List ℕ) → IsUtf8 text → Spelling p (quoted of_string text) r (Short text)
+string_spelled p text r u = record {
+  kind = kinds.ShortString;
+  octets = text;
+  lexeme = λ colon. (escaped_text of_string text, text_quoted styles.ShortString 34 string_between text u, refl);
+  body = (refl, u);
+  short = refl;
+}
+
+-- 4. Lobs.
+
+pub clob_spelled : (p : Place) (octets r : List ℕ) → is_name p ≡ false → AreOctets octets → Spelling p (clob_text octets) r (Clob octets)
+clob_spelled p octets r place h = record {
+  kind = kinds.Clob;
+  octets = octets;
+  lexeme = λ colon. (place, quoted of_clob octets, ShortText [] (escaped_text of_clob octets) [] tt (clob_quoted octets h) tt refl, refl);
+  body = refl;
+  short = refl;
+}
+
+no_white : (o : ℕ) → is_base64 o ≡ true → not (is_white o) ≡ true
+no_white o h = grind (arith, nat_tests)
+
+may_stand : (o : ℕ) → is_base64 o ≡ true → (is_white o || is_base64 o) ≡ true
+may_stand o h = rw h (by (is_white o)) where
+  by : (b : Bool) → (b || true) ≡ true
+  by true = refl
+  by false = refl
+
+stand_all : (os : List ℕ) → Each is_base64 os → Each (λ o. is_white o || is_base64 o) os
+stand_all [] h = tt
+stand_all (o ∷ os) h = (may_stand o h.0, stand_all os h.1)
+
+unfiltered : (os : List ℕ) → Each is_base64 os → filter (λ o. not (is_white o)) os ≡ os
+unfiltered [] h = refl
+unfiltered (o ∷ os) h = rw (no_white o h.0) (ap (λ (x : List ℕ). o ∷ x) (unfiltered os h.1))
+
+pub blob_spelled : (p : Place) (octets r : List ℕ) → is_name p ≡ false → AreOctets octets → Spelling p (blob_text octets) r (Blob octets)
+blob_spelled p octets r place h =
+    let e = base64_each octets h in
+    let is : IsBase64 (filter (λ o. not (is_white o)) (base64_of octets)) octets = record { octets_are = h; spelled = unfiltered (base64_of octets) e } in
+    record {
+      kind = kinds.Blob;
+      octets = octets;
+      lexeme = λ colon. (place, base64_of octets, (stand_all (base64_of octets) e, is), refl);
+      body = refl;
+      short = refl;
+    }

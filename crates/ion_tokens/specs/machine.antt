@@ -1,0 +1,13 @@
+-- The scanner as a machine.
+pub mod Ahead
+pub mod Bounds
+pub mod AtOnce
+pub mod Rests
+pub mod Said
+pub mod Scanned
+pub mod Scanning
+pub mod Steps
+pub mod Styles
+pub mod Table
+pub mod Traces
+pub mod Views

@@ -1,0 +1,51 @@
+-- Octets with which a mode goes on as it is, taken up at once.
+use Rattle.std.specs.Prelude.{ℕ, ◌+◌, ◌-◌, ◌==◌, Bool, true, false, ◌&&◌, ◌||◌, not, if◌then◌else◌, List, ◌++◌, length}
+use Rattle.ion_tokens.specs.declared.mode.Style.{Style}
+use Rattle.ion_tokens.specs.declared.mode.Mode.{Mode}
+use Rattle.ion_tokens.specs.declared.mode.Within.TheVariants as within
+use Rattle.ion_tokens.specs.declared.mode.Lob.TheVariants as lobs
+use Rattle.ion_tokens.specs.declared.mode.Mode.TheVariants as modes
+use Rattle.ion_tokens.specs.Ascii.{line_feed, asterisk, slash, backslash}
+use Rattle.ion_tokens.specs.Octets.{is_white, is_line_end, is_word_octet, is_stop, is_base64}
+use Rattle.ion_tokens.specs.machine.Table.{is_long, quote_of, stands}
+use Rattle.ion_tokens.specs.machine.Scanning.{Known, start_of}
+
+-- an ASCII character that a text in these quotes, long or not, keeps as it is, and no quote
+abbrev pub is_between : Bool → ℕ → ℕ → Bool
+is_between long quote o = (stands o || (long && (o == line_feed))) && not ((o == backslash) || (o == quote))
+
+-- the same of a style
+abbrev pub is_plain : Style → ℕ → Bool
+is_plain s = is_between (is_long s) (quote_of s)
+
+-- a number goes on with it
+abbrev pub is_numeric : ℕ → Bool
+is_numeric o = not (is_stop o || (o == slash))
+
+-- the mode goes on as it is with this octet; of modes in which few such octets come in a row none is counted
+abbrev pub goes_on : Mode → ℕ → Bool
+goes_on modes.Blank o = is_white o
+goes_on modes.LineComment o = not (is_line_end o)
+goes_on modes.BlockComment o = not (o == asterisk)
+goes_on modes.Word o = is_word_octet o
+goes_on modes.Number o = is_numeric o
+goes_on (modes.Text s within.Plain) o = is_plain s o
+goes_on (modes.Lob lobs.Base64) o = is_base64 o
+goes_on _ o = false
+
+-- whether the octets with which the mode goes on are kept; those of a blank aren't
+abbrev pub keeps_them : Mode → Bool
+keeps_them modes.Blank = false
+keeps_them modes.LineComment = false
+keeps_them modes.BlockComment = false
+keeps_them _ = true
+
+-- what the scanner knows behind octets with which its mode goes on, of which there is one at least
+abbrev pub gone_on : Known → List ℕ → Known
+gone_on s w = record {
+  mode = s.mode;
+  kept = if keeps_them s.mode then s.kept ++ w else s.kept;
+  colon = s.colon;
+  start = start_of s.mode s.start (s.used + (length w - 1));
+  used = s.used + length w;
+}

@@ -1,0 +1,134 @@
+-- The scanner as a machine: the table, and what is kept of the open token. Its tokens aren't judged yet.
+use Rattle.std.specs.Prelude.{ℕ, ◌+◌, ◌-◌, ◌==◌, Bool, true, false, ◌&&◌, if◌then◌else◌, List, [], ◌∷◌, ◌++◌, length, take, codes, encode_utf8, bytes_eq, Option, Some, None, Result, Ok, Err}
+use Rattle.ion_model.specs.declared.refusal.Reason.{Reason}
+use Rattle.ion_model.specs.declared.refusal.Reason.TheVariants as reasons
+use Rattle.ion_tokens.specs.declared.mode.Place.{Place}
+use Rattle.ion_tokens.specs.declared.mode.Mode.{Mode}
+use Rattle.ion_tokens.specs.declared.mode.TokenKind.{TokenKind}
+use Rattle.ion_tokens.specs.declared.mode.Keep.{Keep}
+use Rattle.ion_tokens.specs.declared.mode.Action.{Action}
+use Rattle.ion_tokens.specs.declared.mode.End.{End}
+use Rattle.ion_tokens.specs.declared.mode.Lob.TheVariants as lobs
+use Rattle.ion_tokens.specs.declared.mode.Mode.TheVariants as modes
+use Rattle.ion_tokens.specs.declared.mode.TokenKind.TheVariants as kinds
+use Rattle.ion_tokens.specs.declared.mode.Keep.TheVariants as keeps
+use Rattle.ion_tokens.specs.declared.mode.Action.TheVariants as actions
+use Rattle.ion_tokens.specs.declared.mode.End.TheVariants as ends
+use Rattle.ion_tokens.specs.machine.Table.{next, end_of, is_name}
+use Rattle.ion_tokens.specs.Blobs.{blob_of}
+
+-- what the scanner knows between two octets
+pub record Known : Type 0 where
+  pub mode : Mode
+  -- the octets that are kept of the open token
+  pub kept : List ℕ
+  -- whether a colon may stand behind the token before
+  pub colon : Bool
+  -- where the open token begins, or the last one ended
+  pub start : ℕ
+  -- how many octets were used
+  pub used : ℕ
+
+-- before any octet
+abbrev pub initial : Known
+initial = record { mode = modes.Blank; kept = []; colon = false; start = 0; used = 0 }
+
+-- a token that isn't judged: its span, what it is, and what its octets mean
+pub record Lexeme : Type 0 where
+  pub start : ℕ
+  pub end : ℕ
+  pub kind : TokenKind
+  pub octets : List ℕ
+
+-- what comes of octets
+pub data Outcome : Type 0 where
+  -- all are used
+  Next : Known → Outcome
+  -- the last one is used and ends a token
+  Given : Lexeme → Known → Outcome
+  -- a token ended before the last one, which isn't used
+  Left : Lexeme → Known → Outcome
+  -- so many octets of the document decide that none begins with them
+  Refused : ℕ → Reason → Outcome
+
+abbrev pub kept_after : Keep → List ℕ → List ℕ
+kept_after keeps.Nothing k = k
+kept_after (keeps.One o) k = k ++ o ∷ []
+kept_after (keeps.Two o p) k = (k ++ o ∷ []) ++ p ∷ []
+kept_after (keeps.Character c) k = k ++ encode_utf8 c
+kept_after keeps.DropQuotes k = take (length k - 2) k
+
+-- where a token begins that is open behind the next octet
+abbrev pub start_of : Mode → ℕ → ℕ → ℕ
+start_of modes.Blank start used = used
+start_of modes.Slash start used = used - 1
+start_of _ start used = start
+
+-- the used octets that are left to a token that follows
+abbrev pub left_of : Mode → ℕ
+left_of modes.Slash = 1
+left_of _ = 0
+
+-- whether a colon may stand behind the token: behind what may be a symbol, and behind a field's name
+abbrev pub takes_colon : Place → TokenKind → Bool
+takes_colon p kinds.Word = true
+takes_colon p kinds.KindName = true
+takes_colon p kinds.QuotedSymbol = true
+takes_colon p kinds.ShortString = is_name p
+takes_colon p kinds.LongString = is_name p
+takes_colon p _ = false
+
+-- the octet is used
+abbrev pub go_to : Known → Mode → List ℕ → Known
+go_to s m k = record { mode = m; kept = k; colon = s.colon; start = start_of s.mode s.start s.used; used = s.used + 1 }
+
+-- a token that ends here
+abbrev pub cut : Known → TokenKind → List ℕ → ℕ → Lexeme
+cut s kind k end = record { start = start_of s.mode s.start s.used; end = end; kind = kind; octets = k }
+
+-- behind a token
+abbrev pub past : Place → TokenKind → Mode → List ℕ → ℕ → ℕ → Known
+past p kind m k start used = record { mode = m; kept = k; colon = takes_colon p kind; start = start; used = used }
+
+-- at the first brace of a blob's close
+abbrev pub blob_ends : Known → Option (List ℕ) → Outcome
+blob_ends s None = Refused (s.used + 1) reasons.BadBase64
+blob_ends s (Some octets) = Next (go_to s (modes.Lob lobs.BlobClose) octets)
+
+-- an operator ended before so many letters of `inf`, which begin a word
+abbrev pub split_at : Place → Known → ℕ → Outcome
+split_at p s n = Left (cut s kinds.Operator s.kept (s.used - n)) (past p kinds.Operator modes.Word (take n (codes "inf")) (s.used - n) s.used)
+
+abbrev pub acts : Place → Known → ℕ → Action → Outcome
+acts p s o (actions.Go m k) = Next (go_to s m (kept_after k s.kept))
+acts p s o (actions.Give kind k) = Given (cut s kind (kept_after k s.kept) (s.used + 1)) (past p kind modes.Blank [] (s.used + 1) (s.used + 1))
+acts p s o (actions.Before kind k m) = Left (cut s kind (kept_after k s.kept) (s.used - left_of m)) (past p kind m [] (s.used - left_of m) s.used)
+acts p s o actions.EndWord =
+    if (o == 46) && bytes_eq s.kept (codes "null") then Next (go_to s modes.KindName [])
+    else Left (cut s kinds.Word s.kept s.used) (past p kinds.Word modes.Blank [] s.used s.used)
+acts p s o (actions.Split n) = split_at p s n
+acts p s o actions.EndBlob = blob_ends s (blob_of s.kept)
+acts p s o (actions.Refuse e) = Refused (s.used + 1) e
+
+-- one octet
+abbrev pub feed : Place → Known → ℕ → Outcome
+feed p s o = acts p s o (next p s.colon s.mode o)
+
+-- what comes of more octets, unless a token or a refusal came already
+abbrev pub follow : Outcome → (Known → Outcome) → Outcome
+follow (Next s) f = f s
+follow o f = o
+
+-- octets up to the first token
+abbrev pub run : Place → List ℕ → Known → Outcome
+run p [] s = Next s
+run p (o ∷ os) s = follow (feed p s o) (λ s'. run p os s')
+
+-- what the end of the octets shows: the token that it ends, if one is open, or why they are none
+abbrev pub ends_at : Known → End → Result (Option Lexeme) Reason
+ends_at s ends.Blank = Ok None
+ends_at s (ends.Token kind k) = Ok (Some (cut s kind (kept_after k s.kept) s.used))
+ends_at s (ends.Refuse reason) = Err reason
+
+abbrev pub at_end : Place → Known → Result (Option Lexeme) Reason
+at_end p s = ends_at s (end_of p s.mode)

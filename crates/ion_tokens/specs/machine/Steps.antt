@@ -1,0 +1,83 @@
+-- What the calls of the scanner answer.
+use Rattle.std.specs.Prelude.{◌≡◌, ◌≢◌, ℕ, ◌+◌, ◌<◌, ◌≤◌, Option, Some, None, Result, Ok, Err, Bool, true, false}
+use Rattle.ion_model.specs.declared.refusal.Refusal.{Refusal}
+use Rattle.ion_model.specs.declared.refusal.Reason.{Reason}
+use Rattle.ion_model.specs.declared.refusal.Reason.TheVariants as reasons
+use Rattle.ion_tokens.specs.declared.token.Token.{Token}
+use Rattle.ion_tokens.specs.declared.token.Scan.{Scan}
+use Rattle.ion_tokens.specs.machine.Scanning.{Known, Lexeme, Outcome, Next, Given, Left, Refused}
+use Rattle.ion_tokens.specs.Bodies.{content, IsBody}
+use Rattle.ion_tokens.specs.Lexed.{Passes}
+
+-- a token in memory is this one, judged
+pub record IsToken (l : Lexeme) (t : Token) : Type 0 where
+  pub start : t.start ≡ l.start
+  pub end : t.end ≡ l.end
+  pub says : IsBody l.kind l.octets (Ok (content t.body))
+  pub passes : Passes l.kind l.octets
+
+abbrev pub GivesToken : Lexeme → Option Token → Type 0
+GivesToken l None = ⊥
+GivesToken l (Some t) = IsToken l t
+
+-- behind `before` octets, a step used so many more, and these are what the scanner knows then
+pub record Uses (before used : ℕ) (wanted now : Known) : Type 0 where
+  pub known : now ≡ wanted
+  pub counted : now.used ≡ before + used
+
+-- a token was refused, at the octet that decided it
+pub record RefusesToken (l : Lexeme) (at : ℕ) (r : Refusal) : Type 0 where
+  pub offset : r.offset ≡ at
+  pub says : IsBody l.kind l.octets (Err r.reason)
+
+-- of a piece, behind octets that were used, one that was left or none is looked at: so many decide the token
+abbrev pub deciding : ℕ → Bool → ℕ
+deciding used true = used + 1
+deciding used false = used
+
+-- Behind `before` octets, a step over a piece from which this comes answered so, and left the scanner knowing this.
+-- Memory may run out whatever comes.
+abbrev pub Answers : ℕ → Outcome → Result Scan Refusal → Known → Type 0
+Answers before (Next s) (Ok scan) now = Uses before scan.used s now × (scan.token ≡ None) × (scan.left ≡ false)
+Answers before (Given l s) (Ok scan) now = Uses before scan.used s now × GivesToken l scan.token × (scan.left ≡ false)
+Answers before (Left l s) (Ok scan) now = Uses before scan.used s now × GivesToken l scan.token × (scan.left ≡ true)
+Answers before (Refused at reason) (Ok scan) now = ⊥
+Answers before (Next s) (Err r) now = r.reason ≢ reasons.Memory → ⊥
+Answers before (Given l s) (Err r) now = r.reason ≢ reasons.Memory → RefusesToken l s.used r
+Answers before (Left l s) (Err r) now = r.reason ≢ reasons.Memory → RefusesToken l (s.used + 1) r
+Answers before (Refused at reason) (Err r) now = r.reason ≢ reasons.Memory → r ≡ record { offset = at; reason = reason }
+
+-- behind `before` octets, a refusal's offset is that of one of so many that follow
+abbrev pub IsWithin : ℕ → ℕ → Refusal → Type 0
+IsWithin before n r = (before < r.offset) × (r.offset ≤ before + n)
+
+-- Behind `used` octets, their end, which shows this, was answered so.
+abbrev pub Ends : ℕ → Result (Option Lexeme) Reason → Result (Option Token) Refusal → Type 0
+Ends used (Ok None) (Ok token) = token ≡ None
+Ends used (Ok (Some l)) (Ok token) = GivesToken l token
+Ends used (Err reason) (Ok token) = ⊥
+Ends used (Ok None) (Err r) = r.reason ≢ reasons.Memory → ⊥
+Ends used (Ok (Some l)) (Err r) = r.reason ≢ reasons.Memory → RefusesToken l used r
+Ends used (Err reason) (Err r) = r.reason ≢ reasons.Memory → r ≡ record { offset = used; reason = reason }
+
+-- the reasons for which a step refuses; `Incomplete` is none of them
+abbrev pub is_step_reason : Reason → Bool
+is_step_reason reasons.Memory = true
+is_step_reason reasons.TooLarge = true
+is_step_reason reasons.Malformed = true
+is_step_reason reasons.Float = true
+is_step_reason reasons.BadEscape = true
+is_step_reason reasons.BadUtf8 = true
+is_step_reason reasons.BadBase64 = true
+is_step_reason reasons.Ambiguous = true
+is_step_reason reasons.Unexpected = true
+is_step_reason _ = false
+
+-- the reasons for which the end of octets that a scanner used refuses them
+abbrev pub is_end_reason : Reason → Bool
+is_end_reason reasons.Memory = true
+is_end_reason reasons.Incomplete = true
+is_end_reason reasons.TooLarge = true
+is_end_reason reasons.Malformed = true
+is_end_reason reasons.Float = true
+is_end_reason _ = false

@@ -1,0 +1,104 @@
+-- What a scanner in memory stands for.
+use Rattle.std.specs.Prelude.{ℕ, ◌-◌, length, Option, Some, None, if◌then◌else◌, List}
+use Rattle.ion_tokens.specs.declared.machine.Machine.{Machine}
+use Rattle.ion_tokens.specs.declared.machine.Lexeme.{Lexeme as Found}
+use Rattle.ion_tokens.specs.declared.machine.Taken.{Taken}
+use Rattle.ion_tokens.specs.declared.machine.Taken.TheVariants as taken
+use Rattle.ion_model.specs.declared.refusal.Refusal.{Refusal}
+use Rattle.ion_tokens.specs.declared.mode.Mode.{Mode}
+use Rattle.ion_tokens.specs.declared.mode.Mode.TheVariants as modes
+use Rattle.ion_tokens.specs.declared.mode.Style.TheVariants as styles
+use Rattle.ion_tokens.specs.declared.token.Begun.{Begun}
+use Rattle.ion_tokens.specs.declared.token.Form.{Form}
+use Rattle.ion_tokens.specs.declared.token.Form.TheVariants as forms
+use Rattle.ion_tokens.specs.declared.token.Foresight.{Foresight}
+use Rattle.ion_tokens.specs.declared.token.Foresight.TheVariants as foresights
+use Rattle.ion_tokens.specs.declared.mode.Mark.TheVariants as marks
+use Rattle.ion_tokens.specs.declared.mode.TokenKind.{TokenKind}
+use Rattle.ion_tokens.specs.declared.mode.TokenKind.TheVariants as kinds
+use Rattle.ion_tokens.specs.declared.scanner.Scanner.{Scanner}
+use Rattle.ion_tokens.specs.declared.beside.TokenReader.{TokenReader}
+use Rattle.ion_tokens.specs.machine.Bounds.{is_idle}
+use Rattle.ion_tokens.specs.machine.Scanning.{Known, Lexeme, Outcome, Next, Given, Left, Refused}
+
+abbrev pub known : Machine → Known
+known m = record { mode = m.mode; kept = m.kept.items; colon = m.colon; start = m.start; used = m.used }
+
+-- a token that ended last
+abbrev pub lexeme_in : Found → Machine → Lexeme
+lexeme_in l m = record { start = l.start; end = l.end; kind = l.kind; octets = m.ended.items }
+
+-- what the code answers, with what the machine knows then
+abbrev pub outcome_in : Taken → Machine → Outcome
+outcome_in taken.Next m = Next (known m)
+outcome_in (taken.Given l) m = Given (lexeme_in l m) (known m)
+outcome_in (taken.Left l) m = Left (lexeme_in l m) (known m)
+outcome_in (taken.Refused r) m = Refused r.offset r.reason
+
+abbrev pub found_in : Option Found → Machine → Option Lexeme
+found_in None m = None
+found_in (Some l) m = Some (lexeme_in l m)
+
+-- what a reader beside a scanner keeps of the token that it found last
+abbrev pub octets_in : TokenReader → List ℕ
+octets_in t = t.machine.ended.items
+
+-- what a scanner knows between two octets
+abbrev pub scanned : Scanner → Known
+scanned s = known s.machine
+
+-- the refusal that it answers from now on
+abbrev pub failure : Scanner → Option Refusal
+failure s = s.failed
+
+-- how many octets it took up, each as often as it did
+abbrev pub looks : Scanner → ℕ
+looks s = s.machine.looked
+
+-- a / behind the open token, which may open a comment
+abbrev pub behind : Mode → ℕ
+behind modes.NumberSlash = 1
+behind modes.OperatorSlash = 1
+behind _ = 0
+
+-- what is known of the open token
+abbrev pub form_of : Mode → Form
+form_of modes.Quote = forms.Quote
+form_of modes.Quotes = forms.Quote
+form_of (modes.Text styles.LongString _) = forms.Long
+form_of _ = forms.Other
+
+-- the token that has begun
+abbrev pub begun_in : Known → Option Begun
+begun_in s = if is_idle s.mode then None else Some (record { start = s.start; end = s.used - behind s.mode; form = form_of s.mode })
+
+-- how many octets are kept of it
+abbrev pub held_in : Known → ℕ
+held_in s = if is_idle s.mode then 0 else length s.kept
+
+-- how many octets were used since it began
+abbrev pub open_in : Known → ℕ
+open_in s = if is_idle s.mode then 0 else s.used - s.start
+
+-- what an octet shows that is used and ends no token
+abbrev pub foresight_by : Form → Foresight
+foresight_by forms.Other = foresights.Other
+foresight_by _ = foresights.Long
+
+-- what one shows that is the last of a token
+abbrev pub foresight_at : TokenKind → Foresight
+foresight_at (kinds.Mark marks.Colons) = foresights.Colons
+foresight_at kinds.LongString = foresights.Long
+foresight_at _ = foresights.Other
+
+-- what one shows before which a token ended
+abbrev pub foresight_behind : TokenKind → Foresight
+foresight_behind kinds.QuotedSymbol = foresights.Empty
+foresight_behind _ = foresights.Other
+
+-- what an octet of which this comes shows of a token that may go on
+abbrev pub foresight : Outcome → Foresight
+foresight (Next s) = if is_idle s.mode then foresights.Blank else foresight_by (form_of s.mode)
+foresight (Given l s) = foresight_at l.kind
+foresight (Left l s) = foresight_behind l.kind
+foresight (Refused at reason) = foresights.Other
