@@ -12,11 +12,14 @@ use ion_model::{Outline, Refusal, Value};
 use ion_symtab::{Fault, Inlet, Items, Outlet, flushed, write_whole};
 use std::alloc::{AllocError, Global};
 
-/// The line of a value: its index, kind, depth and number of nodes.
-fn line(alloc: Global, index: u64, outline: Outline) -> Result<String, AllocError>
-    ensures { IfOk result (λ text. string_bytes text ≡ line_of index outline) }
+/// Makes a text the line of a value: its index, kind, depth and number of nodes. One text is kept for all
+/// lines, so that they take its memory.
+fn set_line(text: &mut String, index: u64, outline: Outline) -> Result<(), AllocError>
+    ensures { OnOk result (string_bytes text.new ≡ line_of index outline) }
 {
-    format!(in alloc;
+    text.clear();
+    write!(
+        text,
         "{index} {} depth {} nodes {}\n",
         outline.kind.name(),
         outline.depth,
@@ -31,9 +34,9 @@ fn accepted(alloc: Global, values: u64) -> Result<String, AllocError>
     format!(in alloc; "accepted {values}\n")
 }
 
-/// Writes the line of a value.
+/// Writes the line of a value, which the text then is.
 fn write_line<W: Outlet>(
-    alloc: Global,
+    text: &mut String,
     writer: &mut W,
     index: u64,
     outline: Outline,
@@ -43,13 +46,13 @@ fn write_line<W: Outlet>(
         (line_of index outline)) }
     ensures cause { IfErr result (IsWriteCause W.Outlet writer.new) }
 {
-    let text = line(alloc, index, outline)?;
+    set_line(text, index, outline)?;
     write_whole(writer, text.as_bytes())
 }
 
 /// Writes the line of the value that the end showed, if there is one, and counts it.
 fn write_last<W: Outlet>(
-    alloc: Global,
+    text: &mut String,
     writer: &mut W,
     values: u64,
     value: Option<Value>,
@@ -65,7 +68,7 @@ fn write_last<W: Outlet>(
     match value {
         None => Ok(values),
         Some(value) => {
-            write_line(alloc, writer, values + 1, value.outline())?;
+            write_line(text, writer, values + 1, value.outline())?;
             Ok(values + 1)
         }
     }
@@ -111,11 +114,12 @@ pub fn show_items<I: Items + Drop, R: Inlet, W: Outlet>(
         ⊎ IsWriteCause W.Outlet writer.new fault) }
 {
     let mut source = Source::new(alloc, items, reads)?;
+    let mut text = String::new(alloc);
     let mut values: u64 = 0;
     loop {
         match source.pass_on(reader)? {
             Reached::Value(outline) => {
-                write_line(alloc, writer, values + 1, outline)?;
+                write_line(&mut text, writer, values + 1, outline)?;
                 values += 1;
             }
             Reached::Refused(refusal) => {
@@ -124,7 +128,7 @@ pub fn show_items<I: Items + Drop, R: Inlet, W: Outlet>(
             }
             Reached::End => {
                 let (place, found) = last(source)?;
-                values = write_last(alloc, writer, values, value_of(found))?;
+                values = write_last(&mut text, writer, values, value_of(found))?;
                 if let Standing::Refused(refusal) = place {
                     flushed(writer)?;
                     return Ok(Err(refusal));

@@ -13,6 +13,13 @@ use ion_model::Reason;
 pub fn read_var_uint(octets: &[u8]) -> Result<(u64, usize), Reason>
     ensures { result ≡ var_uint octets.now }
 {
+    if octets.is_empty() {
+        return Err(Reason::Incomplete);
+    }
+    // most have one octet
+    if octets[0] >= 128 {
+        return Ok((u64::from(octets[0] % 128), 1));
+    }
     read_rest(0, 0, octets)
 }
 

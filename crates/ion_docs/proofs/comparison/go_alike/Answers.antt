@@ -6,7 +6,7 @@ use Rattle.ion_docs.proofs.comparison.go_alike.Goals as goal
 pub returns-clause-goes : goal.returns-clause-goes
 returns-clause-goes g c = elim c.match-course.branch [
   | in-Alike-Open-Open+else-not-pass_alike w ↦
-    λ yes.
+      λ yes.
       let past = w.pass_alike.ensures.past (search rules) in
       rw (w.in-Alike-Open-Open.is-0, w.in-Alike-Open-Open.is-1, w.in-Alike-Open-Open.is-2, w.course-is, w.left-is, w.right-is)
       (record { value = past.0; left_past = past.1; right_past = past.2; met = (same-equiv.refl past.0, refl) })

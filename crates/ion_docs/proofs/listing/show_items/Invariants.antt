@@ -5,8 +5,8 @@ use Rattle.ion_docs.specs.reading.Read.{IsReady, IsWithin, work, Reads}
 use Rattle.ion_docs.specs.Listing.{lines_of}
 use Rattle.ion_docs.proofs.listing.show_items.Given as goal
 
-abbrev pub invariant-loop-source : goal.invariant-loop-source
-invariant-loop-source g l = record {
+abbrev pub invariant-loop-text : goal.invariant-loop-text
+invariant-loop-text g l = record {
   ready : IsReady g.I.Items l.source;
   bound : l.values + work g.I.Items l.source ≤ 8193 * 2 ^ 32;
   within : IsWithin g.R.Inlet l.fn.reads l.fn.reader l.reader l.source;
@@ -14,5 +14,5 @@ invariant-loop-source g l = record {
       × (length s ≡ l.values) × Took g.W.Outlet.took g.W.Outlet.written l.fn.writer l.writer (lines_of s);
 }
 
-abbrev pub decreases-loop-source : goal.decreases-loop-source
-decreases-loop-source g l = work g.I.Items l.source
+abbrev pub decreases-loop-text : goal.decreases-loop-text
+decreases-loop-text g l = work g.I.Items l.source
