@@ -3,7 +3,8 @@
 
 Both run `check`, `show`, `compare` (a document with itself) and `convert --to binary` and `--to text` over the documents
 of documents.py, and `check` over those of texts.py. Of each command and document it prints the least processor time that
-each program took in ROUNDS (usually 5) rounds, the second's over the first's, and the second's peak of memory.
+each program took in ROUNDS (usually 5) rounds, the second's over the first's, and the second's peak of memory, or the 14 MiB of
+the Python that starts it, where that is less.
 """
 import os
 import subprocess

@@ -46,6 +46,7 @@ impl BinaryReader<'_> {
         self.start = used;
         Some((count, tally.outline(depth)))
     }
+
     /// Takes up the octets of the value at the front of a piece and at the front of another reader's,
     /// where it is the same in both, without building it: how many octets of each. `None`, with nothing
     /// taken up, where `walk` of either would answer so, or the two are not seen to be the same.
