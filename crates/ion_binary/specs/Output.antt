@@ -10,6 +10,7 @@ use Rattle.ion_model.specs.declared.value.Payload.TheFolds.{fold-Value}
 use Rattle.ion_model.specs.Measures.{bare, annotated, field_of}
 use Rattle.ion_model.specs.Symbols.{symbol_same}
 use Rattle.ion_scalar.specs.binary.Spellings.{var_uint_octets, uint_octets, decimal_octets}
+use Rattle.ion_symtab.specs.Slots.{system_texts}
 use Rattle.ion_binary.specs.Grammar.{the_marker}
 use Rattle.ion_scalar.specs.binary.TimestampSpellings.{timestamp_octets}
 
@@ -20,18 +21,7 @@ Names = List (Option (List ℕ))
 
 -- those that every document begins with ("System Symbols")
 unfoldable pub system_names : Names
-system_names =
-    None
-    ∷ Some (codes "$ion")
-    ∷ Some (codes "$ion_1_0")
-    ∷ Some (codes "$ion_symbol_table")
-    ∷ Some (codes "name")
-    ∷ Some (codes "version")
-    ∷ Some (codes "imports")
-    ∷ Some (codes "symbols")
-    ∷ Some (codes "max_id")
-    ∷ Some (codes "$ion_shared_symbol_table")
-    ∷ []
+system_names = None ∷ map Some system_texts
 
 -- the id of a symbol
 abbrev pub id_of : Names → Option (List ℕ) → ℕ

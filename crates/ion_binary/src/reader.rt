@@ -26,7 +26,7 @@ mod whole;
 /// containers and the body of one scalar: a length that goes beyond its container or the limit on items
 /// is refused before any octet of what it counts. Local symbol tables change what symbol ids stand for
 /// and aren't given; a version marker sets that back to the system symbols.
-#[derive(Drop)]
+#[derive(Debug, Drop)]
 pub struct BinaryReader<'a> {
     alloc: Global,
     catalog: &'a Catalog,

@@ -53,7 +53,7 @@ pub enum Effect {
 }
 
 /// A container that isn't whole yet: the octet at which it ends, and what has come of it.
-#[derive(Drop)]
+#[derive(Debug, Drop)]
 pub enum Frame {
     /// The items of a list or an s-expression.
     Items {

@@ -32,7 +32,7 @@ const MARKER: [u8; 4] = [0xE0, 0x01, 0x00, 0xEA];
 ///
 /// Every length and number has the fewest octets. Before a value with symbols whose texts have no ids yet
 /// stands one local symbol table, which appends them in the order of their first use.
-#[derive(Drop)]
+#[derive(Debug, Drop)]
 pub struct BinaryWriter {
     alloc: Global,
     names: Names,

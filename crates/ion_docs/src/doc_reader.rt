@@ -16,7 +16,7 @@ use std::alloc::Global;
 const BINARY: u8 = 0xE0;
 
 /// What the octets so far are read as.
-#[derive(Drop)]
+#[derive(Debug, Drop)]
 enum Format<'a> {
     /// No octet has come.
     Unbegun,
@@ -27,7 +27,7 @@ enum Format<'a> {
 
 /// A reader of a document of either encoding: binary if its first octet is E0 (Ion 1.0, "Ion Binary
 /// Encoding", the binary version marker), text otherwise.
-#[derive(Drop)]
+#[derive(Debug, Drop)]
 pub struct DocReader<'a> {
     alloc: Global,
     catalog: &'a Catalog,

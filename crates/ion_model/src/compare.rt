@@ -1,12 +1,10 @@
 //! The order of values.
 ghost use Rattle.std.specs.Prelude.{◌≡◌};
 ghost use Rattle.std.specs.Cmp.Lexicographic.{slice_cmp};
-ghost use Rattle.ion_model.specs.Symbols.{symbol_cmp};
 ghost use Rattle.ion_model.specs.Order.{order, field_cmp, layer_cmp, heads_cmp};
 ghost use Rattle.ion_model.specs.Same.{scalar};
 ghost use Rattle.ion_model.specs.declared.value.Payload.TheViews.{out-Payload};
 
-use crate::symbol::Symbol;
 use crate::value::{Field, Payload, Value};
 use std::cmp::Ordering;
 
@@ -22,31 +20,12 @@ pub fn order(a: &Value, b: &Value) -> Ordering
     order_value(a, b)
 }
 
-fn order_symbols(a: &[Symbol], b: &[Symbol]) -> Ordering
-    ensures { result ≡ slice_cmp symbol_cmp a.now b.now }
-{
-    for (i, symbol) in a.iter().enumerate() {
-        if i == b.len() {
-            return Ordering::Greater;
-        }
-        match symbol.order(&b[i]) {
-            Ordering::Equal => {}
-            other => return other,
-        }
-    }
-    if a.len() < b.len() {
-        Ordering::Less
-    } else {
-        Ordering::Equal
-    }
-}
-
 #[cycle(order)]
 pub(crate) fn order_value(a: &Value, b: &Value) -> Ordering
     ensures { result ≡ order a.now b.now }
 {
     match order_payload(a, b) {
-        Ordering::Equal => order_symbols(a.annotations.as_slice(), b.annotations.as_slice()),
+        Ordering::Equal => a.annotations.as_slice().cmp(b.annotations.as_slice()),
         other => other,
     }
 }

@@ -1,6 +1,7 @@
 //! Values, as the Ion data model has them.
 ghost use Rattle.std.specs.Prelude.{◌≡◌};
 ghost use Rattle.ion_model.specs.Kinds.{kind_of, names_table, is_table};
+ghost use Rattle.ion_model.specs.Measures.{bare};
 
 use crate::decimal::Decimal;
 use crate::kind::Kind;
@@ -9,6 +10,7 @@ use crate::symbol::Symbol;
 use crate::text::{Bytes, Text};
 use crate::timestamp::Timestamp;
 use crate::whole::Whole;
+use std::alloc::Global;
 
 /// A value (Ion 1.0, "The Ion Data Model").
 ///
@@ -61,6 +63,17 @@ const _: () = prove!(size_of::<Value>() == 64);
 const _: () = prove!(size_of::<Field>() == 80);
 
 impl Value {
+    /// The value without annotations. Takes no memory.
+    #[inline(always)]
+    pub fn bare(alloc: Global, payload: Payload) -> Value
+        ensures { result ≡ bare payload }
+    {
+        Value {
+            annotations: Sequence::new(alloc),
+            payload,
+        }
+    }
+
     /// The kind of the value; a null has the kind that it is the null of. Takes no memory.
     pub fn kind(&self) -> Kind
         ensures { result ≡ kind_of self.now }

@@ -1,5 +1,5 @@
 -- Contexts: lists of slots, of which the first has the id 1 (Ion 1.0, "Symbols").
-use Rattle.std.specs.Prelude.{if◌then◌else◌, ℕ, ◌-◌, ◌==◌, List, [], ◌∷◌, Option, None, Some, Result, Ok, Err, codes, slice_get, length, ◌≡◌, refl}
+use Rattle.std.specs.Prelude.{if◌then◌else◌, ℕ, ◌-◌, ◌==◌, List, [], ◌∷◌, map, Option, None, Some, Result, Ok, Err, codes, slice_get, length, ◌≡◌, refl}
 use Rattle.ion_model.specs.declared.refusal.Reason.{Reason}
 use Rattle.ion_model.specs.declared.refusal.Reason.TheVariants as reasons
 
@@ -13,23 +13,27 @@ pub data Slot : Type 0 where
 abbrev pub greatest_id : ℕ
 greatest_id = 2147483647
 
--- the system slots, in which every document begins ("System Symbols")
-unfoldable pub system_slots : List Slot
-system_slots =
-    text (codes "$ion")
-    ∷ text (codes "$ion_1_0")
-    ∷ text (codes "$ion_symbol_table")
-    ∷ text (codes "name")
-    ∷ text (codes "version")
-    ∷ text (codes "imports")
-    ∷ text (codes "symbols")
-    ∷ text (codes "max_id")
-    ∷ text (codes "$ion_shared_symbol_table")
+-- the texts in which every document begins ("System Symbols")
+unfoldable pub system_texts : List (List ℕ)
+system_texts =
+    codes "$ion"
+    ∷ codes "$ion_1_0"
+    ∷ codes "$ion_symbol_table"
+    ∷ codes "name"
+    ∷ codes "version"
+    ∷ codes "imports"
+    ∷ codes "symbols"
+    ∷ codes "max_id"
+    ∷ codes "$ion_shared_symbol_table"
     ∷ []
+
+-- the system slots
+unfoldable pub system_slots : List Slot
+system_slots = map text system_texts
 
 -- there are nine
 pub nine_system_slots : length system_slots ≡ 9
-unfolding system_slots
+unfolding system_slots system_texts
 nine_system_slots = refl
 
 -- the symbol of a slot

@@ -41,8 +41,8 @@ impl Model for Context {
 // How many system slots there are.
 const SYSTEM_SLOTS: u32 = 9;
 
-// The texts of the system slots.
-const SYSTEM: [&str; 9] = [
+/// The texts of the system slots, from the id 1 on (Ion 1.0, "Symbols", "System Symbols").
+pub const SYSTEM_TEXTS: [&str; 9] = [
     "$ion",
     "$ion_1_0",
     "$ion_symbol_table",
@@ -57,12 +57,12 @@ const SYSTEM: [&str; 9] = [
 impl Context {
     /// The context of the system slots alone, in which every document begins (Ion 1.0, "Symbols",
     /// "System Symbols"). The only refusal is `Memory`.
-    #[tactic(auto, unfolding(crate::specs::Slots::system_slots))]
+    #[tactic(auto, unfolding(crate::specs::Slots::system_slots, crate::specs::Slots::system_texts))]
     pub fn system(alloc: Global) -> Result<Context, Reason>
         ensures { MatchResult result (λ c. c ≡ system_slots) (λ r. r ≡ reasons.Memory) }
     {
         let mut system = Vec::new(alloc);
-        for text in SYSTEM {
+        for text in SYSTEM_TEXTS {
             let symbol = Symbol::known(alloc, text)?;
             system.push(symbol)?;
         }

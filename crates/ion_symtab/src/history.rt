@@ -2,6 +2,7 @@
 ghost use Rattle.std.specs.Prelude.{◌≡◌, ℕ, List, [], ◌∷◌, ◌++◌, length};
 
 use boxcar::tag::{Names, Tag};
+use std::fmt::{self, Debug, Formatter};
 use std::marker::Model;
 
 /// Octets that went through a device, or other numbers that are to be remembered of it, in order.
@@ -19,6 +20,12 @@ impl Model for History {
     ghost Value = { List ℕ };
 
     ghost view = { λ history. history.tag.numbers };
+}
+
+impl Debug for History {
+    fn fmt<W: fmt::Write>(&self, f: &mut Formatter<W>) -> fmt::Result {
+        f.write_str("History")
+    }
 }
 
 /// A history, and octets behind it.

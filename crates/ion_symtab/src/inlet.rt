@@ -63,7 +63,7 @@ pub trait Inlet {
 
 /// A reader of std as a device: it tells the octets that the reader tells, and latches the first
 /// error, so that a reader that would go on behind it isn't asked again.
-#[derive(Drop)]
+#[derive(Debug, Drop)]
 pub struct FromRead<R> {
     /// The reader that is asked.
     inner: R,

@@ -21,12 +21,13 @@ mod symbols;
 mod writing;
 
 pub use catalog::Catalog;
-pub use context::Context;
+pub use context::{Context, SYSTEM_TEXTS};
 pub use fault::Fault;
 pub use history::History;
 pub use inlet::{Failed, FromRead, Inlet};
 pub use items::{Items, Passed, Step};
 pub use limits::Limits;
 pub use outlet::{Outlet, ToWrite};
+pub use segments::GREATEST_ID;
 pub use shared_table::SharedTable;
 pub use writing::{flushed, write_whole};

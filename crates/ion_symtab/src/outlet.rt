@@ -55,7 +55,7 @@ pub trait Outlet {
 
 /// A writer of std as a device: it passes on the octets, latches the first error, and takes a write
 /// of which no octet was taken as an error.
-#[derive(Drop)]
+#[derive(Debug, Drop)]
 pub struct ToWrite<W> {
     /// The writer that octets are passed on to.
     inner: W,

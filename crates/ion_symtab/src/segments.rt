@@ -17,8 +17,8 @@ use ion_model::{Payload, Reason, Symbol, Value};
 use std::alloc::Global;
 use std::marker::Model;
 
-/// The greatest id that a context may have, 2^31-1.
-pub(crate) const GREATEST_ID: u32 = 0x7FFF_FFFF;
+/// The greatest id that a symbol may have, 2^31-1.
+pub const GREATEST_ID: u32 = 0x7FFF_FFFF;
 
 /// Slots that one table gives.
 #[derive(Drop, Debug)]

@@ -31,7 +31,7 @@ mod whole;
 ///
 /// It keeps the open containers, and the octets of the token that is open. Local symbol tables change
 /// what symbol ids stand for and aren't given; a version marker sets that back to the system symbols.
-#[derive(Drop)]
+#[derive(Debug, Drop)]
 pub struct TextReader<'a> {
     alloc: Global,
     catalog: &'a Catalog,

@@ -15,7 +15,7 @@ use std::marker::Model;
 
 /// Writes values, one after another, as one text document: each value on a line of its own (Ion 1.0, "Ion
 /// Text Encoding"). Contracts see the fault that each call answers, if there is one.
-#[derive(Drop)]
+#[derive(Debug, Drop)]
 pub struct TextWriter {
     alloc: Global,
     /// The line that was written last; the next one takes its memory.

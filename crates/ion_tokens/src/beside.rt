@@ -16,13 +16,13 @@ use ion_model::Reason;
 use std::alloc::Global;
 
 /// Reads tokens beside a scanner; it keeps the octets of the last one.
-#[derive(Drop)]
+#[derive(Debug, Drop)]
 pub struct TokenReader {
     machine: Machine,
 }
 
 /// A token that was found whole.
-#[derive(Clone, Copy)]
+#[derive(Clone, Copy, Debug)]
 pub struct FoundToken {
     pub kind: TokenKind,
     /// How many octets it has.

@@ -27,7 +27,7 @@ use std::alloc::Global;
 ///
 /// Its tokens, its refusal and the totals of octets used at which the tokens come depend on the octets and the places
 /// alone, and not on how the octets are cut.
-#[derive(Drop)]
+#[derive(Debug, Drop)]
 pub struct Scanner {
     machine: Machine,
     /// The refusal that each call answers from now on.

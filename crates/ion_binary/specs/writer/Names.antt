@@ -8,7 +8,7 @@ use Rattle.std.proofs.lemmas.List.Sums.{prefix_len-le-length}
 use Rattle.std.proofs.lemmas.Slice.Eq.{bytes_eq-Decides}
 use Rattle.ion_model.specs.Symbols.{symbol_same}
 use Rattle.ion_model.specs.Kept.{IsText, AreTexts}
-use Rattle.ion_symtab.specs.Slots.{Slot, system_slots, slot_symbol, resolve}
+use Rattle.ion_symtab.specs.Slots.{Slot, system_texts, system_slots, slot_symbol, resolve}
 use Rattle.ion_symtab.specs.Next.{local_slot}
 use Rattle.ion_binary.specs.Output.{Names, system_names, id_of, with_name, with_names}
 use Rattle.ion_binary.specs.laws.writing.Written.{Resolves}
@@ -53,7 +53,7 @@ abbrev pub slots : Names → List Slot
 slots names = map local_slot (drop 1 names)
 
 pub slots_system : slots system_names ≡ system_slots
-unfolding system_names system_slots
+unfolding system_names system_slots system_texts
 slots_system = refl
 
 -- the first name is the symbol of unknown text

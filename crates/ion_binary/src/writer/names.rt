@@ -7,30 +7,14 @@ ghost use Rattle.ion_binary.specs.Writing.{IsNumberingFault};
 
 use super::guesses::Guesses;
 use ion_model::Symbol;
-use ion_symtab::Fault;
+use ion_symtab::{Fault, GREATEST_ID, SYSTEM_TEXTS};
 use std::alloc::Global;
 use std::collections::BTreeMap;
 use std::marker::Model;
 
-/// The greatest id that a symbol may have.
-const GREATEST_ID: usize = 0x7FFF_FFFF;
-
-/// The texts of the system symbols, from the id 1 on.
-const SYSTEM: [&str; 9] = [
-    "$ion",
-    "$ion_1_0",
-    "$ion_symbol_table",
-    "name",
-    "version",
-    "imports",
-    "symbols",
-    "max_id",
-    "$ion_shared_symbol_table",
-];
-
 /// Symbols by their ids. The symbol of unknown text has the id 0, and a text has one id. An id is found
 /// in an ordered map, so no choice of texts makes it slow; both share a text's memory.
-#[derive(Drop)]
+#[derive(Debug, Drop)]
 pub(crate) struct Names {
     symbols: Vec<Symbol>,
     ids: BTreeMap<Symbol, usize>,
@@ -50,7 +34,7 @@ impl Model for Names {
 
 impl Names {
     /// The symbols that every document begins with. The only fault is `Memory`.
-    #[tactic(auto, unfolding(crate::specs::Output::system_names))]
+    #[tactic(auto, unfolding(crate::specs::Output::system_names, ion_symtab::specs::Slots::system_texts))]
     pub(crate) fn system(alloc: Global) -> Result<Names, Fault>
         ensures { MatchResult result (λ n. n ≡ system_names) (λ f. f ≡ faults.Memory) }
     {
@@ -59,7 +43,7 @@ impl Names {
             ids: BTreeMap::new(alloc),
         };
         let _unknown = names.insert(Symbol::unknown())?;
-        names.insert_texts(alloc, &SYSTEM)?;
+        names.insert_texts(alloc, &SYSTEM_TEXTS)?;
         Ok(names)
     }
 
@@ -118,7 +102,7 @@ impl Names {
         ensures cause { IfErr result (IsNumberingFault (with_name self.old symbol.now)) }
     {
         let key = copy_of(symbol)?;
-        if self.symbols.len() > GREATEST_ID && !self.ids.contains_key(&key) {
+        if self.symbols.len() > GREATEST_ID as usize && !self.ids.contains_key(&key) {
             return Err(Fault::TooLarge);
         }
         self.insert(key)

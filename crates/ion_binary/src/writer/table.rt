@@ -32,7 +32,7 @@ fn field_of(alloc: Global, name: &str, payload: Payload) -> Result<Field, Fault>
 {
     Ok(Field {
         name: symbol_of(alloc, name)?,
-        value: bare(alloc, payload),
+        value: Value::bare(alloc, payload),
     })
 }
 
@@ -51,16 +51,7 @@ fn string_of(alloc: Global, symbol: &Symbol) -> Result<Value, Fault>
     ensures { MatchResult result (λ made. made ≡ string_value symbol.now) (λ f. f ≡ faults.Memory) }
 {
     let text = String::from_str(alloc, symbol.text().unwrap_or(""))?;
-    Ok(bare(alloc, Payload::Str(Text::from_string(text))))
-}
-
-fn bare(alloc: Global, payload: Payload) -> Value
-    ensures { result ≡ bare payload }
-{
-    Value {
-        annotations: Sequence::new(alloc),
-        payload,
-    }
+    Ok(Value::bare(alloc, Payload::Str(Text::from_string(text))))
 }
 
 fn symbol_of(alloc: Global, text: &str) -> Result<Symbol, Fault>

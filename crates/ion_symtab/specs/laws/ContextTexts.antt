@@ -12,7 +12,7 @@ use Rattle.ion_model.specs.declared.value.Payload.TheViews as views
 use Rattle.ion_model.specs.declared.value.Payload.TheOpen.{Payload-F}
 use Rattle.ion_model.specs.Measures.{Layer}
 use Rattle.ion_model.specs.Kept.{IsText, AreTexts, IsKept, kept, KeptPayload, kept_null, kept_truth, kept_int, kept_decimal, kept_timestamp, kept_symbol, kept_string, kept_clob, kept_blob, kept_list, kept_sexp, kept_fields, KeptItems, no_items, an_item, KeptFields, no_fields, a_field}
-use Rattle.ion_symtab.specs.Slots.{Slot, text, unknown, gap, greatest_id, system_slots, symbol_at, resolve}
+use Rattle.ion_symtab.specs.Slots.{Slot, text, unknown, gap, greatest_id, system_texts, system_slots, symbol_at, resolve}
 use Rattle.ion_symtab.specs.Fields.{is_text, values_of, at_most_one, only, elements_in, elements, table_name, count_of, version_of, layer_symbol, symbol_of}
 use Rattle.ion_symtab.specs.Tables.{Table, is_named, find, newer, newest}
 use Rattle.ion_symtab.specs.Next.{and_then, joined, appends, base, shared_slot, Import, import_slots, chosen, import_named, import_of, element_import, import_added, element_added, imported, local_slot, local_slots, extended, next_fields, next_layer, next}
@@ -152,9 +152,9 @@ local_texts [] h = tt
 local_texts (None ∷ ss) h = local_texts ss h.1
 local_texts (Some t ∷ ss) h = (h.0, local_texts ss h.1)
 
-pub system_texts : AreTextSlots system_slots
-unfolding system_slots lib.Utf8.encode
-system_texts = (
+pub system_are_texts : AreTextSlots system_slots
+unfolding system_slots system_texts lib.Utf8.encode
+system_are_texts = (
   (codes "$ion", (refl, refl)),
   (
     (codes "$ion_1_0", (refl, refl)),
@@ -258,7 +258,7 @@ extended_texts ts c imports symbols h k m =
 
 base_if : (b : Bool) (c : List Slot) → AreTextSlots c → AreTextSlots (if b then c else system_slots)
 base_if true c h = h
-base_if false c h = system_texts
+base_if false c h = system_are_texts
 
 then_value : (r : Result (Option Value) Reason) (f : Option Value → Result (List Slot) Reason) → KeptAnswer r → ((o : Option Value) → KeptOption o → TextAnswer (f o)) → TextAnswer (and_then r f)
 then_value (Ok o) f h k = k o h

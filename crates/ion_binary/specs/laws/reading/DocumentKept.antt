@@ -7,7 +7,7 @@ use Rattle.ion_model.specs.laws.Kept.{kept_last}
 use Rattle.ion_symtab.specs.declared.limits.Limits.{Limits}
 use Rattle.ion_symtab.specs.Slots.{Slot}
 use Rattle.ion_symtab.specs.Tables.{Table}
-use Rattle.ion_symtab.specs.laws.ContextTexts.{AreTextSlots, AreTextTables, TextAnswer, system_texts, next_texts}
+use Rattle.ion_symtab.specs.laws.ContextTexts.{AreTextSlots, AreTextTables, TextAnswer, system_are_texts, next_texts}
 use Rattle.ion_binary.specs.Grammar.{the_marker, Pieces, begins, marked, skips, turns, holds, Document}
 use Rattle.ion_binary.specs.Output.{bin_of}
 use Rattle.ion_binary.specs.laws.reading.GivesKept.{binary_kept}
@@ -16,8 +16,8 @@ use Rattle.ion_binary.specs.laws.writing.RoundTrip.{FitsIn, round_trip}
 
 module _ (g : List Table) (l : Limits) (h : AreTextTables g) where
   pub pieces_kept : (u : List ℕ) (s : List Value) (c : List Slot) → AreOctets u → Pieces g l u s c → AreKept s × AreTextSlots c
-  pieces_kept _ _ _ o begins = (tt, system_texts)
-  pieces_kept _ _ _ o (marked u s c p) = ((pieces_kept u s c (octets_front u the_marker o) p).0, system_texts)
+  pieces_kept _ _ _ o begins = (tt, system_are_texts)
+  pieces_kept _ _ _ o (marked u s c p) = ((pieces_kept u s c (octets_front u the_marker o) p).0, system_are_texts)
   pieces_kept _ _ _ o (skips u w s c p pad) = pieces_kept u s c (octets_front u w o) p
   pieces_kept _ _ _ o (turns u w s c d v p b t e deep long) =
       let k = pieces_kept u s c (octets_front u w o) p in

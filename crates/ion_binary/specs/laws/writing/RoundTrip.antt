@@ -6,7 +6,7 @@ use Rattle.ion_model.specs.Measures.{depth}
 use Rattle.ion_model.specs.Kept.{IsKept, AreKept}
 use Rattle.ion_symtab.specs.declared.limits.Limits.{Limits}
 use Rattle.ion_symtab.specs.declared.catalog.Catalog.{Catalog}
-use Rattle.ion_symtab.specs.Slots.{greatest_id}
+use Rattle.ion_symtab.specs.Slots.{greatest_id, system_texts}
 use Rattle.ion_symtab.specs.Promises.{NoTables}
 use Rattle.ion_binary.specs.Grammar.{the_marker, Pieces, begins, holds, Document}
 use Rattle.ion_binary.specs.Output.{Names, Progress, system_names, symbols_of, value_octets, table_octets, names_after, bin_from, bin_of}
@@ -78,7 +78,7 @@ module _ (g : Catalog) (l : Limits) where
   starts_system = tt
 
   among_system : AreAmong system_names table_symbols
-  unfolding system_names
+  unfolding system_names system_texts
   among_system = (refl, (refl, (refl, (refl, tt))))
 
   one_marker : (s : List Value) → AreKept s → NoTables s → FitsIn l s → Document g l (the_marker ++ bin_from (begun system_names) s) s

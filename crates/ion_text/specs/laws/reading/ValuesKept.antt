@@ -12,7 +12,7 @@ use Rattle.ion_symtab.specs.declared.limits.Limits.{Limits}
 use Rattle.ion_symtab.specs.Slots.{Slot}
 use Rattle.ion_symtab.specs.Tables.{Table}
 use Rattle.ion_symtab.specs.Promises.{NoTables}
-use Rattle.ion_symtab.specs.laws.ContextTexts.{AreTextSlots, AreTextTables, TextAnswer, system_texts, resolved_text, next_texts}
+use Rattle.ion_symtab.specs.laws.ContextTexts.{AreTextSlots, AreTextTables, TextAnswer, system_are_texts, resolved_text, next_texts}
 use Rattle.ion_tokens.specs.declared.mode.Place.{Place}
 use Rattle.ion_tokens.specs.Bodies.{Content}
 use Rattle.ion_tokens.specs.Lexed.{Placed}
@@ -110,8 +110,8 @@ module _ (g : List Table) (l : Limits) where
 
 module _ (g : List Table) (l : Limits) (tables : AreTextTables g) where
   pieces_kept : (ts : List Placed) (s : List Value) (c : List Slot) → AreLobsKept ts → Pieces g l ts s c → AreKept s × AreTextSlots c
-  pieces_kept _ _ _ k begins = (tt, system_texts)
-  pieces_kept _ _ _ k (marked ts s c t p a b) = ((pieces_kept ts s c (lobs_front ts (t ∷ []) k) p).0, system_texts)
+  pieces_kept _ _ _ k begins = (tt, system_are_texts)
+  pieces_kept _ _ _ k (marked ts s c t p a b) = ((pieces_kept ts s c (lobs_front ts (t ∷ []) k) p).0, system_are_texts)
   pieces_kept _ _ _ k (turns ts us s c d v p h table e deep long apart) =
       let q = pieces_kept ts s c (lobs_front ts us k) p in
       (q.0, subst TextAnswer e (next_texts c v g tables q.1 (means_kept c q.1 _ us v (lobs_rest ts us k) h)))
