@@ -5,6 +5,7 @@ mod documents;
 mod words;
 
 use crate::run::run;
+use crate::sources::Sources;
 use devices::{FrailShelf, Shelf};
 use ion_devices::FrailWriter;
 use ion_symtab::ToWrite;
@@ -19,6 +20,46 @@ struct Row {
     out: &'static str,
     err: &'static str,
     status: u8,
+}
+
+/// What has to come of words: what goes to the output and to the errors, and the status.
+#[derive(Clone, Copy)]
+struct Wanted<'a> {
+    out: &'a [u8],
+    err: &'a str,
+    status: u8,
+}
+
+impl Row {
+    fn wanted(&self) -> Wanted<'static> {
+        Wanted {
+            out: self.out.as_bytes(),
+            err: self.err,
+            status: self.status,
+        }
+    }
+}
+
+/// Runs the words over these documents.
+fn ends_so<N: Sources>(
+    rt: &impl Abort,
+    alloc: Global,
+    sources: &mut N,
+    words: &[&str],
+    wanted: &Wanted<'_>,
+) {
+    let mut out = Vec::new(alloc);
+    let mut err = Vec::new(alloc);
+    let status = run(
+        alloc,
+        words,
+        sources,
+        &mut ToWrite::new(&mut out),
+        &mut ToWrite::new(&mut err),
+    );
+    assert_eq!(rt; err.as_slice(), wanted.err.as_bytes(), "{words:?}");
+    assert_eq!(rt; out.as_slice(), wanted.out, "{words:?}");
+    assert_eq!(rt; status, wanted.status, "{words:?}");
 }
 
 static FILES: [(&str, &[u8]); 16] = [
@@ -62,6 +103,13 @@ static FILES: [(&str, &[u8]); 16] = [
     ),
     ("number", b"\xE0\x01\x00\xEA\x21\x01"),
 ];
+
+/// The worked documents, each given whole.
+fn shelf() -> Shelf<'static> {
+    Shelf {
+        files: FILES.as_slice(),
+    }
+}
 
 static ROWS: [Row; 34] = [
     Row {
@@ -276,56 +324,11 @@ static ROWS: [Row; 34] = [
 const USAGE: &str =
     "usage: ion_cmd check|show|convert|compare FILE.. [--to text|binary] [--catalog FILE] [--depth N] [--item N]\n";
 
-static WRONG_WORDS: [&[&str]; 26] = [
-    &[""],
-    &["--help"],
-    &["-h"],
-    &["help"],
-    &["help", "check"],
-    &["--version"],
-    &["check", "list", "--help"],
-    &["check"],
-    &["check", "list", "list"],
-    &["compare", "list"],
-    &["compare", "list", "list", "list"],
-    &["check", "list", "--frob"],
-    &["check", "list", "--depth"],
-    &["check", "list", "--depth", "0"],
-    &["check", "list", "--depth", "129"],
-    &["check", "list", "--depth", "4294967297"],
-    &["check", "list", "--depth", "x"],
-    &["check", "list", "--depth", "3", "--depth", "3"],
-    &["check", "list", "--item", "0"],
-    &["check", "list", "--item", "1073741825"],
-    &["check", "list", "--to", "text"],
-    &["convert", "list"],
-    &["convert", "list", "--to", "Text"],
-    &["convert", "list", "--to", "text", "--to", "text"],
-    &["convert", "--to", "binary"],
-    &["list"],
-];
-
 #[test]
-fn rows(rt: HostRuntime) -> Result<(), Fail> {
-    let alloc = rt.alloc();
+fn rows(rt: HostRuntime) {
     for row in &ROWS {
-        let mut shelf = Shelf {
-            files: FILES.as_slice(),
-        };
-        let mut out = Vec::new(alloc);
-        let mut err = Vec::new(alloc);
-        let status = run(
-            alloc,
-            row.words,
-            &mut shelf,
-            &mut ToWrite::new(&mut out),
-            &mut ToWrite::new(&mut err),
-        );
-        assert_eq!(rt; status, row.status, "{:?}", row.words);
-        assert_eq!(rt; out.as_slice(), row.out.as_bytes(), "{:?}", row.words);
-        assert_eq!(rt; err.as_slice(), row.err.as_bytes(), "{:?}", row.words);
+        ends_so(&rt, rt.alloc(), &mut shelf(), row.words, &row.wanted());
     }
-    Ok(())
 }
 
 /// A document, what it is converted to, the octets that go out, the line of the errors and the
@@ -356,55 +359,33 @@ static CONVERTED: [Converted; 8] = [
 ];
 
 #[test]
-fn converts(rt: HostRuntime) -> Result<(), Fail> {
-    let alloc = rt.alloc();
-    for (name, target, wanted, line, ending) in &CONVERTED {
-        let mut shelf = Shelf {
-            files: FILES.as_slice(),
+fn converts(rt: HostRuntime) {
+    for (name, target, out, err, status) in &CONVERTED {
+        let words = ["convert", name, "--to", target];
+        let wanted = Wanted {
+            out,
+            err,
+            status: *status,
         };
-        let mut out = Vec::new(alloc);
-        let mut err = Vec::new(alloc);
-        let status = run(
-            alloc,
-            &["convert", name, "--to", target],
-            &mut shelf,
-            &mut ToWrite::new(&mut out),
-            &mut ToWrite::new(&mut err),
-        );
-        assert_eq!(rt; status, *ending, "{name} to {target}");
-        assert_eq!(rt; out.as_slice(), *wanted, "{name} to {target}");
-        assert_eq!(rt; err.as_slice(), line.as_bytes(), "{name} to {target}");
+        ends_so(&rt, rt.alloc(), &mut shelf(), words.as_slice(), &wanted);
     }
-    Ok(())
 }
 
-#[test]
-fn wrong_words(rt: HostRuntime) -> Result<(), Fail> {
-    let alloc = rt.alloc();
-    for words in &WRONG_WORDS {
-        let mut shelf = Shelf {
-            files: FILES.as_slice(),
-        };
-        let mut out = Vec::new(alloc);
-        let mut err = Vec::new(alloc);
-        let status = run(
-            alloc,
-            words,
-            &mut shelf,
-            &mut ToWrite::new(&mut out),
-            &mut ToWrite::new(&mut err),
-        );
-        assert_eq!(rt; status, 3, "{:?}", words);
-        assert_eq!(rt; out.as_slice(), b"".as_slice(), "{:?}", words);
-        assert_eq!(rt; err.as_slice(), USAGE.as_bytes(), "{:?}", words);
-    }
-    Ok(())
-}
+const FAILED_READ: Wanted<'static> = Wanted {
+    out: b"",
+    err: "fault Read\n",
+    status: 4,
+};
+
+const SAME: Wanted<'static> = Wanted {
+    out: b"equivalent 1\n",
+    err: "",
+    status: 0,
+};
 
 /// Each read of either document fails once; there are nine, the last of which answers the end.
 #[test]
-fn each_read_fails(rt: HostRuntime) -> Result<(), Fail> {
-    let alloc = rt.alloc();
+fn each_read_fails(rt: HostRuntime) {
     for fails in &["left", "right"] {
         for fails_at in 0..10 {
             let files = [("left", FILES[2].1), ("right", FILES[2].1)];
@@ -413,26 +394,16 @@ fn each_read_fails(rt: HostRuntime) -> Result<(), Fail> {
                 fails,
                 fails_at,
             };
-            let mut out = Vec::new(alloc);
-            let mut err = Vec::new(alloc);
-            let words = ["compare", "left", "right"];
-            let status = run(
-                alloc,
-                words.as_slice(),
+            let wanted = if fails_at < 9 { FAILED_READ } else { SAME };
+            ends_so(
+                &rt,
+                rt.alloc(),
                 &mut shelf,
-                &mut ToWrite::new(&mut out),
-                &mut ToWrite::new(&mut err),
+                &["compare", "left", "right"],
+                &wanted,
             );
-            if fails_at < 9 {
-                assert_eq!(rt; status, 4);
-                assert_eq!(rt; out.as_slice(), b"".as_slice());
-                assert_eq!(rt; err.as_slice(), b"fault Read\n".as_slice());
-            } else {
-                assert_eq!(rt; status, 0);
-            }
         }
     }
-    Ok(())
 }
 
 /// Each write of an octet to the output fails once, and so does the flush behind the last.
@@ -446,9 +417,7 @@ fn each_write_fails(rt: HostRuntime) -> Result<(), Fail> {
             row.out.len() as u64 + 1
         };
         for fails_at in 0..calls {
-            let mut shelf = Shelf {
-                files: FILES.as_slice(),
-            };
+            let mut shelf = shelf();
             let mut out = Vec::new(alloc);
             let mut err = Vec::new(alloc);
             let status = run(
@@ -486,9 +455,7 @@ fn each_write_fails(rt: HostRuntime) -> Result<(), Fail> {
 fn nothing_is_taken(rt: HostRuntime) -> Result<(), Fail> {
     let alloc = rt.alloc();
     for row in &ROWS {
-        let mut shelf = Shelf {
-            files: FILES.as_slice(),
-        };
+        let mut shelf = shelf();
         let mut out = Vec::new(alloc);
         let mut err = Vec::new(alloc);
         let status = run(
@@ -519,9 +486,7 @@ fn nothing_is_taken(rt: HostRuntime) -> Result<(), Fail> {
 /// The status of a row, whose lines are as long as they should be where memory sufficed. Takes no
 /// memory of its own.
 fn status_of(rt: &impl Abort, alloc: Global, row: &Row) -> u8 {
-    let mut shelf = Shelf {
-        files: FILES.as_slice(),
-    };
+    let mut shelf = shelf();
     let mut out_room = [0u8; 64];
     let mut err_room = [0u8; 256];
     let mut out = io::Cursor::new(out_room.as_mut_slice());

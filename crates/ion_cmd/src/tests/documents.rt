@@ -5,12 +5,10 @@ mod comparisons;
 mod listings;
 mod refusals;
 
-use crate::run::run;
-use crate::sources::Sources;
 use crate::tests::devices::{FrailShelf, Shelf};
+use crate::tests::{Wanted, ends_so};
 use answers::SINGLE;
 use comparisons::COMPARED;
-use ion_symtab::ToWrite;
 use listings::{ACCEPTED, Accepted};
 use refusals::{REFUSED, Refused};
 use std::alloc::{AllocError, Global};
@@ -36,50 +34,21 @@ static COMMANDS: [(&[&str], &[u8]); 4] = [
     (&["convert", "f", "--to", "binary"], b"\xE0\x01\x00\xEA"),
 ];
 
-/// What has to come of words: what goes to the output and to the errors, and the status.
-#[derive(Clone, Copy)]
-struct Wanted<'a> {
-    out: &'a [u8],
-    err: &'a str,
-    status: u8,
-}
-
 /// Runs the words over these documents, given whole and given one octet a call.
-fn ends_so(
+fn ends_both_ways(
     rt: &impl Abort,
     alloc: Global,
     files: &[(&str, &[u8])],
     words: &[&str],
     wanted: &Wanted<'_>,
 ) {
-    ends_once(rt, alloc, &mut Shelf { files }, words, wanted);
+    ends_so(rt, alloc, &mut Shelf { files }, words, wanted);
     let mut slow = FrailShelf {
         files,
         fails: "",
         fails_at: u64::MAX,
     };
-    ends_once(rt, alloc, &mut slow, words, wanted);
-}
-
-fn ends_once<N: Sources>(
-    rt: &impl Abort,
-    alloc: Global,
-    sources: &mut N,
-    words: &[&str],
-    wanted: &Wanted<'_>,
-) {
-    let mut out = Vec::new(alloc);
-    let mut err = Vec::new(alloc);
-    let status = run(
-        alloc,
-        words,
-        sources,
-        &mut ToWrite::new(&mut out),
-        &mut ToWrite::new(&mut err),
-    );
-    assert_eq!(rt; err.as_slice(), wanted.err.as_bytes(), "{words:?}");
-    assert_eq!(rt; out.as_slice(), wanted.out, "{words:?}");
-    assert_eq!(rt; status, wanted.status, "{words:?}");
+    ends_so(rt, alloc, &mut slow, words, wanted);
 }
 
 /// The words of a command, and those behind them.
@@ -103,7 +72,7 @@ fn makes(rt: &impl Abort, alloc: Global, document: &[u8], words: &[&str], wanted
         ("twice", TWICE),
         ("number", b"1".as_slice()),
     ];
-    ends_so(rt, alloc, files.as_slice(), words, wanted);
+    ends_both_ways(rt, alloc, files.as_slice(), words, wanted);
 }
 
 /// Each command refuses the document.
@@ -162,7 +131,7 @@ fn compared(rt: HostRuntime) -> Result<(), Fail> {
             err,
             status: *status,
         };
-        ends_so(&rt, alloc, files.as_slice(), words.as_slice(), &wanted);
+        ends_both_ways(&rt, alloc, files.as_slice(), words.as_slice(), &wanted);
     }
     Ok(())
 }

@@ -57,7 +57,7 @@ static WITH_OPTIONS: [Row; 3] = [
     },
 ];
 
-static REFUSED: [&[&str]; 28] = [
+static REFUSED: [&[&str]; 36] = [
     &["frob"],
     &["a"],
     &[""],
@@ -85,7 +85,15 @@ static REFUSED: [&[&str]; 28] = [
     &["compare", "-", "-"],
     &["check", "-", "--catalog=-"],
     &["check", "--help"],
+    &["check", "a", "--help"],
     &["--help"],
+    &["-h"],
+    &["help"],
+    &["help", "check"],
+    &["--version"],
+    &["check", "a", "--depth", "x"],
+    &["convert", "a", "--to", "Text"],
+    &["convert", "a", "--to", "text", "--to", "text"],
 ];
 
 #[test]
