@@ -2,7 +2,7 @@
 //! stands for the version marker `E0 01 00 EA`.
 use ion_devices::{FrailReader, FrailWriter, NEVER};
 use ion_docs::{Target, Verdict, check, compare, convert, show};
-use ion_model::{Kind, Payload, Sequence, Value, Whole};
+use ion_model::{Kind, Payload, Value, Whole};
 use ion_symtab::{Catalog, Fault, FromRead, Inlet, Limits, ToWrite};
 use ion_text::TextWriter;
 use std::alloc::Global;
@@ -58,10 +58,7 @@ fn int(alloc: Global, value: i128) -> Value {
         Some(whole) => Payload::Int(whole),
         None => Payload::Null(Kind::Int),
     };
-    Value {
-        annotations: Sequence::new(alloc),
-        payload,
-    }
+    Value::bare(alloc, payload)
 }
 
 /// How many values two documents have, where their streams are equivalent.

@@ -1,12 +1,9 @@
 //! Calls that get no memory once: each gives its own answer or `Memory`, keeps what it says that it keeps, and asked
 //! again gives its own answer. `tests/starved.py` refuses each growth in turn; elsewhere none is refused.
-use super::tables::{add, appending, importing, small, table};
-use ion_model::{
-    Field, Kind, Payload, Reason, Sequence, Symbol, Value, Whole, equivalent, normalise, parting,
-    same_slow,
-};
+use super::tables::{catalog, local, value};
+use ion_model::{Reason, equivalent, normalise, parting, same_slow};
 use ion_scalar::{Number, number_of, put_decimal, put_number, put_timestamp};
-use ion_symtab::Context;
+use ion_symtab::{Context, SharedTable};
 use std::alloc::Global;
 use std::process::Abort;
 
@@ -48,21 +45,26 @@ fn starved_scalars(rt: HostRuntime) {
     }
 }
 
+/// The shared table t 1 of x.
+const SHARED: &[u8] = b"$ion_shared_symbol_table::{name:\"t\",version:1,symbols:[\"x\"]}";
+
 /// A context takes up a table that imports, and one that appends. One that is refused leaves it as it was.
 fn applies(rt: &impl Abort, alloc: Global) -> Result<(), Reason> {
-    let tables = small(alloc)?;
-    let mut of = Vec::new(alloc);
-    of.push(importing(alloc, "t", None, None)?)?;
-    of.push(appending(alloc, &["a", "b"])?)?;
+    let tables = catalog(alloc, SHARED)?;
     let mut context = Context::system(alloc)?;
-    for table in &of {
+    let texts: [&[u8]; 2] = [
+        b"{imports:[{name:\"t\"}]}",
+        b"{imports:$ion_symbol_table,symbols:[\"a\",\"b\"]}",
+    ];
+    for text in texts {
+        let table = local(alloc, text)?;
         let before = context.max_id();
         if table.is_table()
-            && let Err(reason) = context.apply(table, &tables)
+            && let Err(reason) = context.apply(&table, &tables)
         {
             assert_eq!(rt; reason, Reason::Memory);
             assert_eq!(rt; context.max_id(), before);
-            context.apply(table, &tables)?;
+            context.apply(&table, &tables)?;
         }
     }
     assert_eq!(rt; context.max_id(), 12);
@@ -73,11 +75,14 @@ fn applies(rt: &impl Abort, alloc: Global) -> Result<(), Reason> {
 
 /// A catalog takes a table, or hands it back and is as it was.
 fn takes_tables(rt: &impl Abort, alloc: Global) -> Result<(), Reason> {
-    let mut tables = small(alloc)?;
-    if let Err((table, reason)) = tables.add(table(alloc, "u", 1, &["y"])?) {
+    let mut tables = catalog(alloc, SHARED)?;
+    let mut symbols = Vec::new(alloc);
+    symbols.push(Some(String::from_str(alloc, "y")?))?;
+    let added = SharedTable::new(alloc, String::from_str(alloc, "u")?, 1, symbols)?;
+    if let Err((table, reason)) = tables.add(added) {
         assert_eq!(rt; reason, Reason::Memory);
         assert!(rt; tables.find("u", 1).is_none());
-        add(&mut tables, table)?;
+        assert!(rt; tables.add(table).is_ok());
     }
     assert!(rt; tables.find("u", 1).is_some());
     assert!(rt; tables.find("t", 1).is_some());
@@ -90,48 +95,9 @@ fn starved_tables(rt: HostRuntime) {
     accepts(&rt, takes_tables(&rt, rt.alloc()));
 }
 
-fn bare(alloc: Global, payload: Payload) -> Value {
-    Value {
-        annotations: Sequence::new(alloc),
-        payload,
-    }
-}
-
-fn int(alloc: Global, n: i128) -> Value {
-    match Whole::new(n) {
-        Some(whole) => bare(alloc, Payload::Int(whole)),
-        None => bare(alloc, Payload::Null(Kind::Int)),
-    }
-}
-
-// The struct with a field more, or one of this field.
-fn with(alloc: Global, of: Value, name: &str, value: Value) -> Result<Value, Reason> {
-    let Value {
-        annotations: _annotations,
-        payload,
-    } = of;
-    let mut fields = match payload {
-        Payload::Fields(fields) => fields,
-        _other => Sequence::new(alloc),
-    };
-    let name = Symbol::known(alloc, name)?;
-    fields.push(Field { name, value })?;
-    Ok(bare(alloc, Payload::Fields(fields)))
-}
-
-fn one(alloc: Global, name: &str, value: Value) -> Result<Value, Reason> {
-    with(alloc, bare(alloc, Payload::Null(Kind::Fields)), name, value)
-}
-
-fn two(alloc: Global, a: &str, n: i128, b: &str, m: i128) -> Result<Value, Reason> {
-    with(alloc, one(alloc, a, int(alloc, n))?, b, int(alloc, m))
-}
-
 /// `{b:2,a:{x:1,y:2},a:0}`, its copy and its normal form are equivalent, and no path leads to where they part.
 fn normalises(rt: &impl Abort, alloc: Global) -> Result<(), Reason> {
-    let inner = two(alloc, "x", 1, "y", 2)?;
-    let outer = with(alloc, one(alloc, "b", int(alloc, 2))?, "a", inner)?;
-    let value = with(alloc, outer, "a", int(alloc, 0))?;
+    let value = value(alloc, b"{b:2,a:{x:1,y:2},a:0}")?;
     let normal = match normalise(alloc, value.copy(alloc)?) {
         Ok(normal) => normal,
         Err((back, reason)) => {
