@@ -5,7 +5,6 @@ use Rattle.ion_model.specs.declared.refusal.Reason.{Reason}
 use Rattle.ion_model.specs.declared.value.Value.{Value}
 use Rattle.ion_symtab.specs.declared.limits.Limits.{Limits}
 use Rattle.ion_symtab.specs.declared.catalog.Catalog.{Catalog}
-use Rattle.ion_symtab.specs.Slots.{Slot}
 use Rattle.ion_binary.specs.declared.form.Scalar.{Scalar}
 use Rattle.ion_binary.specs.declared.reader.BinaryReader.{BinaryReader}
 use Rattle.ion_binary.specs.declared.state.Effect.{Effect}
@@ -14,7 +13,7 @@ use Rattle.ion_binary.specs.declared.state.Frame.{Frame}
 use Rattle.ion_binary.specs.declared.state.Phase.{Phase}
 use Rattle.ion_binary.specs.declared.state.Phase.TheVariants.{InBody, InPad}
 use Rattle.ion_binary.specs.machine.Judge.{judge}
-use Rattle.ion_binary.specs.machine.EachOctet.{Machine, Outcome, at, in_body, judged}
+use Rattle.ion_binary.specs.machine.EachOctet.{Spot, under, moved, Machine, Outcome, at, in_body, judged}
 use Rattle.ion_binary.specs.laws.reading.Complete.{body_run}
 use Rattle.ion_binary.specs.machine.Run.{Run, run}
 use Rattle.ion_binary.specs.machine.Pieces.{led, after, then_run, run-append}
@@ -22,33 +21,33 @@ use Rattle.ion_binary.specs.machine.Views.{machine_of, body_so_far, Gave, GaveLa
 use Rattle.ion_binary.specs.machine.AtOnce.{body_goes, pad_goes}
 
 -- the machine of a reader with this phase and these octets in its memory
-abbrev pub with_phase : ℕ → ℕ → List Slot → List Frame → List ℕ → Phase → Machine
-with_phase used start c fs kept phase = record { used = used; start = start; context = c; frames = fs; phase = phase; body = body_so_far phase kept }
+abbrev pub with_phase : Spot → List Frame → List ℕ → Phase → Machine
+with_phase spot fs kept phase = record { spot = spot; frames = fs; phase = phase; body = body_so_far phase kept }
 
-module _ (g : Catalog) (l : Limits) (used start : ℕ) (c : List Slot) (fs : List Frame) (kept : List ℕ) where
+module _ (g : Catalog) (l : Limits) (spot : Spot) (fs : List Frame) (kept : List ℕ) where
   pub pad_led : (n k : ℕ) (phase : Phase) (piece : List ℕ) → phase ≡ InPad n → k ≤ length piece → k ≤ n →
-      run g l used (with_phase used start c fs kept phase) (take k piece) ≡ led (at (used + k) start c fs (InPad (n - k)))
+      run g l spot.used (with_phase spot fs kept phase) (take k piece) ≡ led (at (moved spot (spot.used + k)) fs (InPad (n - k)))
   pad_led n k phase piece e within few =
       let size : length (take k piece) ≡ k = length-take-le k piece within in
-      ap (λ p. run g l used (with_phase used start c fs kept p) (take k piece)) e
-      ∙ (pad_goes g l used start c fs n (take k piece) (omega arith)
-      ∙ ap (λ j. led (at (used + j) start c fs (InPad (n - j)))) size)
+      ap (λ p. run g l spot.used (with_phase spot fs kept p) (take k piece)) e
+      ∙ (pad_goes g l spot fs n (take k piece) (omega arith)
+      ∙ ap (λ j. led (at (moved spot (spot.used + j)) fs (InPad (n - j)))) size)
 
   pub body_led : (t : Scalar) (n k : ℕ) (phase : Phase) (piece : List ℕ) → phase ≡ InBody t n → k ≤ length piece → k ≤ n →
-      run g l used (with_phase used start c fs kept phase) (take k piece) ≡ led (in_body (used + k) start c fs t (n - k) (kept ++ take k piece))
+      run g l spot.used (with_phase spot fs kept phase) (take k piece) ≡ led (in_body (moved spot (spot.used + k)) fs t (n - k) (kept ++ take k piece))
   body_led t n k phase piece e within few =
       let size : length (take k piece) ≡ k = length-take-le k piece within in
-      ap (λ p. run g l used (with_phase used start c fs kept p) (take k piece)) e
-      ∙ (body_goes g l used start c fs t n kept (take k piece) (omega arith)
-      ∙ ap (λ j. led (in_body (used + j) start c fs t (n - j) (kept ++ take k piece))) size)
+      ap (λ p. run g l spot.used (with_phase spot fs kept p) (take k piece)) e
+      ∙ (body_goes g l spot fs t n kept (take k piece) (omega arith)
+      ∙ ap (λ j. led (in_body (moved spot (spot.used + j)) fs t (n - j) (kept ++ take k piece))) size)
 
   -- the body ends with these octets
   pub body_ends : (t : Scalar) (k : ℕ) (phase : Phase) (piece : List ℕ) → phase ≡ InBody t (k - 1) → 0 < k → k ≤ length piece →
-      run g l used (with_phase used start c fs kept phase) (take k piece) ≡ after (used + k) (judged g (used + k) start c fs (judge c t (kept ++ take k piece)))
+      run g l spot.used (with_phase spot fs kept phase) (take k piece) ≡ after (spot.used + k) (judged (under g l) (moved spot (spot.used + k)) fs (judge spot.context t (kept ++ take k piece)))
   body_ends t k phase piece e some within =
       let size : length (take k piece) ≡ k = length-take-le k piece within in
-      ap (λ p. run g l used (with_phase used start c fs kept p) (take k piece)) e
-      ∙ body_run g l used start c fs t (k - 1) kept (take k piece) (used + k) (omega arith) (omega arith)
+      ap (λ p. run g l spot.used (with_phase spot fs kept p) (take k piece)) e
+      ∙ body_run g l spot fs t (k - 1) kept (take k piece) (spot.used + k) (omega arith) (omega arith)
 
 -- a run that a method's outcome ends, where the method gave a value
 gave_last : (o : Outcome) (given : Option Value) (m : Machine) (ran : Run) (to : ℕ) → ran ≡ after to o → Gave o given m → GaveLast ran to given m

@@ -39,7 +39,7 @@ use Rattle.std.proofs.lemmas.Bool.{cond-false}
 use Rattle.ion_binary.specs.declared.state.Frame.{Frame}
 use Rattle.ion_binary.specs.declared.state.Phase.{Phase}
 use Rattle.ion_binary.specs.declared.state.Phase.TheVariants.{Ready}
-use Rattle.ion_binary.specs.machine.EachOctet.{at, deliver, gives, levels, unfit}
+use Rattle.ion_binary.specs.machine.EachOctet.{Spot, under, moved, anew, at, deliver, gives, levels, unfit}
 use Rattle.ion_binary.specs.machine.Run.{run, Advances}
 use Rattle.ion_binary.specs.machine.Pieces.{after}
 use Rattle.ion_binary.proofs.Insides.{with_phase}
@@ -238,18 +238,18 @@ outlined v w c level before after is small levels deep low none noted =
     ∙ (ap (λ x. record { kind = after.kind; depth = x; nodes = min (nodes v) (2 ^ 64 - 1) }) d ∙ ap (λ x. record { kind = after.kind; depth = level - after.level; nodes = x }) n)
 
 -- the machine over the octets of a value at the top level
-pub walk_gives : (g : Catalog) (l : Limits) (used start : ℕ) (c : List Slot) (fs : List Frame) (kept : List ℕ) (phase : Phase) (piece : List ℕ) (n : ℕ) → phase ≡ Ready → fs ≡ [] → n ≤ length piece → (v : Value) → Binary c (take n piece) v → depth v ≤ l.depth → is_table v ≡ false
-    → unfit l.item start fs forms.Wrapper (used + n) ≡ None
-    → Advances used (run g l used (with_phase used start c fs kept phase)) piece (Ok (record { used = n; value = Some v })) (with_phase (used + n) (used + n) c fs kept phase)
-walk_gives g l used start c fs kept phase piece n e none within v is deep given fits =
+pub walk_gives : (g : Catalog) (l : Limits) (spot : Spot) (fs : List Frame) (kept : List ℕ) (phase : Phase) (piece : List ℕ) (n : ℕ) → phase ≡ Ready → fs ≡ [] → n ≤ length piece → (v : Value) → Binary spot.context (take n piece) v → depth v ≤ l.depth → is_table v ≡ false
+    → unfit l.item spot.start fs forms.Wrapper (spot.used + n) ≡ None
+    → Advances spot.used (run g l spot.used (with_phase spot fs kept phase)) piece (Ok (record { used = n; value = Some v })) (with_phase (anew (spot.used + n) spot.context) fs kept phase)
+walk_gives g l spot fs kept phase piece n e none within v is deep given fits =
     let empty : levels fs ≡ 0 = ap levels none in
     let room : depth v + levels fs ≤ l.depth = omega (arith, empty, deep) in
-    let gives : deliver g (used + n) start c fs v ≡ gives v (at (used + n) (used + n) c fs Ready) =
+    let gives : deliver (under g l) (moved spot (spot.used + n)) fs v ≡ gives v (at (anew (spot.used + n) spot.context) fs Ready) =
     rw none (cond-false _ _ _ given) in (
       within,
       (
-        whole_some c piece n v is,
-        whole_runs g l used start c fs kept phase piece n v e within is fits room ∙ ap (after (used + n)) gives
-            ∙ ap (λ p. record { given = (v, used + n) ∷ []; now = Ok (with_phase (used + n) (used + n) c fs kept p) }) (sym e),
+        whole_some spot.context piece n v is,
+        whole_runs g l spot fs kept phase piece n v e within is fits room ∙ ap (after (spot.used + n)) gives
+            ∙ ap (λ p. record { given = (v, spot.used + n) ∷ []; now = Ok (with_phase (anew (spot.used + n) spot.context) fs kept p) }) (sym e),
       ),
     )

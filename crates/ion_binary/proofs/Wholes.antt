@@ -32,7 +32,7 @@ use Rattle.ion_binary.specs.Grammar.{Header, listed, IsScalar, Plain, is_null, i
 use Rattle.ion_binary.specs.machine.Framed.{Heads, Framed, IsListing, IsStruct, Wraps}
 use Rattle.ion_binary.specs.laws.reading.Stands.{depths, field_depths}
 use Rattle.ion_binary.specs.laws.reading.Complete.{depth-listed, depth-fields, depth-annotated, field_deepest-more, binary_run, binary_some}
-use Rattle.ion_binary.specs.machine.EachOctet.{deliver, levels, unfit, or_else, misfits, stray, nameless}
+use Rattle.ion_binary.specs.machine.EachOctet.{Spot, under, moved, deliver, levels, unfit, or_else, misfits, stray, nameless}
 use Rattle.ion_binary.specs.laws.reading.Sound.{ends_back, misfits_ends}
 use Rattle.ion_binary.specs.machine.Run.{run}
 use Rattle.ion_binary.specs.machine.Pieces.{after}
@@ -188,14 +188,14 @@ either_none : (o p : Option Reason) → or_else o p ≡ None → (o ≡ None) ×
 either_none None p h = (refl, h)
 either_none (Some e) p h = absurd cc
 
-pub whole_runs : (g : Catalog) (l : Limits) (used start : ℕ) (c : List Slot) (fs : List Frame) (kept : List ℕ) (phase : Phase) (piece : List ℕ) (n : ℕ) (v : Value) → phase ≡ Ready → n ≤ length piece → Binary c (take n piece) v → unfit l.item start fs forms.Wrapper (used + n) ≡ None → depth v + levels fs ≤ l.depth
-    → run g l used (with_phase used start c fs kept phase) (take n piece) ≡ after (used + n) (deliver g (used + n) start c fs v)
-whole_runs g l used start c fs kept phase piece n v e within b fits deep =
+pub whole_runs : (g : Catalog) (l : Limits) (spot : Spot) (fs : List Frame) (kept : List ℕ) (phase : Phase) (piece : List ℕ) (n : ℕ) (v : Value) → phase ≡ Ready → n ≤ length piece → Binary spot.context (take n piece) v → unfit l.item spot.start fs forms.Wrapper (spot.used + n) ≡ None → depth v + levels fs ≤ l.depth
+    → run g l spot.used (with_phase spot fs kept phase) (take n piece) ≡ after (spot.used + n) (deliver (under g l) (moved spot (spot.used + n)) fs v)
+whole_runs g l spot fs kept phase piece n v e within b fits deep =
     let size = length-take-le n piece within in
-    let first = either_none (stray fs forms.Wrapper) (or_else (misfits l.item start fs forms.Wrapper (used + n)) (nameless fs forms.Wrapper)) fits in
-    let rest = either_none (misfits l.item start fs forms.Wrapper (used + n)) (nameless fs forms.Wrapper) first.1 in
-    ap (λ p. run g l used (with_phase used start c fs kept p) (take n piece)) e
-    ∙ binary_run g l used start c fs (used + n) (take n piece) v b (record { fitting = first.0; named = rest.1 }) (omega arith) (ends_back l start fs forms.Wrapper (used + n) refl (misfits_ends l start fs forms.Wrapper (used + n) rest.0)) deep
+    let first = either_none (stray fs forms.Wrapper) (or_else (misfits l.item spot.start fs forms.Wrapper (spot.used + n)) (nameless fs forms.Wrapper)) fits in
+    let rest = either_none (misfits l.item spot.start fs forms.Wrapper (spot.used + n)) (nameless fs forms.Wrapper) first.1 in
+    ap (λ p. run g l spot.used (with_phase spot fs kept p) (take n piece)) e
+    ∙ binary_run g l spot fs (spot.used + n) (take n piece) v b (record { fitting = first.0; named = rest.1 }) (omega arith) (ends_back l spot.start fs forms.Wrapper (spot.used + n) refl (misfits_ends l spot.start fs forms.Wrapper (spot.used + n) rest.0)) deep
 
 pub whole_some : (c : List Slot) (piece : List ℕ) (n : ℕ) (v : Value) → Binary c (take n piece) v → 0 < n
 whole_some c piece n v b =

@@ -2,7 +2,7 @@
 ghost use Rattle.std.specs.Prelude.{◌≡◌, ◌+◌, ◌-◌, ◌<◌, ◌^◌};
 ghost use Rattle.ion_model.specs.Measures.{bare};
 ghost use Rattle.ion_binary.specs.machine.EachOctet.{marks, one_octet, on_descriptor, on_marker, feed};
-ghost use Rattle.ion_binary.specs.machine.Views.{machine_of, open_frames, Does, SameSetting};
+ghost use Rattle.ion_binary.specs.machine.Views.{setting_of, spot_of, machine_of, open_frames, Does, SameSetting};
 
 use crate::form::{Form, Opening, opening_of};
 use crate::state::{Effect, Frame, Mark, Phase};
@@ -63,7 +63,9 @@ impl BinaryReader<'_> {
 
     /// Delivers a value of one octet, for which there has to be room.
     fn one_octet(&mut self, payload: Payload) -> Result<Effect, Reason>
-        ensures does { Does (one_octet self.old.catalog.now self.old.limits.item self.old.used self.old.start self.old.context (open_frames self.old) payload) result self.new }
+        ensures does { Does
+            (one_octet (setting_of self.old) (spot_of self.old) (open_frames self.old) payload)
+            result self.new }
         ensures used { self.new.used ≡ self.old.used }
         ensures setting { SameSetting self.old self.new }
     {
@@ -78,7 +80,7 @@ impl BinaryReader<'_> {
 
     /// Begins a version marker behind its first octet; it stands at the top level alone.
     fn marks(&mut self) -> Result<Effect, Reason>
-        ensures does { Does (marks self.old.used self.old.start self.old.context (open_frames self.old)) result self.new }
+        ensures does { Does (marks (spot_of self.old) (open_frames self.old)) result self.new }
         ensures used { self.new.used ≡ self.old.used }
         ensures setting { SameSetting self.old self.new }
     {
@@ -92,7 +94,9 @@ impl BinaryReader<'_> {
     /// Takes up a descriptor, by what it opens.
     fn on_descriptor(&mut self, opening: Opening) -> Result<Effect, Reason>
         requires used { self.old.used < 2 ^ 63 }
-        ensures does { Does (on_descriptor self.old.catalog.now self.old.limits.depth self.old.limits.item self.old.used self.old.start self.old.context (open_frames self.old) opening) result self.new }
+        ensures does { Does
+            (on_descriptor (setting_of self.old) (spot_of self.old) (open_frames self.old) opening)
+            result self.new }
         ensures used { self.new.used ≡ self.old.used }
         ensures setting { SameSetting self.old self.new }
     {
@@ -110,7 +114,9 @@ impl BinaryReader<'_> {
     /// Streams"). Its fourth octet decides: a marker of another version is `Version`, and without EA
     /// it is none.
     fn on_marker(&mut self, mark: Mark, good: bool, octet: u8) -> Result<Effect, Reason>
-        ensures does { Does (on_marker self.old.used self.old.start self.old.context (open_frames self.old) mark good octet) result self.new }
+        ensures does { Does
+            (on_marker (spot_of self.old) (open_frames self.old) mark good octet)
+            result self.new }
         ensures used { self.new.used ≡ self.old.used }
         ensures setting { SameSetting self.old self.new }
     {
@@ -142,7 +148,9 @@ impl BinaryReader<'_> {
     /// machine.
     fn feed(&mut self, octet: u8) -> Result<Effect, Reason>
         requires used { self.old.used < 2 ^ 63 - 1 }
-        ensures does { Does (feed self.old.catalog.now self.old.limits (machine_of self.old) octet) result self.new }
+        ensures does { Does
+            (feed (setting_of self.old) (machine_of self.old) octet)
+            result self.new }
         ensures used { self.new.used ≡ self.old.used + 1 }
         ensures setting { SameSetting self.old self.new }
     {

@@ -29,12 +29,20 @@ use Rattle.ion_binary.specs.Opening.{opening_of}
 use Rattle.ion_binary.specs.Grammar.{listed}
 use Rattle.ion_binary.specs.machine.Judge.{judge}
 
--- `used` octets were taken up, the open piece of the top level begins at `start`, `context` are the slots of symbol ids there,
--- `frames` the open containers, the innermost first, and `body` the octets of a scalar so far
-pub record Machine : Type 0 where
+-- what stays: the shared tables that a document may import, and how much may come
+pub record Setting : Type 0 where
+  pub catalog : Catalog
+  pub limits : Limits
+
+-- `used` octets were taken up, the open piece of the top level begins at `start`, `context` are the slots of symbol ids there
+pub record Spot : Type 0 where
   pub used : ℕ
   pub start : ℕ
   pub context : List Slot
+
+-- where it stands, with `frames` the open containers, the innermost first, and `body` the octets of a scalar so far
+pub record Machine : Type 0 where
+  pub spot : Spot
   pub frames : List Frame
   pub phase : Phase
   pub body : List ℕ
@@ -44,14 +52,28 @@ pub data Outcome : Type 0 where
   gives : Value → Machine → Outcome
   refuses : Reason → Outcome
 
-abbrev pub at : ℕ → ℕ → List Slot → List Frame → Phase → Machine
-at used start c fs phase = record { used = used; start = start; context = c; frames = fs; phase = phase; body = [] }
+abbrev pub under : Catalog → Limits → Setting
+under g l = record { catalog = g; limits = l }
 
-abbrev pub in_body : ℕ → ℕ → List Slot → List Frame → Scalar → ℕ → List ℕ → Machine
-in_body used start c fs t missing body = record { used = used; start = start; context = c; frames = fs; phase = InBody t missing; body = body }
+abbrev pub spot_at : ℕ → ℕ → List Slot → Spot
+spot_at used start c = record { used = used; start = start; context = c }
+
+-- up to `used` octets in the same piece
+abbrev pub moved : Spot → ℕ → Spot
+moved spot used = record spot { used = used }
+
+-- a piece of the top level begins behind `used` octets
+abbrev pub anew : ℕ → List Slot → Spot
+anew used c = spot_at used used c
+
+abbrev pub at : Spot → List Frame → Phase → Machine
+at spot fs phase = record { spot = spot; frames = fs; phase = phase; body = [] }
+
+abbrev pub in_body : Spot → List Frame → Scalar → ℕ → List ℕ → Machine
+in_body spot fs t missing body = record { spot = spot; frames = fs; phase = InBody t missing; body = body }
 
 abbrev pub initial : Machine
-initial = at 0 0 system_slots [] (InMarker First true)
+initial = at (anew 0 system_slots) [] (InMarker First true)
 
 -- the octet at which a container ends
 abbrev pub end_of : Frame → ℕ
@@ -70,35 +92,37 @@ levels (frames.Named end ms name ∷ fs) = suc (levels fs)
 
 -- behind a local symbol table
 abbrev pub turned : ℕ → Result (List Slot) Reason → Outcome
-turned used (Ok d) = goes (at used used d [] Ready)
+turned used (Ok d) = goes (at (anew used d) [] Ready)
 turned used (Err e) = refuses e
 
 -- a value ends here, and with it each container that ends here
-abbrev pub deliver : Catalog → ℕ → ℕ → List Slot → List Frame → Value → Outcome
-deliver g used start c [] v = if is_table v then turned used (next c v g) else gives v (at used used c [] Ready)
-deliver g used start c (frames.Items end x vs ∷ fs) v =
-    if used == end then deliver g used start c fs (bare (listed x (vs ++ v ∷ [])))
-    else goes (at used start c (frames.Items end x (vs ++ v ∷ []) ∷ fs) Ready)
-deliver g used start c (frames.Fields end ms ∷ fs) v = refuses Malformed
-deliver g used start c (frames.Named end ms (Ok s) ∷ fs) v =
-    if used == end then deliver g used start c fs (bare (payloads.Fields (ms ++ field_of s v ∷ [])))
-    else goes (at used start c (frames.Fields end (ms ++ field_of s v ∷ []) ∷ fs) (InNumber purposes.FieldName 0))
-deliver g used start c (frames.Named end ms (Err e) ∷ fs) v = refuses e
-deliver g used start c (frames.Annotated end ss ∷ fs) v = deliver g used start c fs (annotated ss v.payload)
+abbrev pub deliver : Setting → Spot → List Frame → Value → Outcome
+deliver setting spot [] v =
+    if is_table v then turned spot.used (next spot.context v setting.catalog)
+    else gives v (at (anew spot.used spot.context) [] Ready)
+deliver setting spot (frames.Items end x vs ∷ fs) v =
+    if spot.used == end then deliver setting spot fs (bare (listed x (vs ++ v ∷ [])))
+    else goes (at spot (frames.Items end x (vs ++ v ∷ []) ∷ fs) Ready)
+deliver setting spot (frames.Fields end ms ∷ fs) v = refuses Malformed
+deliver setting spot (frames.Named end ms (Ok s) ∷ fs) v =
+    if spot.used == end then deliver setting spot fs (bare (payloads.Fields (ms ++ field_of s v ∷ [])))
+    else goes (at spot (frames.Fields end (ms ++ field_of s v ∷ []) ∷ fs) (InNumber purposes.FieldName 0))
+deliver setting spot (frames.Named end ms (Err e) ∷ fs) v = refuses e
+deliver setting spot (frames.Annotated end ss ∷ fs) v = deliver setting spot fs (annotated ss v.payload)
 
 -- what is no value ends here, or a container begins here; a struct goes on with the next field name
-abbrev pub proceed : Catalog → ℕ → ℕ → List Slot → List Frame → Outcome
-proceed g used start c [] = goes (at used used c [] Ready)
-proceed g used start c (frames.Items end x vs ∷ fs) =
-    if used == end then deliver g used start c fs (bare (listed x vs))
-    else goes (at used start c (frames.Items end x vs ∷ fs) Ready)
-proceed g used start c (frames.Fields end ms ∷ fs) =
-    if used == end then deliver g used start c fs (bare (payloads.Fields ms))
-    else goes (at used start c (frames.Fields end ms ∷ fs) (InNumber purposes.FieldName 0))
-proceed g used start c (frames.Named end ms name ∷ fs) =
-    if used == end then deliver g used start c fs (bare (payloads.Fields ms))
-    else goes (at used start c (frames.Fields end ms ∷ fs) (InNumber purposes.FieldName 0))
-proceed g used start c (frames.Annotated end ss ∷ fs) = refuses Malformed
+abbrev pub proceed : Setting → Spot → List Frame → Outcome
+proceed setting spot [] = goes (at (anew spot.used spot.context) [] Ready)
+proceed setting spot (frames.Items end x vs ∷ fs) =
+    if spot.used == end then deliver setting spot fs (bare (listed x vs))
+    else goes (at spot (frames.Items end x vs ∷ fs) Ready)
+proceed setting spot (frames.Fields end ms ∷ fs) =
+    if spot.used == end then deliver setting spot fs (bare (payloads.Fields ms))
+    else goes (at spot (frames.Fields end ms ∷ fs) (InNumber purposes.FieldName 0))
+proceed setting spot (frames.Named end ms name ∷ fs) =
+    if spot.used == end then deliver setting spot fs (bare (payloads.Fields ms))
+    else goes (at spot (frames.Fields end ms ∷ fs) (InNumber purposes.FieldName 0))
+proceed setting spot (frames.Annotated end ss ∷ fs) = refuses Malformed
 
 abbrev pub is_pad : Form → Bool
 is_pad forms.Pad = true
@@ -160,110 +184,130 @@ past item start fs (purposes.Annotation stop) used = if nat_lt used stop then No
 abbrev pub unfit : ℕ → ℕ → List Frame → Form → ℕ → Option Reason
 unfit item start fs form to = or_else (stray fs form) (or_else (misfits item start fs form to) (nameless fs form))
 
-abbrev pub judged : Catalog → ℕ → ℕ → List Slot → List Frame → Result Payload Reason → Outcome
-judged g used start c fs (Ok p) = deliver g used start c fs (bare p)
-judged g used start c fs (Err e) = refuses e
+abbrev pub judged : Setting → Spot → List Frame → Result Payload Reason → Outcome
+judged setting spot fs (Ok p) = deliver setting spot fs (bare p)
+judged setting spot fs (Err e) = refuses e
 
 -- one level more, if the limit admits it
 abbrev pub deeper : ℕ → List Frame → Outcome → Outcome
 deeper depth fs r = if nat_lt (levels fs) depth then r else refuses Depth
 
-abbrev pub open_struct : Catalog → ℕ → ℕ → ℕ → List Slot → List Frame → ℕ → Outcome
-open_struct g depth used start c fs n = deeper depth fs (proceed g used start c (frames.Fields (used + n) [] ∷ fs))
+abbrev pub open_struct : Setting → Spot → List Frame → ℕ → Outcome
+open_struct setting spot fs n = deeper setting.limits.depth fs (proceed setting spot (frames.Fields (spot.used + n) [] ∷ fs))
 
 -- a header has ended, and n octets of body follow
-abbrev pub begin : Catalog → ℕ → ℕ → ℕ → List Slot → List Frame → Form → ℕ → Outcome
-begin g depth used start c fs forms.Pad n = if n == 0 then proceed g used start c fs else goes (at used start c fs (InPad (n - 1)))
-begin g depth used start c fs (forms.Scalar t) n = if n == 0 then judged g used start c fs (judge c t []) else goes (in_body used start c fs t (n - 1) [])
-begin g depth used start c fs (forms.Listing x) n = deeper depth fs (proceed g used start c (frames.Items (used + n) x [] ∷ fs))
-begin g depth used start c fs forms.Struct n = open_struct g depth used start c fs n
-begin g depth used start c fs forms.OrderedStruct n = if n == 0 then refuses Malformed else open_struct g depth used start c fs n
-begin g depth used start c fs forms.Wrapper n = if n == 0 then refuses Malformed else goes (at used start c (frames.Annotated (used + n) [] ∷ fs) (InNumber purposes.AnnotationsLength 0))
+abbrev pub begin : Setting → Spot → List Frame → Form → ℕ → Outcome
+begin setting spot fs forms.Pad n = if n == 0 then proceed setting spot fs else goes (at spot fs (InPad (n - 1)))
+begin setting spot fs (forms.Scalar t) n =
+    if n == 0 then judged setting spot fs (judge spot.context t []) else goes (in_body spot fs t (n - 1) [])
+begin setting spot fs (forms.Listing x) n =
+    deeper setting.limits.depth fs (proceed setting spot (frames.Items (spot.used + n) x [] ∷ fs))
+begin setting spot fs forms.Struct n = open_struct setting spot fs n
+begin setting spot fs forms.OrderedStruct n = if n == 0 then refuses Malformed else open_struct setting spot fs n
+begin setting spot fs forms.Wrapper n =
+    if n == 0 then refuses Malformed
+    else goes (at spot (frames.Annotated (spot.used + n) [] ∷ fs) (InNumber purposes.AnnotationsLength 0))
 
 -- the same, if the body fits
-abbrev pub sized : Catalog → ℕ → ℕ → ℕ → ℕ → List Slot → List Frame → Form → ℕ → Outcome
-sized g depth item used start c fs form n = unless (unfit item start fs form (used + n)) (begin g depth used start c fs form n)
+abbrev pub sized : Setting → Spot → List Frame → Form → ℕ → Outcome
+sized setting spot fs form n =
+    unless (unfit setting.limits.item spot.start fs form (spot.used + n)) (begin setting spot fs form n)
 
 -- a VarUInt goes on
-abbrev pub longer : ℕ → ℕ → ℕ → List Slot → List Frame → Purpose → ℕ → Outcome
-longer item used start c fs p a = unless (past item start fs p used) (goes (at used start c fs (InNumber p a)))
+abbrev pub longer : Setting → Spot → List Frame → Purpose → ℕ → Outcome
+longer setting spot fs p a =
+    unless (past setting.limits.item spot.start fs p spot.used) (goes (at spot fs (InNumber p a)))
 
 -- the length of a form begins
-abbrev pub unsized : ℕ → ℕ → ℕ → List Slot → List Frame → Form → Outcome
-unsized item used start c fs form = unless (stray fs form) (unless (unending item start fs form used) (unless (nameless fs form) (goes (at used start c fs (InNumber (purposes.Length form) 0)))))
+abbrev pub unsized : Setting → Spot → List Frame → Form → Outcome
+unsized setting spot fs form =
+    unless (stray fs form)
+    (unless (unending setting.limits.item spot.start fs form spot.used)
+    (unless (nameless fs form) (goes (at spot fs (InNumber (purposes.Length form) 0)))))
 
-abbrev pub marks : ℕ → ℕ → List Slot → List Frame → Outcome
-marks used start c [] = goes (at used start c [] (InMarker Second true))
-marks used start c (f ∷ fs) = refuses Malformed
+abbrev pub marks : Spot → List Frame → Outcome
+marks spot [] = goes (at spot [] (InMarker Second true))
+marks spot (f ∷ fs) = refuses Malformed
 
 -- a value of one octet, to which the rules of any form that is no pad and no wrapper apply
-abbrev pub one_octet : Catalog → ℕ → ℕ → ℕ → List Slot → List Frame → Payload → Outcome
-one_octet g item used start c fs p = unless (unfit item start fs forms.Struct used) (deliver g used start c fs (bare p))
+abbrev pub one_octet : Setting → Spot → List Frame → Payload → Outcome
+one_octet setting spot fs p =
+    unless (unfit setting.limits.item spot.start fs forms.Struct spot.used) (deliver setting spot fs (bare p))
 
-abbrev pub on_descriptor : Catalog → ℕ → ℕ → ℕ → ℕ → List Slot → List Frame → Opening → Outcome
-on_descriptor g depth item used start c fs (Refused reason) = refuses reason
-on_descriptor g depth item used start c fs Marker = marks used start c fs
-on_descriptor g depth item used start c fs (Null k) = one_octet g item used start c fs (payloads.Null k)
-on_descriptor g depth item used start c fs (Truth b) = one_octet g item used start c fs (payloads.Truth b)
-on_descriptor g depth item used start c fs (Sized form (Known n)) = sized g depth item used start c fs form n
-on_descriptor g depth item used start c fs (Sized form Follows) = unsized item used start c fs form
+abbrev pub on_descriptor : Setting → Spot → List Frame → Opening → Outcome
+on_descriptor setting spot fs (Refused reason) = refuses reason
+on_descriptor setting spot fs Marker = marks spot fs
+on_descriptor setting spot fs (Null k) = one_octet setting spot fs (payloads.Null k)
+on_descriptor setting spot fs (Truth b) = one_octet setting spot fs (payloads.Truth b)
+on_descriptor setting spot fs (Sized form (Known n)) = sized setting spot fs form n
+on_descriptor setting spot fs (Sized form Follows) = unsized setting spot fs form
 
 -- the id of a field name has come
-abbrev pub name_came : ℕ → ℕ → List Slot → List Frame → ℕ → Outcome
-name_came used start c (frames.Fields end ms ∷ fs) id = if nat_lt used end then goes (at used start c (frames.Named end ms (resolve c id) ∷ fs) Ready) else refuses Malformed
-name_came used start c _ id = refuses Malformed
+abbrev pub name_came : Spot → List Frame → ℕ → Outcome
+name_came spot (frames.Fields end ms ∷ fs) id =
+    if nat_lt spot.used end then goes (at spot (frames.Named end ms (resolve spot.context id) ∷ fs) Ready)
+    else refuses Malformed
+name_came spot _ id = refuses Malformed
 
 -- the number of the octets of annotations has come: there is one at least, and one behind them
-abbrev pub count_came : ℕ → ℕ → List Slot → List Frame → ℕ → Outcome
-count_came used start c (frames.Annotated end ss ∷ fs) n =
+abbrev pub count_came : Spot → List Frame → ℕ → Outcome
+count_came spot (frames.Annotated end ss ∷ fs) n =
     if n == 0 then refuses Malformed
-    else if nat_lt (used + n) end then goes (at used start c (frames.Annotated end ss ∷ fs) (InNumber (purposes.Annotation (used + n)) 0)) else refuses Malformed
-count_came used start c _ n = refuses Malformed
+    else if nat_lt (spot.used + n) end
+    then goes (at spot (frames.Annotated end ss ∷ fs) (InNumber (purposes.Annotation (spot.used + n)) 0))
+    else refuses Malformed
+count_came spot _ n = refuses Malformed
 
 -- the id of an annotation has come
-abbrev pub annotation_came : ℕ → ℕ → List Slot → List Frame → ℕ → Result (Option (List ℕ)) Reason → Outcome
-annotation_came used start c (frames.Annotated end ss ∷ fs) stop (Ok s) =
-    goes (at used start c (frames.Annotated end (ss ++ s ∷ []) ∷ fs) (if used == stop then Ready else InNumber (purposes.Annotation stop) 0))
-annotation_came used start c (frames.Annotated end ss ∷ fs) stop (Err e) = refuses e
-annotation_came used start c _ stop r = refuses Malformed
+abbrev pub annotation_came : Spot → List Frame → ℕ → Result (Option (List ℕ)) Reason → Outcome
+annotation_came spot (frames.Annotated end ss ∷ fs) stop (Ok s) =
+    goes (at spot (frames.Annotated end (ss ++ s ∷ []) ∷ fs)
+    (if spot.used == stop then Ready else InNumber (purposes.Annotation stop) 0))
+annotation_came spot (frames.Annotated end ss ∷ fs) stop (Err e) = refuses e
+annotation_came spot _ stop r = refuses Malformed
 
 -- a VarUInt has ended
-abbrev pub number_came : Catalog → ℕ → ℕ → ℕ → ℕ → List Slot → List Frame → Purpose → ℕ → Outcome
-number_came g depth item used start c fs (purposes.Length form) n = sized g depth item used start c fs form n
-number_came g depth item used start c fs purposes.FieldName n = name_came used start c fs n
-number_came g depth item used start c fs purposes.AnnotationsLength n = count_came used start c fs n
-number_came g depth item used start c fs (purposes.Annotation stop) n = annotation_came used start c fs stop (resolve c n)
+abbrev pub number_came : Setting → Spot → List Frame → Purpose → ℕ → Outcome
+number_came setting spot fs (purposes.Length form) n = sized setting spot fs form n
+number_came setting spot fs purposes.FieldName n = name_came spot fs n
+number_came setting spot fs purposes.AnnotationsLength n = count_came spot fs n
+number_came setting spot fs (purposes.Annotation stop) n = annotation_came spot fs stop (resolve spot.context n)
 
 -- an octet of a VarUInt whose octets before it make a
-abbrev pub on_number : Catalog → ℕ → ℕ → ℕ → ℕ → List Slot → List Frame → Purpose → ℕ → ℕ → Outcome
-on_number g depth item used start c fs p a b =
+abbrev pub on_number : Setting → Spot → List Frame → Purpose → ℕ → ℕ → Outcome
+on_number setting spot fs p a b =
     if nat_lt b 128
-    then (if nat_lt (128 * a + b) (2 ^ 63) then longer item used start c fs p (128 * a + b) else refuses TooLarge)
-    else (if nat_lt (128 * a + (b - 128)) (2 ^ 63) then number_came g depth item used start c fs p (128 * a + (b - 128)) else refuses TooLarge)
+    then (if nat_lt (128 * a + b) (2 ^ 63) then longer setting spot fs p (128 * a + b) else refuses TooLarge)
+    else (if nat_lt (128 * a + (b - 128)) (2 ^ 63) then number_came setting spot fs p (128 * a + (b - 128)) else refuses TooLarge)
 
 -- an octet of a marker; good where those before it are as they should be
-abbrev pub on_marker : ℕ → ℕ → List Slot → List Frame → Mark → Bool → ℕ → Outcome
-on_marker used start c fs First good b = if b == 224 then goes (at used start c fs (InMarker Second good)) else refuses Malformed
-on_marker used start c fs Second good b = goes (at used start c fs (InMarker Third (good && (b == 1))))
-on_marker used start c fs Third good b = goes (at used start c fs (InMarker Fourth (good && (b == 0))))
-on_marker used start c fs Fourth good b =
-    if b == 234 then (if good then goes (at used used system_slots fs Ready) else refuses Version) else refuses Malformed
+abbrev pub on_marker : Spot → List Frame → Mark → Bool → ℕ → Outcome
+on_marker spot fs First good b = if b == 224 then goes (at spot fs (InMarker Second good)) else refuses Malformed
+on_marker spot fs Second good b = goes (at spot fs (InMarker Third (good && (b == 1))))
+on_marker spot fs Third good b = goes (at spot fs (InMarker Fourth (good && (b == 0))))
+on_marker spot fs Fourth good b =
+    if b == 234 then (if good then goes (at (anew spot.used system_slots) fs Ready) else refuses Version)
+    else refuses Malformed
 
-abbrev pub on_body : Catalog → ℕ → ℕ → List Slot → List Frame → Scalar → ℕ → List ℕ → ℕ → Outcome
-on_body g used start c fs t missing body b =
-    if missing == 0 then judged g used start c fs (judge c t (body ++ b ∷ []))
-    else goes (in_body used start c fs t (missing - 1) (body ++ b ∷ []))
+-- an octet of a scalar, with which these octets of its body have come
+abbrev pub on_body : Setting → Spot → List Frame → Scalar → ℕ → List ℕ → Outcome
+on_body setting spot fs t missing body =
+    if missing == 0 then judged setting spot fs (judge spot.context t body)
+    else goes (in_body spot fs t (missing - 1) body)
 
-abbrev pub on_pad : Catalog → ℕ → ℕ → List Slot → List Frame → ℕ → Outcome
-on_pad g used start c fs missing = if missing == 0 then proceed g used start c fs else goes (at used start c fs (InPad (missing - 1)))
+abbrev pub on_pad : Setting → Spot → List Frame → ℕ → Outcome
+on_pad setting spot fs missing = if missing == 0 then proceed setting spot fs else goes (at spot fs (InPad (missing - 1)))
 
--- the octet b is counted in `used` already
-abbrev pub on_phase : Catalog → ℕ → ℕ → ℕ → ℕ → List Slot → List Frame → List ℕ → Phase → ℕ → Outcome
-on_phase g depth item used start c fs body (InMarker m good) b = on_marker used start c fs m good b
-on_phase g depth item used start c fs body Ready b = on_descriptor g depth item used start c fs (opening_of b)
-on_phase g depth item used start c fs body (InNumber p a) b = on_number g depth item used start c fs p a b
-on_phase g depth item used start c fs body (InBody t missing) b = on_body g used start c fs t missing body b
-on_phase g depth item used start c fs body (InPad missing) b = on_pad g used start c fs missing
+-- an octet in a phase, which is counted already
+abbrev pub on_phase : Setting → Machine → Phase → ℕ → Outcome
+on_phase setting m (InMarker mark good) b = on_marker m.spot m.frames mark good b
+on_phase setting m Ready b = on_descriptor setting m.spot m.frames (opening_of b)
+on_phase setting m (InNumber p a) b = on_number setting m.spot m.frames p a b
+on_phase setting m (InBody t missing) b = on_body setting m.spot m.frames t missing (m.body ++ b ∷ [])
+on_phase setting m (InPad missing) b = on_pad setting m.spot m.frames missing
 
-abbrev pub feed : Catalog → Limits → Machine → ℕ → Outcome
-feed g l m b = on_phase g l.depth l.item (m.used + 1) m.start m.context m.frames m.body m.phase b
+abbrev pub counted : Machine → Machine
+counted m = record m { spot = moved m.spot (m.spot.used + 1) }
+
+abbrev pub feed : Setting → Machine → ℕ → Outcome
+feed setting m b = on_phase setting (counted m) m.phase b

@@ -4,7 +4,7 @@ use Rattle.ion_model.specs.declared.value.Value.{Value}
 use Rattle.ion_model.specs.declared.refusal.Refusal.{Refusal}
 use Rattle.ion_symtab.specs.declared.limits.Limits.{Limits}
 use Rattle.ion_symtab.specs.declared.catalog.Catalog.{Catalog}
-use Rattle.ion_binary.specs.machine.EachOctet.{Machine, Outcome, goes, gives, refuses, feed}
+use Rattle.ion_binary.specs.machine.EachOctet.{Machine, Outcome, goes, gives, refuses, under, feed}
 use Rattle.ion_binary.specs.machine.Run.{Run, run, run_on, with_value}
 
 abbrev pub on_now : List (Value × ℕ) → Result Machine Refusal → (Machine → Run) → Run
@@ -45,12 +45,12 @@ module _ (g : Catalog) (l : Limits) where
   -- a run over octets in two pieces is one run after the other
   pub run-append : (to mid : ℕ) (u w : List ℕ) → mid ≡ to + length u → (m : Machine) → run g l to m (u ++ w) ≡ then_run (run g l to m u) (λ n. run g l mid n w)
   run-append to mid [] w e m = ap (λ k. run g l k m w) (let i : to ≡ mid = omega arith in i)
-  run-append to mid (b ∷ bs) w e m = on_outcome (to + 1) mid bs w (run-append (to + 1) mid bs w (omega arith)) (feed g l m b)
+  run-append to mid (b ∷ bs) w e m = on_outcome (to + 1) mid bs w (run-append (to + 1) mid bs w (omega arith)) (feed (under g l) m b)
 
   pub run_via : (to mid : ℕ) (m n : Machine) (r : Run) (u w : List ℕ) → mid ≡ to + length u → run g l to m u ≡ led n → run g l mid n w ≡ r → run g l to m (u ++ w) ≡ r
   run_via to mid m n r u w e h k = run-append to mid u w e m ∙ (ap (λ x. then_run x (λ n. run g l mid n w)) h ∙ k)
 
-  pub run_step : (to mid : ℕ) (m n : Machine) (r : Run) (u : List ℕ) (b : ℕ) → mid ≡ to + length u → run g l to m u ≡ led n → after (mid + 1) (feed g l n b) ≡ r → run g l to m (u ++ b ∷ []) ≡ r
+  pub run_step : (to mid : ℕ) (m n : Machine) (r : Run) (u : List ℕ) (b : ℕ) → mid ≡ to + length u → run g l to m u ≡ led n → after (mid + 1) (feed (under g l) n b) ≡ r → run g l to m (u ++ b ∷ []) ≡ r
   run_step to mid m n r u b e h k = run_via to mid m n r u (b ∷ []) e h k
 
 pub length-one : (u : List ℕ) (b : ℕ) → length (u ++ b ∷ []) ≡ length u + 1

@@ -10,7 +10,7 @@ use Rattle.ion_symtab.specs.Trace.{Trace}
 use Rattle.ion_binary.specs.declared.state.Frame.{Frame}
 use Rattle.ion_binary.specs.declared.state.Phase.{Phase}
 use Rattle.ion_binary.specs.declared.state.Phase.TheVariants.{Ready}
-use Rattle.ion_binary.specs.machine.EachOctet.{Machine, Outcome, goes, gives, refuses, feed, initial}
+use Rattle.ion_binary.specs.machine.EachOctet.{Machine, Outcome, goes, gives, refuses, under, feed, initial}
 
 -- the values with the octets up to where each came, and the machine or the refusal at which the octets end
 pub record Run : Type 0 where
@@ -30,7 +30,7 @@ module _ (g : Catalog) (l : Limits) where
   -- behind `to` octets
   abbrev pub run : ℕ → Machine → List ℕ → Run
   run to m [] = record { given = []; now = Ok m }
-  run to m (b ∷ bs) = run_on (to + 1) (λ n. run (to + 1) n bs) (feed g l m b)
+  run to m (b ∷ bs) = run_on (to + 1) (λ n. run (to + 1) n bs) (feed (under g l) m b)
 
 -- Over this piece a step answered what a run from here says, and left the machine there.
 abbrev pub Advances : ℕ → (List ℕ → Run) → List ℕ → Result Step Refusal → Machine → Type 0
@@ -47,7 +47,7 @@ whole _ _ = false
 
 -- what the end answers
 abbrev pub at_end : Machine → Result (Option Value) Refusal
-at_end m = if whole m.phase m.frames then Ok None else Err (record { offset = m.used; reason = Incomplete })
+at_end m = if whole m.phase m.frames then Ok None else Err (record { offset = m.spot.used; reason = Incomplete })
 
 abbrev pub refused_of : Result Machine Refusal → Option Refusal
 refused_of (Ok m) = None

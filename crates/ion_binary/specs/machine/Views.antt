@@ -9,7 +9,7 @@ use Rattle.ion_binary.specs.declared.state.Frame.{Frame}
 use Rattle.ion_binary.specs.declared.state.Phase.{Phase}
 use Rattle.ion_binary.specs.declared.state.Phase.TheVariants.{InMarker, Ready, InNumber, InBody, InPad}
 use Rattle.ion_binary.specs.declared.reader.BinaryReader.{BinaryReader}
-use Rattle.ion_binary.specs.machine.EachOctet.{Machine, Outcome, goes, gives, refuses, initial, deliver}
+use Rattle.ion_binary.specs.machine.EachOctet.{Setting, Spot, under, spot_at, moved, Machine, Outcome, goes, gives, refuses, initial, deliver}
 use Rattle.ion_binary.specs.machine.Run.{Run, run}
 use Rattle.ion_binary.specs.machine.Pieces.{led}
 
@@ -25,9 +25,17 @@ body_so_far (InPad _) body = []
 abbrev pub open_frames : BinaryReader → List Frame
 open_frames r = reverse r.frames.items
 
+-- what stays of a reader
+abbrev pub setting_of : BinaryReader → Setting
+setting_of r = under r.catalog.now r.limits
+
+-- where a reader stands
+abbrev pub spot_of : BinaryReader → Spot
+spot_of r = spot_at r.used r.start r.context
+
 -- the machine that a reader holds
 abbrev pub machine_of : BinaryReader → Machine
-machine_of r = record { used = r.used; start = r.start; context = r.context; frames = open_frames r; phase = r.phase; body = body_so_far r.phase r.body.items }
+machine_of r = record { spot = spot_of r; frames = open_frames r; phase = r.phase; body = body_so_far r.phase r.body.items }
 
 -- the run of a reader's machine over octets
 abbrev pub run_of : BinaryReader → List ℕ → Run
@@ -35,7 +43,7 @@ run_of r w = run r.catalog.now r.limits r.used (machine_of r) w
 
 -- what a reader's machine does with a value that ends behind `to` octets
 abbrev pub delivers : BinaryReader → ℕ → Value → Outcome
-delivers r to v = deliver r.catalog.now to r.start r.context (open_frames r) v
+delivers r to v = deliver (setting_of r) (moved (spot_of r) to) (open_frames r) v
 
 -- the machine gave the value that is held
 abbrev pub Gave : Outcome → Option Value → Machine → Type 0
@@ -51,7 +59,7 @@ Does outcome (Err reason) r = reason ≢ Memory → outcome ≡ refuses reason
 -- a value was put into a container that is a value now, which is to be delivered, or that is open still, unless memory ran out
 abbrev pub Puts : Outcome → Result (Option Value) Reason → BinaryReader → Type 0
 Puts outcome (Ok None) r = outcome ≡ goes (machine_of r)
-Puts outcome (Ok (Some v)) r = outcome ≡ deliver r.catalog.now r.used r.start r.context (open_frames r) v
+Puts outcome (Ok (Some v)) r = outcome ≡ deliver (setting_of r) (spot_of r) (open_frames r) v
 Puts outcome (Err reason) r = reason ≢ Memory → outcome ≡ refuses reason
 
 -- a run over octets gave nothing more than the value that is held, with their last

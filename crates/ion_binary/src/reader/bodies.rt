@@ -1,11 +1,11 @@
 //! Bodies: of scalars, pads and containers.
-ghost use Rattle.std.specs.Prelude.{◌≡◌, ◌<◌, ◌^◌, Result};
+ghost use Rattle.std.specs.Prelude.{◌≡◌, ◌<◌, ◌^◌, [], ◌∷◌, ◌++◌, Result};
 ghost use Rattle.ion_model.specs.declared.refusal.Reason.{Reason};
 ghost use Rattle.ion_model.specs.declared.value.Payload.{Payload};
 ghost use Rattle.ion_symtab.specs.Outcome.{Gives};
 ghost use Rattle.ion_binary.specs.declared.form.Form.TheVariants as forms;
 ghost use Rattle.ion_binary.specs.machine.EachOctet.{judged, open_struct, begin, sized, on_body, on_pad};
-ghost use Rattle.ion_binary.specs.machine.Views.{open_frames, Does, SameSetting};
+ghost use Rattle.ion_binary.specs.machine.Views.{setting_of, spot_of, open_frames, Does, SameSetting};
 
 use super::BinaryReader;
 use crate::form::{Form, Listing, Scalar};
@@ -16,7 +16,9 @@ use ion_model::{Payload, Reason, Sequence};
 impl BinaryReader<'_> {
     /// Delivers the scalar that a body was judged to be.
     pub(super) fn judged(&mut self, answer: Result<Payload, Reason>) -> Result<Effect, Reason>
-        ensures does { (wanted : Result Payload Reason) → Gives wanted answer → Does (judged self.old.catalog.now self.old.used self.old.start self.old.context (open_frames self.old) wanted) result self.new }
+        ensures does { (wanted : Result Payload Reason) → Gives wanted answer → Does
+            (judged (setting_of self.old) (spot_of self.old) (open_frames self.old) wanted)
+            result self.new }
         ensures used { self.new.used ≡ self.old.used }
         ensures setting { SameSetting self.old self.new }
     {
@@ -33,7 +35,9 @@ impl BinaryReader<'_> {
     fn begin(&mut self, form: Form, size: u64) -> Result<Effect, Reason>
         requires used { self.old.used < 2 ^ 63 }
         requires size { size < 2 ^ 63 }
-        ensures does { Does (begin self.old.catalog.now self.old.limits.depth self.old.used self.old.start self.old.context (open_frames self.old) form size) result self.new }
+        ensures does { Does
+            (begin (setting_of self.old) (spot_of self.old) (open_frames self.old) form size)
+            result self.new }
         ensures used { self.new.used ≡ self.old.used }
         ensures setting { SameSetting self.old self.new }
     {
@@ -53,7 +57,9 @@ impl BinaryReader<'_> {
     }
 
     fn begin_pad(&mut self, size: u64) -> Result<Effect, Reason>
-        ensures does { Does (begin self.old.catalog.now self.old.limits.depth self.old.used self.old.start self.old.context (open_frames self.old) forms.Pad size) result self.new }
+        ensures does { Does
+            (begin (setting_of self.old) (spot_of self.old) (open_frames self.old) forms.Pad size)
+            result self.new }
         ensures used { self.new.used ≡ self.old.used }
         ensures setting { SameSetting self.old self.new }
     {
@@ -65,7 +71,10 @@ impl BinaryReader<'_> {
     }
 
     fn begin_scalar(&mut self, scalar: Scalar, size: u64) -> Result<Effect, Reason>
-        ensures does { Does (begin self.old.catalog.now self.old.limits.depth self.old.used self.old.start self.old.context (open_frames self.old) (forms.Scalar scalar) size) result self.new }
+        ensures does { Does
+            (begin (setting_of self.old) (spot_of self.old) (open_frames self.old)
+            (forms.Scalar scalar) size)
+            result self.new }
         ensures used { self.new.used ≡ self.old.used }
         ensures setting { SameSetting self.old self.new }
     {
@@ -81,7 +90,10 @@ impl BinaryReader<'_> {
     fn begin_listing(&mut self, listing: Listing, size: u64) -> Result<Effect, Reason>
         requires used { self.old.used < 2 ^ 63 }
         requires size { size < 2 ^ 63 }
-        ensures does { Does (begin self.old.catalog.now self.old.limits.depth self.old.used self.old.start self.old.context (open_frames self.old) (forms.Listing listing) size) result self.new }
+        ensures does { Does
+            (begin (setting_of self.old) (spot_of self.old) (open_frames self.old)
+            (forms.Listing listing) size)
+            result self.new }
         ensures used { self.new.used ≡ self.old.used }
         ensures setting { SameSetting self.old self.new }
     {
@@ -99,7 +111,9 @@ impl BinaryReader<'_> {
     fn begin_struct(&mut self, size: u64) -> Result<Effect, Reason>
         requires used { self.old.used < 2 ^ 63 }
         requires size { size < 2 ^ 63 }
-        ensures does { Does (open_struct self.old.catalog.now self.old.limits.depth self.old.used self.old.start self.old.context (open_frames self.old) size) result self.new }
+        ensures does { Does
+            (open_struct (setting_of self.old) (spot_of self.old) (open_frames self.old) size)
+            result self.new }
         ensures used { self.new.used ≡ self.old.used }
         ensures setting { SameSetting self.old self.new }
     {
@@ -116,7 +130,10 @@ impl BinaryReader<'_> {
     fn begin_wrapper(&mut self, size: u64) -> Result<Effect, Reason>
         requires used { self.old.used < 2 ^ 63 }
         requires size { size < 2 ^ 63 }
-        ensures does { Does (begin self.old.catalog.now self.old.limits.depth self.old.used self.old.start self.old.context (open_frames self.old) forms.Wrapper size) result self.new }
+        ensures does { Does
+            (begin (setting_of self.old) (spot_of self.old) (open_frames self.old)
+            forms.Wrapper size)
+            result self.new }
         ensures used { self.new.used ≡ self.old.used }
         ensures setting { SameSetting self.old self.new }
     {
@@ -135,7 +152,9 @@ impl BinaryReader<'_> {
     pub(super) fn sized(&mut self, form: Form, size: u64) -> Result<Effect, Reason>
         requires used { self.old.used < 2 ^ 63 }
         requires size { size < 2 ^ 63 }
-        ensures does { Does (sized self.old.catalog.now self.old.limits.depth self.old.limits.item self.old.used self.old.start self.old.context (open_frames self.old) form size) result self.new }
+        ensures does { Does
+            (sized (setting_of self.old) (spot_of self.old) (open_frames self.old) form size)
+            result self.new }
         ensures used { self.new.used ≡ self.old.used }
         ensures setting { SameSetting self.old self.new }
     {
@@ -152,7 +171,10 @@ impl BinaryReader<'_> {
         missing: u64,
         octet: u8,
     ) -> Result<Effect, Reason>
-        ensures does { Does (on_body self.old.catalog.now self.old.used self.old.start self.old.context (open_frames self.old) scalar missing self.old.body.items octet) result self.new }
+        ensures does { Does
+            (on_body (setting_of self.old) (spot_of self.old) (open_frames self.old)
+            scalar missing (self.old.body.items ++ octet ∷ []))
+            result self.new }
         ensures used { self.new.used ≡ self.old.used }
         ensures setting { SameSetting self.old self.new }
     {
@@ -167,7 +189,9 @@ impl BinaryReader<'_> {
 
     /// Takes up an octet of a pad.
     pub(super) fn on_pad(&mut self, missing: u64) -> Result<Effect, Reason>
-        ensures does { Does (on_pad self.old.catalog.now self.old.used self.old.start self.old.context (open_frames self.old) missing) result self.new }
+        ensures does { Does
+            (on_pad (setting_of self.old) (spot_of self.old) (open_frames self.old) missing)
+            result self.new }
         ensures used { self.new.used ≡ self.old.used }
         ensures setting { SameSetting self.old self.new }
     {

@@ -3,7 +3,7 @@ ghost use Rattle.std.specs.Prelude.{◌≡◌, [], ◌∷◌, IfOk, IfSome};
 ghost use Rattle.ion_model.specs.Measures.{bare};
 ghost use Rattle.ion_binary.specs.declared.state.Frame.TheVariants as frames;
 ghost use Rattle.ion_binary.specs.machine.EachOctet.{deliver, proceed};
-ghost use Rattle.ion_binary.specs.machine.Views.{open_frames, Does, Puts, SameSetting};
+ghost use Rattle.ion_binary.specs.machine.Views.{setting_of, spot_of, open_frames, Does, Puts, SameSetting};
 
 use super::BinaryReader;
 use crate::form::Listing;
@@ -14,7 +14,9 @@ use ion_model::{Field, Payload, Reason, Sequence, Symbol, Value};
 impl BinaryReader<'_> {
     /// Hands a whole value to the innermost container, and closes the containers that are whole then.
     pub(super) fn deliver(&mut self, value: Value) -> Result<Effect, Reason>
-        ensures does { Does (deliver self.old.catalog.now self.old.used self.old.start self.old.context (open_frames self.old) value) result self.new }
+        ensures does { Does
+            (deliver (setting_of self.old) (spot_of self.old) (open_frames self.old) value)
+            result self.new }
         ensures used { self.new.used ≡ self.old.used }
         ensures setting { SameSetting self.old self.new }
     {
@@ -33,7 +35,9 @@ impl BinaryReader<'_> {
     /// 1.0, "Symbols", "Local Symbol Tables").
     fn give(&mut self, value: Value) -> Result<Effect, Reason>
         requires top { open_frames self.old ≡ [] }
-        ensures does { Does (deliver self.old.catalog.now self.old.used self.old.start self.old.context [] value) result self.new }
+        ensures does { Does
+            (deliver (setting_of self.old) (spot_of self.old) [] value)
+            result self.new }
         ensures used { self.new.used ≡ self.old.used }
         ensures setting { SameSetting self.old self.new }
     {
@@ -52,8 +56,11 @@ impl BinaryReader<'_> {
     /// Puts a value into a container that was the innermost one: the container as a value if it is
     /// whole, else it is the innermost one again.
     fn put(&mut self, frame: Frame, value: Value) -> Result<Option<Value>, Reason>
-        ensures does { Puts (deliver self.old.catalog.now self.old.used self.old.start self.old.context (frame ∷ open_frames self.old) value) result self.new }
-        ensures frames { IfOk result (λ whole. IfSome whole (λ _. self.new.frames.items ≡ self.old.frames.items)) }
+        ensures does { Puts
+            (deliver (setting_of self.old) (spot_of self.old) (frame ∷ open_frames self.old) value)
+            result self.new }
+        ensures frames { IfOk result (λ whole. IfSome whole (λ _.
+            self.new.frames.items ≡ self.old.frames.items)) }
         ensures used { self.new.used ≡ self.old.used }
         ensures setting { SameSetting self.old self.new }
     {
@@ -80,8 +87,12 @@ impl BinaryReader<'_> {
         items: Sequence<Value>,
         item: Value,
     ) -> Result<Option<Value>, Reason>
-        ensures does { Puts (deliver self.old.catalog.now self.old.used self.old.start self.old.context (frames.Items end listing items ∷ open_frames self.old) item) result self.new }
-        ensures frames { IfOk result (λ whole. IfSome whole (λ _. self.new.frames.items ≡ self.old.frames.items)) }
+        ensures does { Puts
+            (deliver (setting_of self.old) (spot_of self.old)
+            (frames.Items end listing items ∷ open_frames self.old) item)
+            result self.new }
+        ensures frames { IfOk result (λ whole. IfSome whole (λ _.
+            self.new.frames.items ≡ self.old.frames.items)) }
         ensures used { self.new.used ≡ self.old.used }
         ensures setting { SameSetting self.old self.new }
     {
@@ -107,8 +118,12 @@ impl BinaryReader<'_> {
         name: Result<Symbol, Reason>,
         value: Value,
     ) -> Result<Option<Value>, Reason>
-        ensures does { Puts (deliver self.old.catalog.now self.old.used self.old.start self.old.context (frames.Named end fields name ∷ open_frames self.old) value) result self.new }
-        ensures frames { IfOk result (λ whole. IfSome whole (λ _. self.new.frames.items ≡ self.old.frames.items)) }
+        ensures does { Puts
+            (deliver (setting_of self.old) (spot_of self.old)
+            (frames.Named end fields name ∷ open_frames self.old) value)
+            result self.new }
+        ensures frames { IfOk result (λ whole. IfSome whole (λ _.
+            self.new.frames.items ≡ self.old.frames.items)) }
         ensures used { self.new.used ≡ self.old.used }
         ensures setting { SameSetting self.old self.new }
     {
@@ -126,7 +141,9 @@ impl BinaryReader<'_> {
     /// Goes on behind a pad, or into a container that begins. The innermost container may be whole
     /// here: where it is empty, or the pad was its last.
     pub(super) fn proceed(&mut self) -> Result<Effect, Reason>
-        ensures does { Does (proceed self.old.catalog.now self.old.used self.old.start self.old.context (open_frames self.old)) result self.new }
+        ensures does { Does
+            (proceed (setting_of self.old) (spot_of self.old) (open_frames self.old))
+            result self.new }
         ensures used { self.new.used ≡ self.old.used }
         ensures setting { SameSetting self.old self.new }
     {
@@ -142,7 +159,9 @@ impl BinaryReader<'_> {
 
     /// The same in a container that was the innermost one.
     fn proceed_in(&mut self, frame: Frame) -> Result<Effect, Reason>
-        ensures does { Does (proceed self.old.catalog.now self.old.used self.old.start self.old.context (frame ∷ open_frames self.old)) result self.new }
+        ensures does { Does
+            (proceed (setting_of self.old) (spot_of self.old) (frame ∷ open_frames self.old))
+            result self.new }
         ensures used { self.new.used ≡ self.old.used }
         ensures setting { SameSetting self.old self.new }
     {
@@ -165,7 +184,10 @@ impl BinaryReader<'_> {
         listing: Listing,
         items: Sequence<Value>,
     ) -> Result<Effect, Reason>
-        ensures does { Does (proceed self.old.catalog.now self.old.used self.old.start self.old.context (frames.Items end listing items ∷ open_frames self.old)) result self.new }
+        ensures does { Does
+            (proceed (setting_of self.old) (spot_of self.old)
+            (frames.Items end listing items ∷ open_frames self.old))
+            result self.new }
         ensures used { self.new.used ≡ self.old.used }
         ensures setting { SameSetting self.old self.new }
     {
@@ -184,7 +206,10 @@ impl BinaryReader<'_> {
 
     /// Goes on with the next field of a struct, or closes it.
     fn next_field(&mut self, end: u64, fields: Sequence<Field>) -> Result<Effect, Reason>
-        ensures does { Does (proceed self.old.catalog.now self.old.used self.old.start self.old.context (frames.Fields end fields ∷ open_frames self.old)) result self.new }
+        ensures does { Does
+            (proceed (setting_of self.old) (spot_of self.old)
+            (frames.Fields end fields ∷ open_frames self.old))
+            result self.new }
         ensures used { self.new.used ≡ self.old.used }
         ensures setting { SameSetting self.old self.new }
     {

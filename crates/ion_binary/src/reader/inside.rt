@@ -2,10 +2,9 @@
 ghost use Rattle.std.specs.Prelude.{◌≡◌, ◌+◌, ◌-◌, ◌≤◌, ◌<◌, ◌^◌, ◌++◌, true, length, take, IfOk, IfErr, IfSome};
 ghost use Rattle.ion_model.specs.declared.refusal.Reason.TheVariants.{Memory};
 ghost use Rattle.ion_binary.specs.machine.Judge.{judge};
-ghost use Rattle.ion_binary.specs.machine.EachOctet.{judged};
-ghost use Rattle.ion_binary.specs.machine.Run.{run};
+ghost use Rattle.ion_binary.specs.machine.EachOctet.{moved, judged};
 ghost use Rattle.ion_binary.specs.machine.Pieces.{led};
-ghost use Rattle.ion_binary.specs.machine.Views.{machine_of, open_frames, goes_on, Does, Took, SameSetting};
+ghost use Rattle.ion_binary.specs.machine.Views.{setting_of, spot_of, run_of, machine_of, open_frames, goes_on, Does, Took, SameSetting};
 ghost use Rattle.ion_binary.specs.declared.state.Phase.TheVariants as phases;
 
 use super::BinaryReader;
@@ -32,7 +31,7 @@ impl BinaryReader<'_> {
     pub(super) fn take_up(&mut self, piece: &[u8]) -> Result<(usize, Effect), Reason>
         requires room { self.old.used + length piece.now < 2 ^ 63 }
         requires some { 0 < length piece.now }
-        ensures does { Took self.old.used (run self.old.catalog.now self.old.limits self.old.used (machine_of self.old)) piece.now result self.new }
+        ensures does { Took self.old.used (run_of self.old) piece.now result self.new }
         ensures used { IfOk result (λ took. self.new.used ≡ self.old.used + took.0) }
         ensures setting { SameSetting self.old self.new }
     {
@@ -74,7 +73,10 @@ impl BinaryReader<'_> {
     /// stands.
     fn take_end(&mut self, scalar: Scalar, octets: &[u8]) -> Result<Effect, Reason>
         requires room { self.old.used + length octets.now < 2 ^ 63 }
-        ensures does { Does (judged self.old.catalog.now (self.old.used + length octets.now) self.old.start self.old.context (open_frames self.old) (judge self.old.context scalar (self.old.body.items ++ octets.now))) result self.new }
+        ensures does { Does
+            (judged (setting_of self.old) (moved (spot_of self.old) (self.old.used + length octets.now))
+            (open_frames self.old) (judge self.old.context scalar (self.old.body.items ++ octets.now)))
+            result self.new }
         ensures used { self.new.used ≡ self.old.used + length octets.now }
         ensures setting { SameSetting self.old self.new }
     {
@@ -96,7 +98,8 @@ impl BinaryReader<'_> {
         requires inside { goes_on self.old.phase ≡ true }
         ensures within { IfOk result (λ count. count ≤ length piece.now) }
         ensures some { IfOk result (λ count. 0 < count) }
-        ensures led { IfOk result (λ count. run self.old.catalog.now self.old.limits self.old.used (machine_of self.old) (take count piece.now) ≡ led (machine_of self.new)) }
+        ensures led { IfOk result (λ count.
+            run_of self.old (take count piece.now) ≡ led (machine_of self.new)) }
         ensures used { IfOk result (λ count. self.new.used ≡ self.old.used + count) }
         ensures memory { IfErr result (λ reason. reason ≡ Memory) }
         ensures setting { SameSetting self.old self.new }
@@ -116,7 +119,8 @@ impl BinaryReader<'_> {
         requires more { 0 < missing }
         ensures within { IfOk result (λ count. count ≤ length piece.now) }
         ensures some { IfOk result (λ count. 0 < count) }
-        ensures led { IfOk result (λ count. run self.old.catalog.now self.old.limits self.old.used (machine_of self.old) (take count piece.now) ≡ led (machine_of self.new)) }
+        ensures led { IfOk result (λ count.
+            run_of self.old (take count piece.now) ≡ led (machine_of self.new)) }
         ensures used { IfOk result (λ count. self.new.used ≡ self.old.used + count) }
         ensures memory { IfErr result (λ reason. reason ≡ Memory) }
         ensures setting { SameSetting self.old self.new }
@@ -136,7 +140,7 @@ impl BinaryReader<'_> {
         requires more { 0 < missing }
         ensures within { result ≤ length piece.now }
         ensures some { 0 < result }
-        ensures led { run self.old.catalog.now self.old.limits self.old.used (machine_of self.old) (take result piece.now) ≡ led (machine_of self.new) }
+        ensures led { run_of self.old (take result piece.now) ≡ led (machine_of self.new) }
         ensures used { self.new.used ≡ self.old.used + result }
         ensures setting { SameSetting self.old self.new }
     {

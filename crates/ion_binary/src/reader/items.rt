@@ -1,8 +1,8 @@
 //! The reader as `Items`: steps over pieces, and the end.
 ghost use Rattle.std.specs.Prelude.{◌≡◌, ◌+◌, ◌<◌, ◌^◌, [], length, IfOk, IfErr, None};
 ghost use Rattle.ion_model.specs.declared.refusal.Reason.TheVariants.{Memory};
-ghost use Rattle.ion_binary.specs.machine.Run.{run, whole, Advances};
-ghost use Rattle.ion_binary.specs.machine.Views.{machine_of, open_frames, SameSetting};
+ghost use Rattle.ion_binary.specs.machine.Run.{whole, Advances};
+ghost use Rattle.ion_binary.specs.machine.Views.{run_of, machine_of, open_frames, SameSetting};
 
 use super::BinaryReader;
 use crate::state::{Effect, Mark, Phase};
@@ -60,9 +60,11 @@ impl BinaryReader<'_> {
     /// decided; `Memory` has the octets of earlier steps.
     fn advance(&mut self, piece: &[u8]) -> Result<Step, Refusal>
         requires room { self.old.used + length piece.now < 2 ^ 63 }
-        ensures does { Advances self.old.used (run self.old.catalog.now self.old.limits self.old.used (machine_of self.old)) piece.now result (machine_of self.new) }
+        ensures does { Advances self.old.used (run_of self.old) piece.now
+            result (machine_of self.new) }
         ensures used { IfOk result (λ step. self.new.used ≡ self.old.used + step.used) }
-        ensures memory { IfErr result (λ refusal. refusal.reason ≡ Memory → refusal.offset ≡ self.old.used) }
+        ensures memory { IfErr result (λ refusal.
+            refusal.reason ≡ Memory → refusal.offset ≡ self.old.used) }
         ensures setting { SameSetting self.old self.new }
     {
         let before = self.used;

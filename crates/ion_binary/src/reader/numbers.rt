@@ -2,7 +2,7 @@
 ghost use Rattle.std.specs.Prelude.{◌≡◌, ◌<◌, ◌^◌, ◌∷◌};
 ghost use Rattle.ion_symtab.specs.Slots.{resolve};
 ghost use Rattle.ion_binary.specs.machine.EachOctet.{longer, unsized, name_came, count_came, annotation_came, number_came, on_number};
-ghost use Rattle.ion_binary.specs.machine.Views.{open_frames, Does, SameSetting};
+ghost use Rattle.ion_binary.specs.machine.Views.{setting_of, spot_of, open_frames, Does, SameSetting};
 
 use super::BinaryReader;
 use crate::form::Form;
@@ -12,7 +12,9 @@ use ion_model::{Reason, Sequence, Symbol};
 impl BinaryReader<'_> {
     /// Goes on in a VarUInt, whose octets make `so_far` up to here.
     fn longer(&mut self, purpose: Purpose, so_far: u64) -> Result<Effect, Reason>
-        ensures does { Does (longer self.old.limits.item self.old.used self.old.start self.old.context (open_frames self.old) purpose so_far) result self.new }
+        ensures does { Does
+            (longer (setting_of self.old) (spot_of self.old) (open_frames self.old) purpose so_far)
+            result self.new }
         ensures used { self.new.used ≡ self.old.used }
         ensures setting { SameSetting self.old self.new }
     {
@@ -27,7 +29,9 @@ impl BinaryReader<'_> {
 
     /// Begins the length of a form, if the form may stand here.
     pub(super) fn length_follows(&mut self, form: Form) -> Result<Effect, Reason>
-        ensures does { Does (unsized self.old.limits.item self.old.used self.old.start self.old.context (open_frames self.old) form) result self.new }
+        ensures does { Does
+            (unsized (setting_of self.old) (spot_of self.old) (open_frames self.old) form)
+            result self.new }
         ensures used { self.new.used ≡ self.old.used }
         ensures setting { SameSetting self.old self.new }
     {
@@ -53,7 +57,10 @@ impl BinaryReader<'_> {
         octet: u8,
     ) -> Result<Effect, Reason>
         requires used { self.old.used < 2 ^ 63 }
-        ensures does { Does (on_number self.old.catalog.now self.old.limits.depth self.old.limits.item self.old.used self.old.start self.old.context (open_frames self.old) purpose so_far octet) result self.new }
+        ensures does { Does
+            (on_number (setting_of self.old) (spot_of self.old) (open_frames self.old)
+            purpose so_far octet)
+            result self.new }
         ensures used { self.new.used ≡ self.old.used }
         ensures setting { SameSetting self.old self.new }
     {
@@ -70,7 +77,10 @@ impl BinaryReader<'_> {
     fn number_came(&mut self, purpose: Purpose, number: u64) -> Result<Effect, Reason>
         requires used { self.old.used < 2 ^ 63 }
         requires number { number < 2 ^ 63 }
-        ensures does { Does (number_came self.old.catalog.now self.old.limits.depth self.old.limits.item self.old.used self.old.start self.old.context (open_frames self.old) purpose number) result self.new }
+        ensures does { Does
+            (number_came (setting_of self.old) (spot_of self.old) (open_frames self.old)
+            purpose number)
+            result self.new }
         ensures used { self.new.used ≡ self.old.used }
         ensures setting { SameSetting self.old self.new }
     {
@@ -85,7 +95,9 @@ impl BinaryReader<'_> {
     /// Takes the id of a field name, behind which an octet has to be left of the struct. Whether the id
     /// has a symbol counts only if a value follows.
     fn name_came(&mut self, id: u64) -> Result<Effect, Reason>
-        ensures does { Does (name_came self.old.used self.old.start self.old.context (open_frames self.old) id) result self.new }
+        ensures does { Does
+            (name_came (spot_of self.old) (open_frames self.old) id)
+            result self.new }
         ensures used { self.new.used ≡ self.old.used }
         ensures setting { SameSetting self.old self.new }
     {
@@ -97,7 +109,9 @@ impl BinaryReader<'_> {
 
     /// The same in a container that was the innermost one.
     fn name_in(&mut self, frame: Frame, id: u64) -> Result<Effect, Reason>
-        ensures does { Does (name_came self.old.used self.old.start self.old.context (frame ∷ open_frames self.old) id) result self.new }
+        ensures does { Does
+            (name_came (spot_of self.old) (frame ∷ open_frames self.old) id)
+            result self.new }
         ensures used { self.new.used ≡ self.old.used }
         ensures setting { SameSetting self.old self.new }
     {
@@ -121,7 +135,9 @@ impl BinaryReader<'_> {
     fn count_came(&mut self, count: u64) -> Result<Effect, Reason>
         requires used { self.old.used < 2 ^ 63 }
         requires count { count < 2 ^ 63 }
-        ensures does { Does (count_came self.old.used self.old.start self.old.context (open_frames self.old) count) result self.new }
+        ensures does { Does
+            (count_came (spot_of self.old) (open_frames self.old) count)
+            result self.new }
         ensures used { self.new.used ≡ self.old.used }
         ensures setting { SameSetting self.old self.new }
     {
@@ -140,7 +156,10 @@ impl BinaryReader<'_> {
 
     /// Takes the id of an annotation; the annotations end at the octet `stop`.
     fn annotation_came(&mut self, stop: u64, id: u64) -> Result<Effect, Reason>
-        ensures does { Does (annotation_came self.old.used self.old.start self.old.context (open_frames self.old) stop (resolve self.old.context id)) result self.new }
+        ensures does { Does
+            (annotation_came (spot_of self.old) (open_frames self.old)
+            stop (resolve self.old.context id))
+            result self.new }
         ensures used { self.new.used ≡ self.old.used }
         ensures setting { SameSetting self.old self.new }
     {
@@ -152,7 +171,10 @@ impl BinaryReader<'_> {
 
     /// The same in a container that was the innermost one.
     fn annotation_in(&mut self, frame: Frame, stop: u64, id: u64) -> Result<Effect, Reason>
-        ensures does { Does (annotation_came self.old.used self.old.start self.old.context (frame ∷ open_frames self.old) stop (resolve self.old.context id)) result self.new }
+        ensures does { Does
+            (annotation_came (spot_of self.old) (frame ∷ open_frames self.old)
+            stop (resolve self.old.context id))
+            result self.new }
         ensures used { self.new.used ≡ self.old.used }
         ensures setting { SameSetting self.old self.new }
     {

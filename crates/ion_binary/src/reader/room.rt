@@ -54,7 +54,8 @@ impl BinaryReader<'_> {
     /// Why the body of a form may not end at the octet `to`: `ItemTooLong` at the top level, else
     /// `Malformed` behind the end of its container, and in a wrapper also before it.
     fn misfits(&self, form: Form, to: u64) -> Option<Reason>
-        ensures { result ≡ misfits self.now.limits.item self.now.start (open_frames self.now) form to }
+        ensures { result
+            ≡ misfits self.now.limits.item self.now.start (open_frames self.now) form to }
     {
         match self.frames.last() {
             None => self.too_long(form, to),
@@ -96,7 +97,8 @@ impl BinaryReader<'_> {
 
     /// Why a header that isn't whole may not go on: no octet is left of its container, or of the limit.
     pub(super) fn unending(&self, form: Form) -> Option<Reason>
-        ensures { result ≡ unending self.now.limits.item self.now.start (open_frames self.now) form self.now.used }
+        ensures { result ≡ unending self.now.limits.item self.now.start (open_frames self.now)
+            form self.now.used }
     {
         match self.frames.last() {
             None => self.too_long(form, self.used),
@@ -116,7 +118,8 @@ impl BinaryReader<'_> {
 
     /// Why a VarUInt may not go on.
     pub(super) fn past(&self, purpose: Purpose) -> Option<Reason>
-        ensures { result ≡ past self.now.limits.item self.now.start (open_frames self.now) purpose self.now.used }
+        ensures { result ≡ past self.now.limits.item self.now.start (open_frames self.now)
+            purpose self.now.used }
     {
         match purpose {
             Purpose::Length(form) => self.unending(form),
@@ -128,7 +131,8 @@ impl BinaryReader<'_> {
 
     /// Why a form whose body ends at the octet `to` may not stand here.
     pub(super) fn unfit(&self, form: Form, to: u64) -> Option<Reason>
-        ensures { result ≡ unfit self.now.limits.item self.now.start (open_frames self.now) form to }
+        ensures { result
+            ≡ unfit self.now.limits.item self.now.start (open_frames self.now) form to }
     {
         if let Some(reason) = self.stray(form) {
             return Some(reason);

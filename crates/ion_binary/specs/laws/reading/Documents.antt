@@ -11,7 +11,7 @@ use Rattle.ion_symtab.specs.Promises.{Spaced}
 use Rattle.ion_binary.specs.declared.form.Form.TheVariants as forms
 use Rattle.ion_binary.specs.declared.state.Phase.TheVariants.{Ready}
 use Rattle.ion_binary.specs.Grammar.{Pieces, begins, marked, skips, turns, holds, the_marker}
-use Rattle.ion_binary.specs.machine.EachOctet.{at, initial, turned}
+use Rattle.ion_binary.specs.machine.EachOctet.{anew, at, initial, turned}
 use Rattle.ion_binary.specs.machine.Run.{run}
 use Rattle.ion_binary.specs.machine.Pieces.{run-append, then_run, after}
 use Rattle.ion_binary.specs.laws.reading.Complete.{Admits, binary_run, skip_run, marker_run}
@@ -21,7 +21,7 @@ module _ (g : Catalog) (l : Limits) where
   -- what the octets of pieces lead to
   pub record Reads (w : List ℕ) (s : List Value) (c : List Slot) : Type 0 where
     pub given : List (Value × ℕ)
-    pub ran : run g l 0 initial w ≡ record { given = given; now = Ok (at (length w) (length w) c [] Ready) }
+    pub ran : run g l 0 initial w ≡ record { given = given; now = Ok (at (anew (length w) c) [] Ready) }
     pub gave : plain given ≡ s
     pub spaced : Spaced l.item 0 given (length w)
 
@@ -29,7 +29,7 @@ module _ (g : Catalog) (l : Limits) where
   longer_spaced u w given h = let k = length-append u w in spaced_on l.item 0 given (length u) (length (u ++ w)) h (omega arith)
 
   -- more behind pieces
-  behind : (u w : List ℕ) (s t : List Value) (c e : List Slot) (later : List (Value × ℕ)) → (d : Reads u s c) → run g l (length u) (at (length u) (length u) c [] Ready) w ≡ record { given = later; now = Ok (at (length (u ++ w)) (length (u ++ w)) e [] Ready) }
+  behind : (u w : List ℕ) (s t : List Value) (c e : List Slot) (later : List (Value × ℕ)) → (d : Reads u s c) → run g l (length u) (at (anew (length u) c) [] Ready) w ≡ record { given = later; now = Ok (at (anew (length (u ++ w)) e) [] Ready) }
       → plain later ≡ t → Spaced l.item 0 (d.given ++ later) (length (u ++ w)) → Reads (u ++ w) (s ++ t) e
   behind u w s t c e later d r p small = record {
     given = d.given ++ later;
@@ -46,16 +46,16 @@ module _ (g : Catalog) (l : Limits) where
   pieces_run _ _ _ begins = record { given = []; ran = refl; gave = refl; spaced = omega arith }
   pieces_run _ _ _ (marked u s c d) =
       let r = pieces_run u s c d in
-      rw append-nil at (behind u the_marker s [] c system_slots [] r (rw (length-append u the_marker) (marker_run g l (length u) (length u) c)) refl (rw append-nil (longer_spaced u the_marker r.given r.spaced)))
+      rw append-nil at (behind u the_marker s [] c system_slots [] r (rw (length-append u the_marker) (marker_run g l (anew (length u) c))) refl (rw append-nil (longer_spaced u the_marker r.given r.spaced)))
   pieces_run _ _ _ (skips u w s c d p) =
       let r = pieces_run u s c d in
-      rw append-nil at (behind u w s [] c c [] r (skip_run g l (length u) (length u) c [] w (length (u ++ w)) p (record { fitting = refl; named = refl }) (length-append u w) (λ e. absurd cc)) refl (rw append-nil (longer_spaced u w r.given r.spaced)))
+      rw append-nil at (behind u w s [] c c [] r (skip_run g l (anew (length u) c) [] w (length (u ++ w)) p (record { fitting = refl; named = refl }) (length-append u w) (λ e. absurd cc)) refl (rw append-nil (longer_spaced u w r.given r.spaced)))
   pieces_run _ _ _ (turns u w s c e v d b t n p q) =
       let r = pieces_run u s c d in
       let k = length-append u w in
       let to = length (u ++ w) in
       rw append-nil at (behind u w s [] c e [] r
-      (binary_run g l (length u) (length u) c [] to w v b top k (λ i. omega arith) (omega arith)
+      (binary_run g l (anew (length u) c) [] to w v b top k (λ i. omega arith) (omega arith)
       ∙ (ap (after to) (cond-true _ _ _ t) ∙ ap (λ x. after to (turned to x)) n)) refl (rw append-nil (longer_spaced u w r.given r.spaced)))
   pieces_run _ _ _ (holds u w s c v d b t p q) =
       let r = pieces_run u s c d in
@@ -63,5 +63,5 @@ module _ (g : Catalog) (l : Limits) where
       let n = binary_nodes c w v b in
       let to = length (u ++ w) in
       behind u w s (v ∷ []) c c ((v, to) ∷ []) r
-      (binary_run g l (length u) (length u) c [] to w v b top k (λ i. omega arith) (omega arith) ∙ ap (after to) (cond-false _ _ _ t))
+      (binary_run g l (anew (length u) c) [] to w v b top k (λ i. omega arith) (omega arith) ∙ ap (after to) (cond-false _ _ _ t))
       refl (spaced_more l.item 0 r.given (length u) v to r.spaced (record { start = length u; end = to; behind = omega arith; within = omega arith; fits = omega arith; holds = omega arith }))

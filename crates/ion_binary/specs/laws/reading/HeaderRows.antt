@@ -8,14 +8,14 @@ use Rattle.ion_scalar.specs.declared.descriptor.Descriptor.{Descriptor}
 use Rattle.ion_scalar.specs.declared.descriptor.Descriptor.TheVariants as descriptors
 use Rattle.ion_scalar.specs.declared.descriptor.Size.{Size}
 use Rattle.ion_scalar.specs.declared.descriptor.Size.TheVariants.{Known, Follows}
-use Rattle.ion_scalar.specs.binary.Descriptor.{kind, size, typed, descriptor_of}
+use Rattle.ion_scalar.specs.binary.Descriptor.{size, typed, descriptor_of}
 use Rattle.ion_binary.specs.declared.form.Scalar.{Scalar}
 use Rattle.ion_binary.specs.declared.form.Scalar.TheVariants as scalars
 use Rattle.ion_binary.specs.declared.form.Listing.TheVariants as listings
 use Rattle.ion_binary.specs.declared.form.Form.{Form}
 use Rattle.ion_binary.specs.declared.form.Form.TheVariants as forms
 use Rattle.ion_binary.specs.declared.form.Opening.{Opening}
-use Rattle.ion_binary.specs.declared.form.Opening.TheVariants.{Refused, Marker, Null, Truth, Sized}
+use Rattle.ion_binary.specs.declared.form.Opening.TheVariants.{Sized}
 use Rattle.ion_binary.specs.Opening.{with_octets, body_of, opens, opening_of}
 use Rattle.ion_binary.specs.Grammar.{Header, short, long}
 use Rattle.ion_binary.specs.HeaderRows.{type_code, long_code, IsBodyLength, IsHeader}

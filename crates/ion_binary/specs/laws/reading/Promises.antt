@@ -18,7 +18,7 @@ use Rattle.ion_binary.specs.declared.state.Phase.{Phase}
 use Rattle.ion_binary.specs.declared.state.Phase.TheVariants.{InMarker, Ready, InNumber, InBody, InPad}
 use Rattle.ion_model.specs.Kinds.{is_table}
 use Rattle.ion_binary.specs.Grammar.{Pieces, begins, marked, skips, turns, holds, the_marker, Document, Whole, no_piece, document, OpenRest}
-use Rattle.ion_binary.specs.machine.EachOctet.{Machine, at, initial}
+use Rattle.ion_binary.specs.machine.EachOctet.{Machine, under, anew, at, initial}
 use Rattle.ion_binary.specs.machine.Run.{Run, run, whole, ends_of, refused_of, trace_of, trace}
 use Rattle.ion_binary.specs.machine.Pieces.{run-append, then_run, on_now}
 use Rattle.ion_binary.specs.laws.reading.Stands.{Standing, Stands}
@@ -43,7 +43,7 @@ finished g l c (f ∷ fs) (InBody b n) start s body u r last o h = absurd cc
 finished g l c (f ∷ fs) (InPad n) start s body u r last o h = absurd cc
 
 ended_well : (g : Catalog) (l : Limits) (u : List ℕ) (given : List (Value × ℕ)) (now : Result Machine Refusal) (last : Option Value) → Ended g l u [] given now → ends_of now ≡ Ok last → (last ≡ None) × Document g l u (plain given)
-ended_well g l u given (Ok m) last o h = finished g l m.context m.frames m.phase m.start (plain given) m.body u _ last o.standing h
+ended_well g l u given (Ok m) last o h = finished g l m.spot.context m.frames m.phase m.spot.start (plain given) m.body u _ last o.standing h
 ended_well g l u given (Err e) last o h = absurd cc
 
 admits : (g : Catalog) (l : Limits) (u : List ℕ) (s : List Value) → Streams (trace g l u) s → Document g l u s
@@ -94,8 +94,8 @@ one_shown g l u s t a b = shown_once (λ front following s. Whole g l front s) u
 pub ran_stands : (g : Catalog) (l : Limits) (u : List ℕ) (given : List (Value × ℕ)) (m : Machine) → run g l 0 initial u ≡ record { given = given; now = Ok m } → Stands g l u (plain given) m
 ran_stands g l u given m e = subst (λ (r : Run). Ended g l u [] r.given r.now) e (run_stands g l 0 initial [] u [] (initial_stands g l))
 
-cut_of : (g : Catalog) (l : Limits) (u : List ℕ) (given : List (Value × ℕ)) (m : Machine) → run g l 0 initial u ≡ record { given = given; now = Ok m } → OpenCut g l m.start (plain given) u
-cut_of g l u given m e = standing_open g l m.start m.context (plain given) m.frames m.body m.phase u (ran_stands g l u given m e).standing
+cut_of : (g : Catalog) (l : Limits) (u : List ℕ) (given : List (Value × ℕ)) (m : Machine) → run g l 0 initial u ≡ record { given = given; now = Ok m } → OpenCut g l m.spot.start (plain given) u
+cut_of g l u given m e = standing_open g l m.spot.start m.spot.context (plain given) m.frames m.body m.phase u (ran_stands g l u given m e).standing
 
 -- two lists of octets begin alike
 front_of : (before w v rest : List ℕ) → before ++ w ≡ v ++ rest → length v ≤ length before → (r : List ℕ) × (before ≡ v ++ r)
@@ -144,10 +144,10 @@ stop_shown g l u r p =
       open_rest = c.cut.rest ++ p.b ∷ [];
       parts = ap (λ x. x ++ p.b ∷ []) c.cut.parts ∙ append_assoc c.cut.front c.cut.rest (p.b ∷ []);
       whole = λ following octets. c.cut.whole;
-      longest = λ v rest t e w. let k : length v ≤ p.n.start = longest v rest t e (w [] tt) in omega arith;
+      longest = λ v rest t e w. let k : length v ≤ p.n.spot.start = longest v rest t e (w [] tt) in omega arith;
     }
   where
-    inside : (v rest : List ℕ) (t : List Value) → p.before ++ p.b ∷ [] ≡ v ++ rest → length v ≤ length p.before → Whole g l v t → length v ≤ p.n.start
+    inside : (v rest : List ℕ) (t : List Value) → p.before ++ p.b ∷ [] ≡ v ++ rest → length v ≤ length p.before → Whole g l v t → length v ≤ p.n.spot.start
     inside v rest t e h w =
         let q = front_of p.before (p.b ∷ []) v rest e h in
         whole_within g l v q.0 t p.n w (ap (λ x. (run g l 0 initial x).now) (sym q.1) ∙ ap (λ (x : Run). x.now) p.ran)
@@ -160,7 +160,7 @@ stop_shown g l u r p =
     no_rest v [] e h = refl
     no_rest v (x ∷ xs) e h = let k : length (p.before ++ p.b ∷ []) ≡ length (v ++ x ∷ xs) = ap length e in let i = length-append p.before (p.b ∷ []) in let j = length-append v (x ∷ xs) in absurd (omega arith)
 
-    longest : (v rest : List ℕ) (t : List Value) → p.before ++ p.b ∷ [] ≡ v ++ rest → Whole g l v t → length v ≤ p.n.start
+    longest : (v rest : List ℕ) (t : List Value) → p.before ++ p.b ∷ [] ≡ v ++ rest → Whole g l v t → length v ≤ p.n.spot.start
     longest v rest t e w =
         elim (cases_lt (length p.before) (length v)) [
           | inl lt ↦ absurd (all v t (e ∙ (ap (λ x. v ++ x) (no_rest v rest e lt) ∙ append-nil v)) lt w)
@@ -172,8 +172,8 @@ decided g l u r p =
     let s = ran_stands g l p.before (run g l 0 initial u).given p.n p.ran in
     let c = cut_of g l p.before (run g l 0 initial u).given p.n p.ran in
     let e = s.used in
-    let k = rest_long g l p.n.start _ p.before c.cut in
-    subst (Steady p.n.start (FineFrames p.n.frames)) p.refused (feed_steady g l p.n p.b (omega arith)) (standing_fine g l p.n.start p.n.context _ p.n.frames p.n.body p.n.phase p.before s.standing)
+    let k = rest_long g l p.n.spot.start _ p.before c.cut in
+    subst (Steady p.n.spot.start (FineFrames p.n.frames)) p.refused (feed_steady (under g l) p.n p.b (omega arith)) (standing_fine g l p.n.spot.start p.n.spot.context _ p.n.frames p.n.body p.n.phase p.before s.standing)
 
 -- a refusal at n means that no document begins with the first n octets
 pub refused : (g : Catalog) (l : Limits) (u : List ℕ) (r : Refusal) → (trace g l u).refused ≡ Some r → Refuses (Document g l) (λ front following s. Whole g l front s) u (trace g l u) r
@@ -243,7 +243,7 @@ spaced_whole g l _ rest _ given m no_piece ran e =
     subst (λ (x : List (Value × ℕ)). Spaced l.item 0 x (length rest)) (sym (no_values given (omega arith))) (omega arith)
 spaced_whole g l _ rest _ given m (document front s c d) ran e =
     let r = pieces_run g l front s c d in
-    let later = (run g l (length front) (at (length front) (length front) c [] Ready) rest).given in
+    let later = (run g l (length front) (at (anew (length front) c) [] Ready) rest).given in
     let whole_run = sym ran ∙ (run-append g l 0 (length front) front rest (omega arith) initial ∙ ap (λ x. then_run x (λ n. run g l (length front) n rest)) r.ran) in
     let cut : given ≡ r.given ++ later = ap (λ (x : Run). x.given) whole_run in
     let n : length given ≡ length r.given + length later = ap length cut ∙ length-append r.given later in

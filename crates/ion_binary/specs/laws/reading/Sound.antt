@@ -43,7 +43,7 @@ use Rattle.ion_binary.specs.Opening.{opening_of, opens, body_of, with_octets}
 use Rattle.ion_binary.specs.Grammar.{Header, short, long, IsPad, skipped, Ids, no_ids, one_id, listed, Plain, is_null, is_truth, is_scalar, is_listing, is_struct, is_ordered, Binary, unannotated, wrapped, nothing, one_more, padded, Fields, no_fields, one_field, padded_field, Pieces, begins, marked, skips, turns, holds, the_marker}
 use Rattle.ion_binary.specs.machine.Judge.{judge}
 use Rattle.ion_binary.specs.laws.reading.Judged.{judge_sound, scalar_flat}
-use Rattle.ion_binary.specs.machine.EachOctet.{Machine, Outcome, goes, gives, refuses, at, end_of, levels, turned, deliver, proceed, is_pad, is_wrapper, unless, or_else, misfits, stray, nameless, unending, past, unfit, judged, open_struct, begin, sized, longer, one_octet, on_descriptor, annotation_came, number_came, on_number, on_marker, on_body, on_pad, on_phase, feed, initial}
+use Rattle.ion_binary.specs.machine.EachOctet.{Spot, under, anew, counted, Machine, Outcome, goes, gives, refuses, at, end_of, levels, turned, deliver, proceed, is_pad, is_wrapper, unless, or_else, misfits, stray, nameless, unending, past, unfit, judged, open_struct, begin, sized, longer, one_octet, on_descriptor, annotation_came, number_came, on_number, on_marker, on_body, on_pad, on_phase, feed, initial}
 use Rattle.ion_binary.specs.machine.Run.{run, run_on}
 use Rattle.ion_binary.specs.laws.reading.Stands.{Ends, Box, IsStruct, InStruct, IsBare, Opened, Receives, Accepts, Before, marker_front, Front, marker_place, IfGood, MarkerStands, Going, NumberStands, BodyStands, Standing, Stands}
 use Rattle.ion_binary.specs.machine.Pieces.{length-one}
@@ -227,74 +227,74 @@ module _ (g : Catalog) (l : Limits) where
   unless_leaves u s r None h = h refl
   unless_leaves u s r (Some x) h = tt
 
-  judged_leaves : (u : List ℕ) (s : List Value) (to start : ℕ) (c : List Slot) (fs : List Frame) (r : Result Payload Reason) → ((p : Payload) → r ≡ Ok p → Leaves g l u s (deliver g to start c fs (bare p))) → Leaves g l u s (judged g to start c fs r)
-  judged_leaves u s to start c fs (Ok p) h = h p refl
-  judged_leaves u s to start c fs (Err e) h = tt
+  judged_leaves : (u : List ℕ) (s : List Value) (spot : Spot) (fs : List Frame) (r : Result Payload Reason) → ((p : Payload) → r ≡ Ok p → Leaves g l u s (deliver (under g l) spot fs (bare p))) → Leaves g l u s (judged (under g l) spot fs r)
+  judged_leaves u s spot fs (Ok p) h = h p refl
+  judged_leaves u s spot fs (Err e) h = tt
 
-  table_stands : (to start : ℕ) (c : List Slot) (s : List Value) (u w : List ℕ) (v : Value) → Pieces g l u s c → Binary c w v → is_table v ≡ true → depth v ≤ l.depth → length w ≤ l.item → to ≡ length (u ++ w)
-      → Leaves g l (u ++ w) s (turned to (next c v g))
-  table_stands to start c s u w v o b t d i e = go (next c v g) refl
+  table_stands : (spot : Spot) (s : List Value) (u w : List ℕ) (v : Value) → Pieces g l u s spot.context → Binary spot.context w v → is_table v ≡ true → depth v ≤ l.depth → length w ≤ l.item → spot.used ≡ length (u ++ w)
+      → Leaves g l (u ++ w) s (turned spot.used (next spot.context v g))
+  table_stands spot s u w v o b t d i e = go (next spot.context v g) refl
     where
-      go : (r : Result (List Slot) Reason) → next c v g ≡ r → Leaves g l (u ++ w) s (turned to r)
-      go (Ok f) h = record { used = e; standing = record { opened = (turns u w s c f v o b t h d i, sym e); receives = tt } }
+      go : (r : Result (List Slot) Reason) → next spot.context v g ≡ r → Leaves g l (u ++ w) s (turned spot.used r)
+      go (Ok f) h = record { used = e; standing = record { opened = (turns u w s spot.context f v o b t h d i, sym e); receives = tt } }
       go (Err x) h = tt
 
   -- the adding of a value, in these frames
-  abbrev Adds : ℕ → ℕ → List Slot → List Value → List Frame → Type 0
-  Adds to start c s fs = (u w : List ℕ) (v : Value) → Opened g l start c s fs u → Comes c fs w v → to ≡ length (u ++ w) → depth v + levels fs ≤ l.depth → Ends l start fs forms.Struct to → Leaves g l (u ++ w) s (deliver g to start c fs v)
+  abbrev Adds : Spot → List Value → List Frame → Type 0
+  Adds spot s fs = (u w : List ℕ) (v : Value) → Opened g l spot.start spot.context s fs u → Comes spot.context fs w v → spot.used ≡ length (u ++ w) → depth v + levels fs ≤ l.depth → Ends l spot.start fs forms.Struct spot.used → Leaves g l (u ++ w) s (deliver (under g l) spot fs v)
 
   -- a list or s-expression goes on, or ends here
-  items_stand : (to start : ℕ) (c : List Slot) (s : List Value) (fs : List Frame) (u : List ℕ) (end : ℕ) (x : Listing) (vs : List Value) → Adds to start c s fs → Opened g l start c s (frames.Items end x vs ∷ fs) u → to ≡ length u
-      → Leaves g l u s (proceed g to start c (frames.Items end x vs ∷ fs))
-  items_stand to start c s fs u end x vs k o e =
+  items_stand : (spot : Spot) (s : List Value) (fs : List Frame) (u : List ℕ) (end : ℕ) (x : Listing) (vs : List Value) → Adds spot s fs → Opened g l spot.start spot.context s (frames.Items end x vs ∷ fs) u → spot.used ≡ length u
+      → Leaves g l u s (proceed (under g l) spot (frames.Items end x vs ∷ fs))
+  items_stand spot s fs u end x vs k o e =
       let k1 = ap length o.whole in
       let k2 = length-append o.front o.body in
       let ends = o.box.ends in
       let deep = o.deep in
       let dv = depth-listed x vs in
-      cond_both (to == end) _ _ (Leaves g l u s)
+      cond_both (spot.used == end) _ _ (Leaves g l u s)
       (λ h.
-      let here : to ≡ end = eqb-true to end h in
+      let here : spot.used ≡ end = eqb-true spot.used end h in
       let full : o.box.n ≡ length o.body = omega arith in
       let outside : u ≡ o.box.before ++ (o.box.header ++ o.body) = o.whole ∙ (ap (λ y. y ++ o.body) o.box.whole ∙ append_assoc o.box.before o.box.header o.body) in
-      subst (λ y. Leaves g l y s (deliver g to start c fs (bare (listed x vs)))) (sym outside)
+      subst (λ y. Leaves g l y s (deliver (under g l) spot fs (bare (listed x vs)))) (sym outside)
       (k o.box.before (o.box.header ++ o.body) (bare (listed x vs)) o.box.outer
-      (plain_comes c fs _ _ (is_listing o.box.header o.body x vs (subst (λ n. Header (forms.Listing x) n o.box.header) full o.box.head) o.items))
-      (e ∙ ap length outside) (omega arith) (ends_back l start fs (forms.Listing x) to refl (subst (Ends l start fs (forms.Listing x)) (sym here) o.box.room))))
+      (plain_comes spot.context fs _ _ (is_listing o.box.header o.body x vs (subst (λ n. Header (forms.Listing x) n o.box.header) full o.box.head) o.items))
+      (e ∙ ap length outside) (omega arith) (ends_back l spot.start fs (forms.Listing x) spot.used refl (subst (Ends l spot.start fs (forms.Listing x)) (sym here) o.box.room))))
       (λ h. record { used = e; standing = record { opened = o; receives = tt } })
 
   -- a struct goes on, or ends here
-  fields_stand : (to start : ℕ) (c : List Slot) (s : List Value) (fs : List Frame) (u : List ℕ) (end : ℕ) (ms : List Field) → Adds to start c s fs → InStruct l start c (Opened g l start c s fs) fs end ms u → to ≡ length u
-      → Leaves g l u s (proceed g to start c (frames.Fields end ms ∷ fs))
-  fields_stand to start c s fs u end ms k o e =
+  fields_stand : (spot : Spot) (s : List Value) (fs : List Frame) (u : List ℕ) (end : ℕ) (ms : List Field) → Adds spot s fs → InStruct l spot.start spot.context (Opened g l spot.start spot.context s fs) fs end ms u → spot.used ≡ length u
+      → Leaves g l u s (proceed (under g l) spot (frames.Fields end ms ∷ fs))
+  fields_stand spot s fs u end ms k o e =
       let k1 = ap length o.whole in
       let k2 = length-append o.front o.body in
       let ends = o.box.ends in
       let deep = o.deep in
       let in_it = o.within in
       let dv = depth-fields ms in
-      cond_both (to == end) _ _ (Leaves g l u s)
+      cond_both (spot.used == end) _ _ (Leaves g l u s)
       (λ h.
-      let here : to ≡ end = eqb-true to end h in
+      let here : spot.used ≡ end = eqb-true spot.used end h in
       let full : o.box.n ≡ length o.body = omega arith in
       let outside : u ≡ o.box.before ++ (o.box.header ++ o.body) = o.whole ∙ (ap (λ y. y ++ o.body) o.box.whole ∙ append_assoc o.box.before o.box.header o.body) in
-      subst (λ y. Leaves g l y s (deliver g to start c fs (bare (payloads.Fields ms)))) (sym outside)
+      subst (λ y. Leaves g l y s (deliver (under g l) spot fs (bare (payloads.Fields ms)))) (sym outside)
       (k o.box.before (o.box.header ++ o.body) (bare (payloads.Fields ms)) o.box.outer
-      (plain_comes c fs _ _ (struct_is c o.form o.box.n o.box.header o.body ms o.kind o.box.head full o.items))
-      (e ∙ ap length outside) (omega arith) (ends_back l start fs o.form to (struct_sized o.form o.box.n o.kind) (subst (Ends l start fs o.form) (sym here) o.box.room))))
-      (λ h. let apart = eqb-false to end h in record { used = e; standing = record { front = u; digits = []; whole = sym (append-nil u); inside = o; small = none; value = refl; going = omega arith } })
+      (plain_comes spot.context fs _ _ (struct_is spot.context o.form o.box.n o.box.header o.body ms o.kind o.box.head full o.items))
+      (e ∙ ap length outside) (omega arith) (ends_back l spot.start fs o.form spot.used (struct_sized o.form o.box.n o.kind) (subst (Ends l spot.start fs o.form) (sym here) o.box.room))))
+      (λ h. let apart = eqb-false spot.used end h in record { used = e; standing = record { front = u; digits = []; whole = sym (append-nil u); inside = o; small = none; value = refl; going = omega arith } })
 
   -- a value ends here
-  deliver_stands : (to start : ℕ) (c : List Slot) (s : List Value) (fs : List Frame) → Adds to start c s fs
-  deliver_stands to start c s [] u w v o b e d r =
+  deliver_stands : (spot : Spot) (s : List Value) (fs : List Frame) → Adds spot s fs
+  deliver_stands spot s [] u w v o b e d r =
       let k = length-append u w in
       let i = o.1 in
       let room = r refl in
       cond_both (is_table v) _ _ (Leaves g l (u ++ w) s)
-      (λ t. table_stands to start c s u w v o.0 b t (omega arith) (omega arith) e)
-      (λ t. record { used = e; standing = record { opened = (holds u w s c v o.0 b t (omega arith) (omega arith), sym e); receives = tt } })
-  deliver_stands to start c s (frames.Fields end ms ∷ fs) u w v o b e d r = tt
-  deliver_stands to start c s (frames.Annotated end ss ∷ fs) u w v o b e d r =
+      (λ t. table_stands spot s u w v o.0 b t (omega arith) (omega arith) e)
+      (λ t. record { used = e; standing = record { opened = (holds u w s spot.context v o.0 b t (omega arith) (omega arith), sym e); receives = tt } })
+  deliver_stands spot s (frames.Fields end ms ∷ fs) u w v o b e d r = tt
+  deliver_stands spot s (frames.Annotated end ss ∷ fs) u w v o b e d r =
       let whole : u ++ w ≡ o.front ++ (o.count ++ (o.ids ++ w)) = ap (λ y. y ++ w) o.whole ∙ regroup o.front o.count o.ids w in
       let outside : u ++ w ≡ o.box.before ++ (o.box.header ++ (o.count ++ (o.ids ++ w))) = whole ∙ (ap (λ y. y ++ (o.count ++ (o.ids ++ w))) o.box.whole ∙ append_assoc o.box.before o.box.header (o.count ++ (o.ids ++ w))) in
       let k1 = ap length whole in
@@ -302,40 +302,40 @@ module _ (g : Catalog) (l : Limits) where
       let ends = o.box.ends in
       let da : depth (annotated ss v.payload) ≡ depth v = depth-out (annotated ss v.payload) ∙ sym (depth-out v) in
       let full : o.box.n ≡ length (o.count ++ (o.ids ++ w)) = omega arith in
-      subst (λ y. Leaves g l y s (deliver g to start c fs (annotated ss v.payload))) (sym outside)
-      (deliver_stands to start c s fs o.box.before (o.box.header ++ (o.count ++ (o.ids ++ w))) (annotated ss v.payload) o.box.outer
-      (binary_comes c fs _ _ o.bare (wrapped o.box.header o.count o.ids w ss v.payload (subst (λ n. Header forms.Wrapper n o.box.header) full o.box.head) o.number o.some o.symbols b))
-      (e ∙ ap length outside) (omega arith) (ends_back l start fs forms.Wrapper to refl (subst (Ends l start fs forms.Wrapper) (sym r) o.box.room)))
-  deliver_stands to start c s (frames.Named end ms (Err x) ∷ fs) u w v o b e d r = tt
-  deliver_stands to start c s (frames.Named end ms (Ok n) ∷ fs) u w v o b e d r =
+      subst (λ y. Leaves g l y s (deliver (under g l) spot fs (annotated ss v.payload))) (sym outside)
+      (deliver_stands spot s fs o.box.before (o.box.header ++ (o.count ++ (o.ids ++ w))) (annotated ss v.payload) o.box.outer
+      (binary_comes spot.context fs _ _ o.bare (wrapped o.box.header o.count o.ids w ss v.payload (subst (λ n. Header forms.Wrapper n o.box.header) full o.box.head) o.number o.some o.symbols b))
+      (e ∙ ap length outside) (omega arith) (ends_back l spot.start fs forms.Wrapper spot.used refl (subst (Ends l spot.start fs forms.Wrapper) (sym r) o.box.room)))
+  deliver_stands spot s (frames.Named end ms (Err x) ∷ fs) u w v o b e d r = tt
+  deliver_stands spot s (frames.Named end ms (Ok n) ∷ fs) u w v o b e d r =
       let i = o.inside in
       let m = field_deepest-more ms (field_of n v) in
       let deep = i.deep in
       let whole : u ++ w ≡ i.front ++ (i.body ++ (o.id ++ w)) = ap (λ y. y ++ w) o.whole ∙ (append_assoc o.front o.id w ∙ (ap (λ y. y ++ (o.id ++ w)) i.whole ∙ append_assoc i.front i.body (o.id ++ w))) in
-      fields_stand to start c s fs (u ++ w) end (ms ++ field_of n v ∷ []) (deliver_stands to start c s fs)
+      fields_stand spot s fs (u ++ w) end (ms ++ field_of n v ∷ []) (deliver_stands spot s fs)
       (record { front = i.front; body = i.body ++ (o.id ++ w); form = i.form; whole = whole; box = i.box; kind = i.kind; items = one_field i.body o.id w ms o.k n v i.items o.number (sym o.named) b; deep = omega arith; within = omega arith }) e
-  deliver_stands to start c s (frames.Items end x vs ∷ fs) u w v o b e d r =
+  deliver_stands spot s (frames.Items end x vs ∷ fs) u w v o b e d r =
       let m = deepest-more vs v in
       let deep = o.deep in
       let whole : u ++ w ≡ o.front ++ (o.body ++ w) = ap (λ y. y ++ w) o.whole ∙ append_assoc o.front o.body w in
-      items_stand to start c s fs (u ++ w) end x (vs ++ v ∷ []) (deliver_stands to start c s fs)
+      items_stand spot s fs (u ++ w) end x (vs ++ v ∷ []) (deliver_stands spot s fs)
       (record { front = o.front; body = o.body ++ w; whole = whole; box = o.box; items = one_more o.body w vs v o.items b; deep = omega arith; within = omega arith }) e
 
   -- a pad ends here
-  skip_stands : (to start : ℕ) (c : List Slot) (s : List Value) (fs : List Frame) (u w : List ℕ) → Opened g l start c s fs u → Receives fs → IsPad w → to ≡ length (u ++ w) → Ends l start fs forms.Pad to
-      → Leaves g l (u ++ w) s (proceed g to start c fs)
-  skip_stands to start c s [] u w o i b e r = record { used = e; standing = record { opened = (skips u w s c o.0 b, sym e); receives = tt } }
-  skip_stands to start c s (frames.Fields end ms ∷ fs) u w o i b e r = absurd i
-  skip_stands to start c s (frames.Annotated end ss ∷ fs) u w o i b e r = tt
-  skip_stands to start c s (frames.Items end x vs ∷ fs) u w o i b e r =
+  skip_stands : (spot : Spot) (s : List Value) (fs : List Frame) (u w : List ℕ) → Opened g l spot.start spot.context s fs u → Receives fs → IsPad w → spot.used ≡ length (u ++ w) → Ends l spot.start fs forms.Pad spot.used
+      → Leaves g l (u ++ w) s (proceed (under g l) spot fs)
+  skip_stands spot s [] u w o i b e r = record { used = e; standing = record { opened = (skips u w s spot.context o.0 b, sym e); receives = tt } }
+  skip_stands spot s (frames.Fields end ms ∷ fs) u w o i b e r = absurd i
+  skip_stands spot s (frames.Annotated end ss ∷ fs) u w o i b e r = tt
+  skip_stands spot s (frames.Items end x vs ∷ fs) u w o i b e r =
       let deep = o.deep in
       let whole : u ++ w ≡ o.front ++ (o.body ++ w) = ap (λ y. y ++ w) o.whole ∙ append_assoc o.front o.body w in
-      items_stand to start c s fs (u ++ w) end x vs (deliver_stands to start c s fs)
+      items_stand spot s fs (u ++ w) end x vs (deliver_stands spot s fs)
       (record { front = o.front; body = o.body ++ w; whole = whole; box = o.box; items = padded o.body w vs o.items b; deep = deep; within = omega arith }) e
-  skip_stands to start c s (frames.Named end ms name ∷ fs) u w o j b e r =
+  skip_stands spot s (frames.Named end ms name ∷ fs) u w o j b e r =
       let i = o.inside in
       let whole : u ++ w ≡ i.front ++ (i.body ++ (o.id ++ w)) = ap (λ y. y ++ w) o.whole ∙ (append_assoc o.front o.id w ∙ (ap (λ y. y ++ (o.id ++ w)) i.whole ∙ append_assoc i.front i.body (o.id ++ w))) in
-      fields_stand to start c s fs (u ++ w) end ms (deliver_stands to start c s fs)
+      fields_stand spot s fs (u ++ w) end ms (deliver_stands spot s fs)
       (record { front = i.front; body = i.body ++ (o.id ++ w); form = i.form; whole = whole; box = i.box; kind = i.kind; items = padded_field i.body o.id w ms o.k i.items o.number b; deep = i.deep; within = omega arith }) e
 
   pub shallow : (start : ℕ) (c : List Slot) (s : List Value) (fs : List Frame) (u : List ℕ) → Opened g l start c s fs u → levels fs ≤ l.depth
@@ -349,85 +349,85 @@ module _ (g : Catalog) (l : Limits) where
   abbrev boxed : (start : ℕ) (c : List Slot) (s : List Value) (fs : List Frame) (u h : List ℕ) (form : Form) (n end : ℕ) → Opened g l start c s fs u → Header form n h → end ≡ length (u ++ h) + n → Ends l start fs form end → Box l start (Opened g l start c s fs) fs form end (u ++ h)
   boxed start c s fs u h form n end o d i r = record { before = u; header = h; n = n; whole = refl; outer = o; head = d; ends = i; room = r }
 
-  struct_begins : (mid start : ℕ) (c : List Slot) (s : List Value) (fs : List Frame) (u h : List ℕ) (form : Form) (n : ℕ) → IsStruct form n → Opened g l start c s fs u → Header form n h → mid ≡ length (u ++ h) → Ends l start fs form (mid + n)
-      → Leaves g l (u ++ h) s (open_struct g l.depth mid start c fs n)
-  struct_begins mid start c s fs u h form n i o d e r =
+  struct_begins : (spot : Spot) (s : List Value) (fs : List Frame) (u h : List ℕ) (form : Form) (n : ℕ) → IsStruct form n → Opened g l spot.start spot.context s fs u → Header form n h → spot.used ≡ length (u ++ h) → Ends l spot.start fs form (spot.used + n)
+      → Leaves g l (u ++ h) s (open_struct (under g l) spot fs n)
+  struct_begins spot s fs u h form n i o d e r =
       cond_both (nat_lt (levels fs) l.depth) _ _ (Leaves g l (u ++ h) s)
       (λ j. let deep = ltb-true (levels fs) l.depth j in
-      fields_stand mid start c s fs (u ++ h) (mid + n) [] (deliver_stands mid start c s fs)
-      (record { front = u ++ h; body = []; form = form; whole = sym (append-nil (u ++ h)); box = boxed start c s fs u h form n (mid + n) o d (omega arith) r; kind = i; items = no_fields; deep = omega arith; within = omega arith }) e)
+      fields_stand spot s fs (u ++ h) (spot.used + n) [] (deliver_stands spot s fs)
+      (record { front = u ++ h; body = []; form = form; whole = sym (append-nil (u ++ h)); box = boxed spot.start spot.context s fs u h form n (spot.used + n) o d (omega arith) r; kind = i; items = no_fields; deep = omega arith; within = omega arith }) e)
       (λ j. tt)
 
-  begin_stands : (mid start : ℕ) (c : List Slot) (s : List Value) (fs : List Frame) (u h : List ℕ) (form : Form) (n : ℕ) → Opened g l start c s fs u → Accepts form fs → Header form n h → mid ≡ length (u ++ h) → Ends l start fs form (mid + n)
-      → Leaves g l (u ++ h) s (begin g l.depth mid start c fs form n)
-  begin_stands mid start c s fs u h forms.Pad zero o a d e r = skip_stands mid start c s fs u h o a.0 (subst IsPad (append-nil h) (skipped h [] d)) e (subst (Ends l start fs forms.Pad) (omega arith) r)
-  begin_stands mid start c s fs u h forms.Pad (suc n) o a d e r =
+  begin_stands : (spot : Spot) (s : List Value) (fs : List Frame) (u h : List ℕ) (form : Form) (n : ℕ) → Opened g l spot.start spot.context s fs u → Accepts form fs → Header form n h → spot.used ≡ length (u ++ h) → Ends l spot.start fs form (spot.used + n)
+      → Leaves g l (u ++ h) s (begin (under g l) spot fs form n)
+  begin_stands spot s fs u h forms.Pad zero o a d e r = skip_stands spot s fs u h o a.0 (subst IsPad (append-nil h) (skipped h [] d)) e (subst (Ends l spot.start fs forms.Pad) (omega arith) r)
+  begin_stands spot s fs u h forms.Pad (suc n) o a d e r =
       let k = length-append u h in
-      subst (Leaves g l (u ++ h) s) (sym (begin_pad g l mid start c fs n))
-      (record { used = e; standing = ([], record { before = u; header = h; whole = ap (λ x. u ++ x) (sym (append-nil h)); outer = o; accepts = a; size = suc n; sizes = omega arith; end = mid + suc n; ends = omega arith; head = d; room = r }) })
-  begin_stands mid start c s fs u h (forms.Scalar t) zero o a d e r =
-      let sh = shallow start c s fs u o in
-      judged_leaves (u ++ h) s mid start c fs (judge c t []) (λ p j.
-      let is = judge_sound c t [] p j in
-      let flat = scalar_flat c [] t p is in
-      deliver_stands mid start c s fs u h (bare p) o (plain_comes c fs h p (subst (λ x. Plain c x p) (append-nil h) (is_scalar h [] t p d is))) e (omega arith)
-      (ends_back l start fs (forms.Scalar t) mid refl (subst (Ends l start fs (forms.Scalar t)) (omega arith) r)))
-  begin_stands mid start c s fs u h (forms.Scalar t) (suc n) o a d e r =
+      subst (Leaves g l (u ++ h) s) (sym (begin_pad g l spot fs n))
+      (record { used = e; standing = ([], record { before = u; header = h; whole = ap (λ x. u ++ x) (sym (append-nil h)); outer = o; accepts = a; size = suc n; sizes = omega arith; end = spot.used + suc n; ends = omega arith; head = d; room = r }) })
+  begin_stands spot s fs u h (forms.Scalar t) zero o a d e r =
+      let sh = shallow spot.start spot.context s fs u o in
+      judged_leaves (u ++ h) s spot fs (judge spot.context t []) (λ p j.
+      let is = judge_sound spot.context t [] p j in
+      let flat = scalar_flat spot.context [] t p is in
+      deliver_stands spot s fs u h (bare p) o (plain_comes spot.context fs h p (subst (λ x. Plain spot.context x p) (append-nil h) (is_scalar h [] t p d is))) e (omega arith)
+      (ends_back l spot.start fs (forms.Scalar t) spot.used refl (subst (Ends l spot.start fs (forms.Scalar t)) (omega arith) r)))
+  begin_stands spot s fs u h (forms.Scalar t) (suc n) o a d e r =
       let k = length-append u h in
-      subst (Leaves g l (u ++ h) s) (sym (begin_scalar g l mid start c fs t n))
-      (record { used = e; standing = record { before = u; header = h; whole = ap (λ x. u ++ x) (sym (append-nil h)); outer = o; accepts = a; size = suc n; sizes = omega arith; end = mid + suc n; ends = omega arith; head = d; room = r } })
-  begin_stands mid start c s fs u h (forms.Listing x) n o a d e r =
+      subst (Leaves g l (u ++ h) s) (sym (begin_scalar g l spot fs t n))
+      (record { used = e; standing = record { before = u; header = h; whole = ap (λ x. u ++ x) (sym (append-nil h)); outer = o; accepts = a; size = suc n; sizes = omega arith; end = spot.used + suc n; ends = omega arith; head = d; room = r } })
+  begin_stands spot s fs u h (forms.Listing x) n o a d e r =
       cond_both (nat_lt (levels fs) l.depth) _ _ (Leaves g l (u ++ h) s)
       (λ j. let deep = ltb-true (levels fs) l.depth j in
-      items_stand mid start c s fs (u ++ h) (mid + n) x [] (deliver_stands mid start c s fs)
-      (record { front = u ++ h; body = []; whole = sym (append-nil (u ++ h)); box = boxed start c s fs u h (forms.Listing x) n (mid + n) o d (omega arith) r; items = nothing; deep = omega arith; within = omega arith }) e)
+      items_stand spot s fs (u ++ h) (spot.used + n) x [] (deliver_stands spot s fs)
+      (record { front = u ++ h; body = []; whole = sym (append-nil (u ++ h)); box = boxed spot.start spot.context s fs u h (forms.Listing x) n (spot.used + n) o d (omega arith) r; items = nothing; deep = omega arith; within = omega arith }) e)
       (λ j. tt)
-  begin_stands mid start c s fs u h forms.Struct n o a d e r = struct_begins mid start c s fs u h forms.Struct n tt o d e r
-  begin_stands mid start c s fs u h forms.OrderedStruct zero o a d e r = tt
-  begin_stands mid start c s fs u h forms.OrderedStruct (suc n) o a d e r =
-      subst (Leaves g l (u ++ h) s) (sym (begin_ordered g l mid start c fs (suc n) (omega arith))) (struct_begins mid start c s fs u h forms.OrderedStruct (suc n) (omega arith) o d e r)
-  begin_stands mid start c s fs u h forms.Wrapper zero o a d e r = tt
-  begin_stands mid start c s fs u h forms.Wrapper (suc n) o a d e r =
-      subst (Leaves g l (u ++ h) s) (sym (begin_wrapper g l mid start c fs (suc n) (omega arith)))
-      (record { used = e; standing = record { front = u ++ h; digits = []; whole = sym (append-nil (u ++ h)); box = boxed start c s fs u h forms.Wrapper (suc n) (mid + suc n) o d (omega arith) r; bare = a; none_yet = refl; small = none; value = refl; going = omega arith } })
+  begin_stands spot s fs u h forms.Struct n o a d e r = struct_begins spot s fs u h forms.Struct n tt o d e r
+  begin_stands spot s fs u h forms.OrderedStruct zero o a d e r = tt
+  begin_stands spot s fs u h forms.OrderedStruct (suc n) o a d e r =
+      subst (Leaves g l (u ++ h) s) (sym (begin_ordered g l spot fs (suc n) (omega arith))) (struct_begins spot s fs u h forms.OrderedStruct (suc n) (omega arith) o d e r)
+  begin_stands spot s fs u h forms.Wrapper zero o a d e r = tt
+  begin_stands spot s fs u h forms.Wrapper (suc n) o a d e r =
+      subst (Leaves g l (u ++ h) s) (sym (begin_wrapper g l spot fs (suc n) (omega arith)))
+      (record { used = e; standing = record { front = u ++ h; digits = []; whole = sym (append-nil (u ++ h)); box = boxed spot.start spot.context s fs u h forms.Wrapper (suc n) (spot.used + suc n) o d (omega arith) r; bare = a; none_yet = refl; small = none; value = refl; going = omega arith } })
 
-  sized_stands : (mid start : ℕ) (c : List Slot) (s : List Value) (fs : List Frame) (u h : List ℕ) (form : Form) (n : ℕ) → Opened g l start c s fs u → (stray fs form ≡ None → Accepts form fs) → Header form n h → mid ≡ length (u ++ h)
-      → Leaves g l (u ++ h) s (sized g l.depth l.item mid start c fs form n)
-  sized_stands mid start c s fs u h form n o a d e =
-      unless_leaves (u ++ h) s (begin g l.depth mid start c fs form n) (unfit l.item start fs form (mid + n)) (λ j.
-      let j1 = or_none (stray fs form) (or_else (misfits l.item start fs form (mid + n)) (nameless fs form)) j in
-      let j2 = or_none (misfits l.item start fs form (mid + n)) (nameless fs form) j1.1 in
-      begin_stands mid start c s fs u h form n o (a j1.0) d e (misfits_ends l start fs form (mid + n) j2.0))
+  sized_stands : (spot : Spot) (s : List Value) (fs : List Frame) (u h : List ℕ) (form : Form) (n : ℕ) → Opened g l spot.start spot.context s fs u → (stray fs form ≡ None → Accepts form fs) → Header form n h → spot.used ≡ length (u ++ h)
+      → Leaves g l (u ++ h) s (sized (under g l) spot fs form n)
+  sized_stands spot s fs u h form n o a d e =
+      unless_leaves (u ++ h) s (begin (under g l) spot fs form n) (unfit l.item spot.start fs form (spot.used + n)) (λ j.
+      let j1 = or_none (stray fs form) (or_else (misfits l.item spot.start fs form (spot.used + n)) (nameless fs form)) j in
+      let j2 = or_none (misfits l.item spot.start fs form (spot.used + n)) (nameless fs form) j1.1 in
+      begin_stands spot s fs u h form n o (a j1.0) d e (misfits_ends l spot.start fs form (spot.used + n) j2.0))
 
   -- a VarUInt goes on
-  goes_stands : (to start : ℕ) (c : List Slot) (s : List Value) (fs : List Frame) (u : List ℕ) (p : Purpose) (a b : ℕ) → NumberStands g l start c s fs p a u → b < 128 → 128 * a + b < 2 ^ 63 → to ≡ length (u ++ b ∷ [])
-      → Leaves g l (u ++ b ∷ []) s (longer l.item to start c fs p (128 * a + b))
-  goes_stands to start c s fs u p a b o h bound e = unless_leaves (u ++ b ∷ []) s _ (past l.item start fs p to) (λ j. record { used = e; standing = more_number fs p o j })
+  goes_stands : (spot : Spot) (s : List Value) (fs : List Frame) (u : List ℕ) (p : Purpose) (a b : ℕ) → NumberStands g l spot.start spot.context s fs p a u → b < 128 → 128 * a + b < 2 ^ 63 → spot.used ≡ length (u ++ b ∷ [])
+      → Leaves g l (u ++ b ∷ []) s (longer (under g l) spot fs p (128 * a + b))
+  goes_stands spot s fs u p a b o h bound e = unless_leaves (u ++ b ∷ []) s _ (past l.item spot.start fs p spot.used) (λ j. record { used = e; standing = more_number fs p o j })
     where
       value_of : (ds : List ℕ) → a ≡ positional 128 ds → 128 * a + b ≡ positional 128 (ds ++ b ∷ [])
       value_of ds v = let i = positional_push 128 ds b in omega arith
 
-      more_number : (fs : List Frame) (p : Purpose) → NumberStands g l start c s fs p a u → past l.item start fs p to ≡ None → NumberStands g l start c s fs p (128 * a + b) (u ++ b ∷ [])
-      more_number fs (purposes.Length form) o j = record { before = o.before; b = o.b; digits = o.digits ++ b ∷ []; whole = ap (λ x. x ++ b ∷ []) o.whole ∙ append_assoc o.before (o.b ∷ o.digits) (b ∷ []); outer = o.outer; accepts = o.accepts; head = o.head; small = more o.digits b o.small h; value = value_of o.digits o.value; bound = bound; going = subst (Going l start fs form) e (unending_going l start fs form to j) }
-      more_number (frames.Fields end ms ∷ fs) purposes.FieldName o j = let k = ltb-true to end (cond_none _ _ j) in record { front = o.front; digits = o.digits ++ b ∷ []; whole = ap (λ x. x ++ b ∷ []) o.whole ∙ append_assoc o.front o.digits (b ∷ []); inside = o.inside; small = more o.digits b o.small h; value = value_of o.digits o.value; going = omega arith }
-      more_number (frames.Annotated end ss ∷ fs) purposes.AnnotationsLength o j = let k = ltb-true to end (cond_none _ _ j) in record { front = o.front; digits = o.digits ++ b ∷ []; whole = ap (λ x. x ++ b ∷ []) o.whole ∙ append_assoc o.front o.digits (b ∷ []); box = o.box; bare = o.bare; none_yet = o.none_yet; small = more o.digits b o.small h; value = value_of o.digits o.value; going = omega arith }
+      more_number : (fs : List Frame) (p : Purpose) → NumberStands g l spot.start spot.context s fs p a u → past l.item spot.start fs p spot.used ≡ None → NumberStands g l spot.start spot.context s fs p (128 * a + b) (u ++ b ∷ [])
+      more_number fs (purposes.Length form) o j = record { before = o.before; b = o.b; digits = o.digits ++ b ∷ []; whole = ap (λ x. x ++ b ∷ []) o.whole ∙ append_assoc o.before (o.b ∷ o.digits) (b ∷ []); outer = o.outer; accepts = o.accepts; head = o.head; small = more o.digits b o.small h; value = value_of o.digits o.value; bound = bound; going = subst (Going l spot.start fs form) e (unending_going l spot.start fs form spot.used j) }
+      more_number (frames.Fields end ms ∷ fs) purposes.FieldName o j = let k = ltb-true spot.used end (cond_none _ _ j) in record { front = o.front; digits = o.digits ++ b ∷ []; whole = ap (λ x. x ++ b ∷ []) o.whole ∙ append_assoc o.front o.digits (b ∷ []); inside = o.inside; small = more o.digits b o.small h; value = value_of o.digits o.value; going = omega arith }
+      more_number (frames.Annotated end ss ∷ fs) purposes.AnnotationsLength o j = let k = ltb-true spot.used end (cond_none _ _ j) in record { front = o.front; digits = o.digits ++ b ∷ []; whole = ap (λ x. x ++ b ∷ []) o.whole ∙ append_assoc o.front o.digits (b ∷ []); box = o.box; bare = o.bare; none_yet = o.none_yet; small = more o.digits b o.small h; value = value_of o.digits o.value; going = omega arith }
       more_number (frames.Annotated end ss ∷ fs) (purposes.Annotation stop) o j =
-          let k = ltb-true to stop (cond_none _ _ j) in
+          let k = ltb-true spot.used stop (cond_none _ _ j) in
           let i : (o.count ++ (o.ids ++ o.digits)) ++ b ∷ [] ≡ o.count ++ (o.ids ++ (o.digits ++ b ∷ [])) = append_assoc o.count (o.ids ++ o.digits) (b ∷ []) ∙ ap (λ x. o.count ++ x) (append_assoc o.ids o.digits (b ∷ [])) in
           record { front = o.front; count = o.count; ids = o.ids; digits = o.digits ++ b ∷ []; n = o.n; whole = ap (λ x. x ++ b ∷ []) o.whole ∙ (append_assoc o.front (o.count ++ (o.ids ++ o.digits)) (b ∷ []) ∙ ap (λ x. o.front ++ x) i); box = o.box; bare = o.bare; number = o.number; some = o.some; stops = o.stops; symbols = o.symbols; small = more o.digits b o.small h; value = value_of o.digits o.value; room = o.room; going = omega arith }
       more_number _ _ o j = absurd o
 
   -- a VarUInt has ended
-  came_stands : (to start : ℕ) (c : List Slot) (s : List Value) (fs : List Frame) (u : List ℕ) (p : Purpose) (a b n : ℕ) → NumberStands g l start c s fs p a u → ((ds : List ℕ) → Digits ds → a ≡ positional 128 ds → VarUInt (ds ++ b ∷ []) n) → to ≡ length (u ++ b ∷ [])
-      → Leaves g l (u ++ b ∷ []) s (number_came g l.depth l.item to start c fs p n)
-  came_stands to start c s fs u (purposes.Length form) a b n o v e =
+  came_stands : (spot : Spot) (s : List Value) (fs : List Frame) (u : List ℕ) (p : Purpose) (a b n : ℕ) → NumberStands g l spot.start spot.context s fs p a u → ((ds : List ℕ) → Digits ds → a ≡ positional 128 ds → VarUInt (ds ++ b ∷ []) n) → spot.used ≡ length (u ++ b ∷ [])
+      → Leaves g l (u ++ b ∷ []) s (number_came (under g l) spot fs p n)
+  came_stands spot s fs u (purposes.Length form) a b n o v e =
       let whole : u ++ b ∷ [] ≡ o.before ++ (o.b ∷ (o.digits ++ b ∷ [])) = ap (λ x. x ++ b ∷ []) o.whole ∙ append_assoc o.before (o.b ∷ o.digits) (b ∷ []) in
-      subst (λ y. Leaves g l y s (sized g l.depth l.item to start c fs form n)) (sym whole)
-      (sized_stands to start c s fs o.before (o.b ∷ (o.digits ++ b ∷ [])) form n o.outer (λ i. o.accepts) (long o.b (o.digits ++ b ∷ []) o.head (v o.digits o.small o.value)) (e ∙ ap length whole))
-  came_stands to start c s (frames.Fields end ms ∷ fs) u purposes.FieldName a b n o v e =
-      cond_both (nat_lt to end) _ _ (Leaves g l (u ++ b ∷ []) s)
+      subst (λ y. Leaves g l y s (sized (under g l) spot fs form n)) (sym whole)
+      (sized_stands spot s fs o.before (o.b ∷ (o.digits ++ b ∷ [])) form n o.outer (λ i. o.accepts) (long o.b (o.digits ++ b ∷ []) o.head (v o.digits o.small o.value)) (e ∙ ap length whole))
+  came_stands spot s (frames.Fields end ms ∷ fs) u purposes.FieldName a b n o v e =
+      cond_both (nat_lt spot.used end) _ _ (Leaves g l (u ++ b ∷ []) s)
       (λ j.
-      let room = ltb-true to end j in
+      let room = ltb-true spot.used end j in
       record {
         used = e;
         standing = record {
@@ -436,16 +436,16 @@ module _ (g : Catalog) (l : Limits) where
         };
       })
       (λ j. tt)
-  came_stands to start c s (frames.Annotated end ss ∷ fs) u purposes.AnnotationsLength a b n o v e =
+  came_stands spot s (frames.Annotated end ss ∷ fs) u purposes.AnnotationsLength a b n o v e =
       let whole : u ++ b ∷ [] ≡ o.front ++ (o.digits ++ b ∷ []) = ap (λ x. x ++ b ∷ []) o.whole ∙ append_assoc o.front o.digits (b ∷ []) in
       let k1 = ap length whole in
       let k2 = length-append o.front (o.digits ++ b ∷ []) in
       cond_both (n == 0) _ _ (Leaves g l (u ++ b ∷ []) s) (λ z. tt)
       (λ z.
       let some = eqb-false n 0 z in
-      cond_both (nat_lt (to + n) end) _ _ (Leaves g l (u ++ b ∷ []) s)
+      cond_both (nat_lt (spot.used + n) end) _ _ (Leaves g l (u ++ b ∷ []) s)
       (λ j.
-      let room = ltb-true (to + n) end j in
+      let room = ltb-true (spot.used + n) end j in
       record {
         used = e;
         standing = record {
@@ -460,7 +460,7 @@ module _ (g : Catalog) (l : Limits) where
           number = v o.digits o.small o.value;
           some = omega arith;
           stops = omega arith;
-          symbols = subst (Ids c []) (sym o.none_yet) no_ids;
+          symbols = subst (Ids spot.context []) (sym o.none_yet) no_ids;
           small = none;
           value = refl;
           room = room;
@@ -468,7 +468,7 @@ module _ (g : Catalog) (l : Limits) where
         };
       })
       (λ j. tt))
-  came_stands to start c s (frames.Annotated end ss ∷ fs) u (purposes.Annotation stop) a b n o v e = go (resolve c n) refl
+  came_stands spot s (frames.Annotated end ss ∷ fs) u (purposes.Annotation stop) a b n o v e = go (resolve spot.context n) refl
     where
       id : List ℕ
       id = o.digits ++ b ∷ []
@@ -476,10 +476,10 @@ module _ (g : Catalog) (l : Limits) where
       whole : u ++ b ∷ [] ≡ o.front ++ (o.count ++ (o.ids ++ id))
       whole = ap (λ x. x ++ b ∷ []) o.whole ∙ (append_assoc o.front (o.count ++ (o.ids ++ o.digits)) (b ∷ []) ∙ ap (λ x. o.front ++ x) (append_assoc o.count (o.ids ++ o.digits) (b ∷ []) ∙ ap (λ x. o.count ++ x) (append_assoc o.ids o.digits (b ∷ []))))
 
-      go : (r : Result (Option (List ℕ)) Reason) → resolve c n ≡ r → Leaves g l (u ++ b ∷ []) s (annotation_came to start c (frames.Annotated end ss ∷ fs) stop r)
+      go : (r : Result (Option (List ℕ)) Reason) → resolve spot.context n ≡ r → Leaves g l (u ++ b ∷ []) s (annotation_came spot (frames.Annotated end ss ∷ fs) stop r)
       go (Err x) h = tt
       go (Ok t) h =
-          let symbols : Ids c (o.ids ++ id) (ss ++ t ∷ []) = one_id o.ids id ss n t o.symbols (v o.digits o.small o.value) h in
+          let symbols : Ids spot.context (o.ids ++ id) (ss ++ t ∷ []) = one_id o.ids id ss n t o.symbols (v o.digits o.small o.value) h in
           let k1 = ap length whole in
           let k2 = length_3 o.front o.count (o.ids ++ id) in
           let k3 = length-one u b in
@@ -487,9 +487,9 @@ module _ (g : Catalog) (l : Limits) where
           let rm = o.room in
           let sm = o.some in
           let go = o.going in
-          cond_both (to == stop) _ _ (λ ph. Stands g l (u ++ b ∷ []) s (at to start c (frames.Annotated end (ss ++ t ∷ []) ∷ fs) ph))
+          cond_both (spot.used == stop) _ _ (λ ph. Stands g l (u ++ b ∷ []) s (at spot (frames.Annotated end (ss ++ t ∷ []) ∷ fs) ph))
           (λ j.
-          let here = eqb-true to stop j in
+          let here = eqb-true spot.used stop j in
           let full : o.n ≡ length (o.ids ++ id) = omega arith in
           record {
             used = e;
@@ -499,7 +499,7 @@ module _ (g : Catalog) (l : Limits) where
             };
           })
           (λ j.
-          let apart = eqb-false to stop j in
+          let apart = eqb-false spot.used stop j in
           record {
             used = e;
             standing = record {
@@ -521,72 +521,72 @@ module _ (g : Catalog) (l : Limits) where
               going = omega arith;
             };
           })
-  came_stands to start c s _ u _ a b n o v e = absurd o
+  came_stands spot s _ u _ a b n o v e = absurd o
 
-  number_stands : (to start : ℕ) (c : List Slot) (s : List Value) (fs : List Frame) (u : List ℕ) (p : Purpose) (a b : ℕ) → NumberStands g l start c s fs p a u → to ≡ length (u ++ b ∷ [])
-      → Leaves g l (u ++ b ∷ []) s (on_number g l.depth l.item to start c fs p a b)
-  number_stands to start c s fs u p a b o e =
+  number_stands : (spot : Spot) (s : List Value) (fs : List Frame) (u : List ℕ) (p : Purpose) (a b : ℕ) → NumberStands g l spot.start spot.context s fs p a u → spot.used ≡ length (u ++ b ∷ [])
+      → Leaves g l (u ++ b ∷ []) s (on_number (under g l) spot fs p a b)
+  number_stands spot s fs u p a b o e =
       cond_both (nat_lt b 128) _ _ (Leaves g l (u ++ b ∷ []) s)
       (λ j. cond_both (nat_lt (128 * a + b) (2 ^ 63)) _ _ (Leaves g l (u ++ b ∷ []) s)
-      (λ k. goes_stands to start c s fs u p a b o (ltb-true b 128 j) (ltb-true (128 * a + b) (2 ^ 63) k) e) (λ k. tt))
+      (λ k. goes_stands spot s fs u p a b o (ltb-true b 128 j) (ltb-true (128 * a + b) (2 ^ 63) k) e) (λ k. tt))
       (λ j. cond_both (nat_lt (128 * a + (b - 128)) (2 ^ 63)) _ _ (Leaves g l (u ++ b ∷ []) s)
-      (λ k. came_stands to start c s fs u p a b (128 * a + (b - 128)) o (λ ds t v. ended ds a b t v (ltb-false b 128 j) (ltb-true (128 * a + (b - 128)) (2 ^ 63) k)) e) (λ k. tt))
+      (λ k. came_stands spot s fs u p a b (128 * a + (b - 128)) o (λ ds t v. ended ds a b t v (ltb-false b 128 j) (ltb-true (128 * a + (b - 128)) (2 ^ 63) k)) e) (λ k. tt))
 
   -- a value of one octet
-  one_stands : (to start : ℕ) (c : List Slot) (s : List Value) (fs : List Frame) (u : List ℕ) (b : ℕ) (p : Payload) → Opened g l start c s fs u → to ≡ length (u ++ b ∷ []) → Plain c (b ∷ []) p → depth (bare p) ≡ 0
-      → Leaves g l (u ++ b ∷ []) s (one_octet g l.item to start c fs p)
-  one_stands to start c s fs u b p o e is flat =
-      let sh = shallow start c s fs u o in
-      unless_leaves (u ++ b ∷ []) s (deliver g to start c fs (bare p)) (unfit l.item start fs forms.Struct to) (λ j.
-      let j1 = or_none (stray fs forms.Struct) (or_else (misfits l.item start fs forms.Struct to) (nameless fs forms.Struct)) j in
-      let j2 = or_none (misfits l.item start fs forms.Struct to) (nameless fs forms.Struct) j1.1 in
-      deliver_stands to start c s fs u (b ∷ []) (bare p) o (plain_comes c fs (b ∷ []) p is) e (omega arith) (misfits_ends l start fs forms.Struct to j2.0))
+  one_stands : (spot : Spot) (s : List Value) (fs : List Frame) (u : List ℕ) (b : ℕ) (p : Payload) → Opened g l spot.start spot.context s fs u → spot.used ≡ length (u ++ b ∷ []) → Plain spot.context (b ∷ []) p → depth (bare p) ≡ 0
+      → Leaves g l (u ++ b ∷ []) s (one_octet (under g l) spot fs p)
+  one_stands spot s fs u b p o e is flat =
+      let sh = shallow spot.start spot.context s fs u o in
+      unless_leaves (u ++ b ∷ []) s (deliver (under g l) spot fs (bare p)) (unfit l.item spot.start fs forms.Struct spot.used) (λ j.
+      let j1 = or_none (stray fs forms.Struct) (or_else (misfits l.item spot.start fs forms.Struct spot.used) (nameless fs forms.Struct)) j in
+      let j2 = or_none (misfits l.item spot.start fs forms.Struct spot.used) (nameless fs forms.Struct) j1.1 in
+      deliver_stands spot s fs u (b ∷ []) (bare p) o (plain_comes spot.context fs (b ∷ []) p is) e (omega arith) (misfits_ends l spot.start fs forms.Struct spot.used j2.0))
 
   -- on a descriptor
-  descriptor_stands : (to start : ℕ) (c : List Slot) (s : List Value) (fs : List Frame) (u : List ℕ) (b : ℕ) (d : Opening) → opening_of b ≡ d → Before g l start c s fs u → to ≡ length (u ++ b ∷ [])
-      → Leaves g l (u ++ b ∷ []) s (on_descriptor g l.depth l.item to start c fs d)
-  descriptor_stands to start c s fs u b (Refused reason) i o e = tt
-  descriptor_stands to start c s [] u b Marker i o e =
+  descriptor_stands : (spot : Spot) (s : List Value) (fs : List Frame) (u : List ℕ) (b : ℕ) (d : Opening) → opening_of b ≡ d → Before g l spot.start spot.context s fs u → spot.used ≡ length (u ++ b ∷ [])
+      → Leaves g l (u ++ b ∷ []) s (on_descriptor (under g l) spot fs d)
+  descriptor_stands spot s fs u b (Refused reason) i o e = tt
+  descriptor_stands spot s [] u b Marker i o e =
       record { used = e; standing = record { before = u; came = b ∷ []; whole = refl; long = refl; fits = ap (λ x. x ∷ []) (marker_is b i); front = inr o.opened; top = refl } }
-  descriptor_stands to start c s (f ∷ fs) u b Marker i o e = tt
-  descriptor_stands to start c s fs u b (Null k) i o e = one_stands to start c s fs u b (payloads.Null k) o.opened e (is_null b k i) (depth-Null k)
-  descriptor_stands to start c s fs u b (Truth k) i o e = one_stands to start c s fs u b (payloads.Truth k) o.opened e (is_truth b k i) (depth-Truth k)
-  descriptor_stands to start c s fs u b (Sized form (Known n)) i o e = sized_stands to start c s fs u (b ∷ []) form n o.opened (stray_accepts fs form o.receives) (short b i) e
-  descriptor_stands to start c s fs u b (Sized form Follows) i o e =
+  descriptor_stands spot s (f ∷ fs) u b Marker i o e = tt
+  descriptor_stands spot s fs u b (Null k) i o e = one_stands spot s fs u b (payloads.Null k) o.opened e (is_null b k i) (depth-Null k)
+  descriptor_stands spot s fs u b (Truth k) i o e = one_stands spot s fs u b (payloads.Truth k) o.opened e (is_truth b k i) (depth-Truth k)
+  descriptor_stands spot s fs u b (Sized form (Known n)) i o e = sized_stands spot s fs u (b ∷ []) form n o.opened (stray_accepts fs form o.receives) (short b i) e
+  descriptor_stands spot s fs u b (Sized form Follows) i o e =
       unless_leaves (u ++ b ∷ []) s _ (stray fs form) (λ j1.
-      unless_leaves (u ++ b ∷ []) s _ (unending l.item start fs form to) (λ j2.
+      unless_leaves (u ++ b ∷ []) s _ (unending l.item spot.start fs form spot.used) (λ j2.
       unless_leaves (u ++ b ∷ []) s _ (nameless fs form) (λ j3.
-      record { used = e; standing = record { before = u; b = b; digits = []; whole = refl; outer = o.opened; accepts = stray_accepts fs form o.receives j1; head = i; small = none; value = refl; bound = omega arith; going = subst (Going l start fs form) e (unending_going l start fs form to j2) } })))
+      record { used = e; standing = record { before = u; b = b; digits = []; whole = refl; outer = o.opened; accepts = stray_accepts fs form o.receives j1; head = i; small = none; value = refl; bound = omega arith; going = subst (Going l spot.start fs form) e (unending_going l spot.start fs form spot.used j2) } })))
 
   -- on an octet of a body
-  body_stands : (to start : ℕ) (c : List Slot) (s : List Value) (fs : List Frame) (u : List ℕ) (b : ℕ) (t : Scalar) (n : ℕ) (came : List ℕ) → BodyStands g l start c s fs (forms.Scalar t) n came u → to ≡ length (u ++ b ∷ [])
-      → Leaves g l (u ++ b ∷ []) s (on_body g to start c fs t n came b)
-  body_stands to start c s fs u b t zero came o e =
+  body_stands : (spot : Spot) (s : List Value) (fs : List Frame) (u : List ℕ) (b : ℕ) (t : Scalar) (n : ℕ) (came : List ℕ) → BodyStands g l spot.start spot.context s fs (forms.Scalar t) n came u → spot.used ≡ length (u ++ b ∷ [])
+      → Leaves g l (u ++ b ∷ []) s (on_body (under g l) spot fs t n (came ++ b ∷ []))
+  body_stands spot s fs u b t zero came o e =
       let whole : u ++ b ∷ [] ≡ o.before ++ (o.header ++ (came ++ b ∷ [])) = ap (λ x. x ++ b ∷ []) o.whole ∙ regroup o.before o.header came (b ∷ []) in
       let k1 = ap length whole in
       let k2 = length_3 o.before o.header (came ++ b ∷ []) in
       let one = length-one came b in
       let sizes = o.sizes in
       let ends = o.ends in
-      let sh = shallow start c s fs o.before o.outer in
-      judged_leaves (u ++ b ∷ []) s to start c fs (judge c t (came ++ b ∷ [])) (λ p j.
-      let is = judge_sound c t (came ++ b ∷ []) p j in
-      let flat = scalar_flat c (came ++ b ∷ []) t p is in
+      let sh = shallow spot.start spot.context s fs o.before o.outer in
+      judged_leaves (u ++ b ∷ []) s spot fs (judge spot.context t (came ++ b ∷ [])) (λ p j.
+      let is = judge_sound spot.context t (came ++ b ∷ []) p j in
+      let flat = scalar_flat spot.context (came ++ b ∷ []) t p is in
       let full : o.size ≡ length (came ++ b ∷ []) = omega arith in
-      let here : o.end ≡ to = omega arith in
-      subst (λ y. Leaves g l y s (deliver g to start c fs (bare p))) (sym whole)
-      (deliver_stands to start c s fs o.before (o.header ++ (came ++ b ∷ [])) (bare p) o.outer
-      (plain_comes c fs _ _ (is_scalar o.header (came ++ b ∷ []) t p (subst (λ n. Header (forms.Scalar t) n o.header) full o.head) is))
-      (e ∙ ap length whole) (omega arith) (ends_back l start fs (forms.Scalar t) to refl (subst (Ends l start fs (forms.Scalar t)) here o.room))))
-  body_stands to start c s fs u b t (suc n) came o e =
+      let here : o.end ≡ spot.used = omega arith in
+      subst (λ y. Leaves g l y s (deliver (under g l) spot fs (bare p))) (sym whole)
+      (deliver_stands spot s fs o.before (o.header ++ (came ++ b ∷ [])) (bare p) o.outer
+      (plain_comes spot.context fs _ _ (is_scalar o.header (came ++ b ∷ []) t p (subst (λ n. Header (forms.Scalar t) n o.header) full o.head) is))
+      (e ∙ ap length whole) (omega arith) (ends_back l spot.start fs (forms.Scalar t) spot.used refl (subst (Ends l spot.start fs (forms.Scalar t)) here o.room))))
+  body_stands spot s fs u b t (suc n) came o e =
       let one = length-one came b in
       let sizes = o.sizes in
-      subst (Leaves g l (u ++ b ∷ []) s) (sym (body_more g l to start c fs t n came b))
+      subst (Leaves g l (u ++ b ∷ []) s) (sym (body_more g l spot fs t n came b))
       (record { used = e; standing = record { before = o.before; header = o.header; whole = ap (λ x. x ++ b ∷ []) o.whole ∙ regroup o.before o.header came (b ∷ []); outer = o.outer; accepts = o.accepts; size = o.size; sizes = omega arith; end = o.end; ends = o.ends; head = o.head; room = o.room } })
 
-  pad_stands : (to start : ℕ) (c : List Slot) (s : List Value) (fs : List Frame) (u : List ℕ) (b n : ℕ) (came : List ℕ) → BodyStands g l start c s fs forms.Pad n came u → to ≡ length (u ++ b ∷ [])
-      → Leaves g l (u ++ b ∷ []) s (on_pad g to start c fs n)
-  pad_stands to start c s fs u b zero came o e =
+  pad_stands : (spot : Spot) (s : List Value) (fs : List Frame) (u : List ℕ) (b n : ℕ) (came : List ℕ) → BodyStands g l spot.start spot.context s fs forms.Pad n came u → spot.used ≡ length (u ++ b ∷ [])
+      → Leaves g l (u ++ b ∷ []) s (on_pad (under g l) spot fs n)
+  pad_stands spot s fs u b zero came o e =
       let whole : u ++ b ∷ [] ≡ o.before ++ (o.header ++ (came ++ b ∷ [])) = ap (λ x. x ++ b ∷ []) o.whole ∙ regroup o.before o.header came (b ∷ []) in
       let k1 = ap length whole in
       let k2 = length_3 o.before o.header (came ++ b ∷ []) in
@@ -594,14 +594,14 @@ module _ (g : Catalog) (l : Limits) where
       let sizes = o.sizes in
       let ends = o.ends in
       let full : o.size ≡ length (came ++ b ∷ []) = omega arith in
-      let here : o.end ≡ to = omega arith in
-      subst (λ y. Leaves g l y s (proceed g to start c fs)) (sym whole)
-      (skip_stands to start c s fs o.before (o.header ++ (came ++ b ∷ [])) o.outer o.accepts.0 (skipped o.header (came ++ b ∷ []) (subst (λ n. Header forms.Pad n o.header) full o.head))
-      (e ∙ ap length whole) (subst (Ends l start fs forms.Pad) here o.room))
-  pad_stands to start c s fs u b (suc n) came o e =
+      let here : o.end ≡ spot.used = omega arith in
+      subst (λ y. Leaves g l y s (proceed (under g l) spot fs)) (sym whole)
+      (skip_stands spot s fs o.before (o.header ++ (came ++ b ∷ [])) o.outer o.accepts.0 (skipped o.header (came ++ b ∷ []) (subst (λ n. Header forms.Pad n o.header) full o.head))
+      (e ∙ ap length whole) (subst (Ends l spot.start fs forms.Pad) here o.room))
+  pad_stands spot s fs u b (suc n) came o e =
       let one = length-one came b in
       let sizes = o.sizes in
-      subst (Leaves g l (u ++ b ∷ []) s) (sym (pad_more g l to start c fs n))
+      subst (Leaves g l (u ++ b ∷ []) s) (sym (pad_more g l spot fs n))
       (record { used = e; standing = (came ++ b ∷ [], record { before = o.before; header = o.header; whole = ap (λ x. x ++ b ∷ []) o.whole ∙ regroup o.before o.header came (b ∷ []); outer = o.outer; accepts = o.accepts; size = o.size; sizes = omega arith; end = o.end; ends = o.ends; head = o.head; room = o.room }) })
 
   -- on an octet of a marker
@@ -612,7 +612,7 @@ module _ (g : Catalog) (l : Limits) where
       let j = o.long in
       record { before = o.before; came = o.came ++ b ∷ []; whole = ap (λ x. x ++ b ∷ []) o.whole ∙ append_assoc o.before o.came (b ∷ []); long = omega arith; fits = fit o.fits; front = o.front; top = o.top }
 
-  marked_stands : (to : ℕ) (c : List Slot) (s : List Value) (fs : List Frame) (u v : List ℕ) (start : ℕ) → fs ≡ [] → Front g l start c s u → v ≡ u ++ the_marker → to ≡ length v → Stands g l v s (at to to system_slots fs Ready)
+  marked_stands : (to : ℕ) (c : List Slot) (s : List Value) (fs : List Frame) (u v : List ℕ) (start : ℕ) → fs ≡ [] → Front g l start c s u → v ≡ u ++ the_marker → to ≡ length v → Stands g l v s (at (anew to system_slots) fs Ready)
   marked_stands to c s fs u v start i (inl h) e k =
       let d : Pieces g l v s system_slots = subst₂ (λ x y. Pieces g l x y system_slots) (sym (e ∙ ap (λ x. x ++ the_marker) h.0)) (sym h.1) begins in
       rw i (record { used = k; standing = record { opened = (d, sym k); receives = tt } })
@@ -620,34 +620,34 @@ module _ (g : Catalog) (l : Limits) where
       let d : Pieces g l v s system_slots = subst (λ x. Pieces g l x s system_slots) (sym e) (marked u s c h.0) in
       rw i (record { used = k; standing = record { opened = (d, sym k); receives = tt } })
 
-  marker_stands : (to start : ℕ) (c : List Slot) (s : List Value) (fs : List Frame) (u : List ℕ) (b : ℕ) (m : Mark) (good : Bool) → MarkerStands g l start c s fs m good u → to ≡ length (u ++ b ∷ [])
-      → Leaves g l (u ++ b ∷ []) s (on_marker to start c fs m good b)
-  marker_stands to start c s fs u b First good o e =
+  marker_stands : (spot : Spot) (s : List Value) (fs : List Frame) (u : List ℕ) (b : ℕ) (m : Mark) (good : Bool) → MarkerStands g l spot.start spot.context s fs m good u → spot.used ≡ length (u ++ b ∷ [])
+      → Leaves g l (u ++ b ∷ []) s (on_marker spot fs m good b)
+  marker_stands spot s fs u b First good o e =
       cond_both (b == 224) _ _ (Leaves g l (u ++ b ∷ []) s)
-      (λ h. record { used = e; standing = goes_on start c s fs u b First Second good good o refl (good_map good (o.came ≡ marker_front First) (o.came ++ b ∷ [] ≡ marker_front Second) (λ p. ap (λ x. x ++ b ∷ []) p ∙ ap (λ x. x ∷ []) (eqb-true b 224 h))) })
+      (λ h. record { used = e; standing = goes_on spot.start spot.context s fs u b First Second good good o refl (good_map good (o.came ≡ marker_front First) (o.came ++ b ∷ [] ≡ marker_front Second) (λ p. ap (λ x. x ++ b ∷ []) p ∙ ap (λ x. x ∷ []) (eqb-true b 224 h))) })
       (λ h. tt)
-  marker_stands to start c s fs u b Second good o e =
-      record { used = e; standing = goes_on start c s fs u b Second Third good (good && (b == 1)) o refl (good_and good (b == 1) (o.came ≡ marker_front Second) (o.came ++ b ∷ [] ≡ marker_front Third) (λ h p. ap (λ x. x ++ b ∷ []) p ∙ ap (λ x. 224 ∷ x ∷ []) (eqb-true b 1 h))) }
-  marker_stands to start c s fs u b Third good o e =
-      record { used = e; standing = goes_on start c s fs u b Third Fourth good (good && (b == 0)) o refl (good_and good (b == 0) (o.came ≡ marker_front Third) (o.came ++ b ∷ [] ≡ marker_front Fourth) (λ h p. ap (λ x. x ++ b ∷ []) p ∙ ap (λ x. 224 ∷ 1 ∷ x ∷ []) (eqb-true b 0 h))) }
-  marker_stands to start c s fs u b Fourth true o e =
+  marker_stands spot s fs u b Second good o e =
+      record { used = e; standing = goes_on spot.start spot.context s fs u b Second Third good (good && (b == 1)) o refl (good_and good (b == 1) (o.came ≡ marker_front Second) (o.came ++ b ∷ [] ≡ marker_front Third) (λ h p. ap (λ x. x ++ b ∷ []) p ∙ ap (λ x. 224 ∷ x ∷ []) (eqb-true b 1 h))) }
+  marker_stands spot s fs u b Third good o e =
+      record { used = e; standing = goes_on spot.start spot.context s fs u b Third Fourth good (good && (b == 0)) o refl (good_and good (b == 0) (o.came ≡ marker_front Third) (o.came ++ b ∷ [] ≡ marker_front Fourth) (λ h p. ap (λ x. x ++ b ∷ []) p ∙ ap (λ x. 224 ∷ 1 ∷ x ∷ []) (eqb-true b 0 h))) }
+  marker_stands spot s fs u b Fourth true o e =
       cond_both (b == 234) _ _ (Leaves g l (u ++ b ∷ []) s)
-      (λ h. marked_stands to c s fs o.before (u ++ b ∷ []) start o.top o.front
+      (λ h. marked_stands spot.used spot.context s fs o.before (u ++ b ∷ []) spot.start o.top o.front
       (ap (λ x. x ++ b ∷ []) o.whole ∙ append_assoc o.before o.came (b ∷ []) ∙ ap (λ x. o.before ++ x) (ap (λ x. x ++ b ∷ []) o.fits ∙ ap (λ x. 224 ∷ 1 ∷ 0 ∷ x ∷ []) (eqb-true b 234 h))) e)
       (λ h. tt)
-  marker_stands to start c s fs u b Fourth false o e = cond_both (b == 234) _ _ (Leaves g l (u ++ b ∷ []) s) (λ h. tt) (λ h. tt)
+  marker_stands spot s fs u b Fourth false o e = cond_both (b == 234) _ _ (Leaves g l (u ++ b ∷ []) s) (λ h. tt) (λ h. tt)
 
   -- on any octet
-  step_stands : (used start : ℕ) (c : List Slot) (s : List Value) (fs : List Frame) (body : List ℕ) (phase : Phase) (u : List ℕ) (b : ℕ) → used ≡ length u → Standing g l start c s fs body phase u
-      → Leaves g l (u ++ b ∷ []) s (on_phase g l.depth l.item (used + 1) start c fs body phase b)
-  step_stands used start c s fs body (InMarker m good) u b e o = let i = length-one u b in marker_stands (used + 1) start c s fs u b m good o (omega arith)
-  step_stands used start c s fs body Ready u b e o = let i = length-one u b in descriptor_stands (used + 1) start c s fs u b (opening_of b) refl o (omega arith)
-  step_stands used start c s fs body (InNumber p a) u b e o = let i = length-one u b in number_stands (used + 1) start c s fs u p a b o (omega arith)
-  step_stands used start c s fs body (InBody t n) u b e o = let i = length-one u b in body_stands (used + 1) start c s fs u b t n body o (omega arith)
-  step_stands used start c s fs body (InPad n) u b e o = let i = length-one u b in pad_stands (used + 1) start c s fs u b n o.0 o.1 (omega arith)
+  step_stands : (m : Machine) (s : List Value) (phase : Phase) (u : List ℕ) (b : ℕ) → m.spot.used ≡ length u → Standing g l m.spot.start m.spot.context s m.frames m.body phase u
+      → Leaves g l (u ++ b ∷ []) s (on_phase (under g l) (counted m) phase b)
+  step_stands m s (InMarker k good) u b e o = let i = length-one u b in marker_stands (counted m).spot s m.frames u b k good o (omega arith)
+  step_stands m s Ready u b e o = let i = length-one u b in descriptor_stands (counted m).spot s m.frames u b (opening_of b) refl o (omega arith)
+  step_stands m s (InNumber p a) u b e o = let i = length-one u b in number_stands (counted m).spot s m.frames u p a b o (omega arith)
+  step_stands m s (InBody t n) u b e o = let i = length-one u b in body_stands (counted m).spot s m.frames u b t n m.body o (omega arith)
+  step_stands m s (InPad n) u b e o = let i = length-one u b in pad_stands (counted m).spot s m.frames u b n o.0 o.1 (omega arith)
 
-  feed_stands : (m : Machine) (u : List ℕ) (s : List Value) (b : ℕ) → Stands g l u s m → Leaves g l (u ++ b ∷ []) s (feed g l m b)
-  feed_stands m u s b o = step_stands m.used m.start m.context s m.frames m.body m.phase u b o.used o.standing
+  feed_stands : (m : Machine) (u : List ℕ) (s : List Value) (b : ℕ) → Stands g l u s m → Leaves g l (u ++ b ∷ []) s (feed (under g l) m b)
+  feed_stands m u s b o = step_stands m s m.phase u b o.used o.standing
 
   -- what a run ends in stands for the octets and the values
   abbrev pub Ended : List ℕ → List Value → List (Value × ℕ) → Result Machine Refusal → Type 0
@@ -661,7 +661,7 @@ module _ (g : Catalog) (l : Limits) where
   -- on any octets
   pub run_stands : (to : ℕ) (m : Machine) (u w : List ℕ) (s : List Value) → Stands g l u s m → Ended (u ++ w) s (run g l to m w).given (run g l to m w).now
   run_stands to m u [] s o = subst₂ (λ x y. Stands g l x y m) (sym (append-nil u)) (sym (append-nil s)) o
-  run_stands to m u (b ∷ bs) s o = go (feed g l m b) (feed_stands m u s b o) (λ n t p. run_stands (to + 1) n (u ++ b ∷ []) bs t p)
+  run_stands to m u (b ∷ bs) s o = go (feed (under g l) m b) (feed_stands m u s b o) (λ n t p. run_stands (to + 1) n (u ++ b ∷ []) bs t p)
     where
       go : (r : Outcome) → Leaves g l (u ++ b ∷ []) s r → ((n : Machine) (t : List Value) → Stands g l (u ++ b ∷ []) t n → Ended ((u ++ b ∷ []) ++ bs) t (run g l (to + 1) n bs).given (run g l (to + 1) n bs).now)
           → Ended (u ++ b ∷ bs) s (run_on (to + 1) (λ n. run g l (to + 1) n bs) r).given (run_on (to + 1) (λ n. run g l (to + 1) n bs) r).now

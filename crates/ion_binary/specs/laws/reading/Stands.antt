@@ -268,5 +268,5 @@ Standing g l start c s fs body (InPad n) u = (came : List ℕ) × BodyStands g l
 
 -- u gave s and led to m
 pub record Stands (g : Catalog) (l : Limits) (u : List ℕ) (s : List Value) (m : Machine) : Type 0 where
-  pub used : m.used ≡ length u
-  pub standing : Standing g l m.start m.context s m.frames m.body m.phase u
+  pub used : m.spot.used ≡ length u
+  pub standing : Standing g l m.spot.start m.spot.context s m.frames m.body m.phase u

@@ -11,8 +11,6 @@ use Rattle.ion_scalar.specs.declared.descriptor.Descriptor.TheVariants as descri
 use Rattle.ion_scalar.specs.declared.descriptor.Size.{Size}
 use Rattle.ion_scalar.specs.declared.descriptor.Size.TheVariants.{Known, Follows}
 use Rattle.ion_scalar.specs.binary.Descriptor.{descriptor_of, typed}
-use Rattle.ion_symtab.specs.declared.limits.Limits.{Limits}
-use Rattle.ion_symtab.specs.declared.catalog.Catalog.{Catalog}
 use Rattle.ion_symtab.specs.Slots.{Slot, resolve}
 use Rattle.ion_symtab.specs.Next.{next}
 use Rattle.ion_symtab.specs.Decided.{IsDecided, Decides, either, resolve_decides, next_decides}
@@ -34,12 +32,12 @@ use Rattle.ion_binary.specs.Opening.{opening_of, opens, body_of, with_octets}
 use Rattle.ion_binary.specs.Grammar.{listed}
 use Rattle.ion_binary.specs.machine.Judge.{judge}
 use Rattle.ion_binary.specs.laws.reading.Decided.{judge_decides}
-use Rattle.ion_binary.specs.machine.EachOctet.{Machine, Outcome, goes, gives, refuses, at, end_of, levels, turned, deliver, proceed, is_pad, is_wrapper, unless, or_else, too_long, misfits, stray, nameless, unending, outside, past, unfit, judged, deeper, open_struct, begin, sized, longer, unsized, one_octet, on_descriptor, name_came, count_came, annotation_came, number_came, on_marker, on_phase, feed}
+use Rattle.ion_binary.specs.machine.EachOctet.{Setting, Spot, Machine, Outcome, goes, gives, refuses, end_of, levels, turned, deliver, proceed, is_pad, is_wrapper, unless, or_else, too_long, misfits, stray, nameless, unending, outside, past, unfit, judged, deeper, open_struct, begin, sized, longer, unsized, one_octet, on_descriptor, name_came, count_came, annotation_came, number_came, on_marker, on_phase, counted, feed}
 
 -- the open piece begins at `start` or behind it
 pub record Onward (start : ℕ) (m : Machine) : Type 0 where
-  pub from : start ≤ m.start
-  pub to : m.start ≤ m.used
+  pub from : start ≤ m.spot.start
+  pub to : m.spot.start ≤ m.spot.used
 
 -- the id of a field name was looked up
 abbrev pub FineFrame : Frame → Type 0
@@ -73,34 +71,31 @@ steady_unless : (start : ℕ) (P : Type 0) (o : Option Reason) (r : Outcome) →
 steady_unless start P None r f h = h
 steady_unless start P (Some e) r f h = f
 
-here : (used start : ℕ) (P : Type 0) (c : List Slot) (fs : List Frame) (p : Phase) → start ≤ used → Steady start P (goes (at used start c fs p))
-here used start P c fs p h = record { from = omega arith; to = h }
-
 turned_steady : (used start : ℕ) (P : Type 0) (r : Result (List Slot) Reason) → start ≤ used → Decides r → Steady start P (turned used r)
 turned_steady used start P (Ok d) h f = record { from = h; to = omega arith }
 turned_steady used start P (Err e) h f = λ p. f
 
-deliver_steady : (g : Catalog) (used start : ℕ) (c : List Slot) (fs : List Frame) (v : Value) → start ≤ used → Steady start (FineFrames fs) (deliver g used start c fs v)
-deliver_steady g used start c [] v h =
-    either (Steady start (FineFrames [])) (is_table v) _ _ (turned_steady used start (FineFrames []) (next c v g) h (next_decides c v g)) (record { from = h; to = omega arith })
-deliver_steady g used start c (frames.Items end x vs ∷ fs) v h =
-    either (Steady start (FineFrames (frames.Items end x vs ∷ fs))) (used == end) _ _ (weaken start (FineFrames (frames.Items end x vs ∷ fs)) (FineFrames fs) (deliver g used start c fs (bare (listed x (vs ++ v ∷ [])))) (λ p. p.1) (deliver_steady g used start c fs (bare (listed x (vs ++ v ∷ []))) h)) (record { from = omega arith; to = h })
-deliver_steady g used start c (frames.Fields end ms ∷ fs) v h = λ p. tt
-deliver_steady g used start c (frames.Named end ms (Ok s) ∷ fs) v h =
-    either (Steady start (FineFrames (frames.Named end ms (Ok s) ∷ fs))) (used == end) _ _ (weaken start (FineFrames (frames.Named end ms (Ok s) ∷ fs)) (FineFrames fs) (deliver g used start c fs (bare (payloads.Fields (ms ++ field_of s v ∷ [])))) (λ p. p.1) (deliver_steady g used start c fs (bare (payloads.Fields (ms ++ field_of s v ∷ []))) h)) (record { from = omega arith; to = h })
-deliver_steady g used start c (frames.Named end ms (Err e) ∷ fs) v h = λ p. p.0
-deliver_steady g used start c (frames.Annotated end ss ∷ fs) v h =
-    weaken start (FineFrames (frames.Annotated end ss ∷ fs)) (FineFrames fs) (deliver g used start c fs (annotated ss v.payload)) (λ p. p.1) (deliver_steady g used start c fs (annotated ss v.payload) h)
+deliver_steady : (setting : Setting) (spot : Spot) (fs : List Frame) (v : Value) → spot.start ≤ spot.used → Steady spot.start (FineFrames fs) (deliver setting spot fs v)
+deliver_steady setting spot [] v h =
+    either (Steady spot.start (FineFrames [])) (is_table v) _ _ (turned_steady spot.used spot.start (FineFrames []) (next spot.context v setting.catalog) h (next_decides spot.context v setting.catalog)) (record { from = h; to = omega arith })
+deliver_steady setting spot (frames.Items end x vs ∷ fs) v h =
+    either (Steady spot.start (FineFrames (frames.Items end x vs ∷ fs))) (spot.used == end) _ _ (weaken spot.start (FineFrames (frames.Items end x vs ∷ fs)) (FineFrames fs) (deliver setting spot fs (bare (listed x (vs ++ v ∷ [])))) (λ p. p.1) (deliver_steady setting spot fs (bare (listed x (vs ++ v ∷ []))) h)) (record { from = omega arith; to = h })
+deliver_steady setting spot (frames.Fields end ms ∷ fs) v h = λ p. tt
+deliver_steady setting spot (frames.Named end ms (Ok s) ∷ fs) v h =
+    either (Steady spot.start (FineFrames (frames.Named end ms (Ok s) ∷ fs))) (spot.used == end) _ _ (weaken spot.start (FineFrames (frames.Named end ms (Ok s) ∷ fs)) (FineFrames fs) (deliver setting spot fs (bare (payloads.Fields (ms ++ field_of s v ∷ [])))) (λ p. p.1) (deliver_steady setting spot fs (bare (payloads.Fields (ms ++ field_of s v ∷ []))) h)) (record { from = omega arith; to = h })
+deliver_steady setting spot (frames.Named end ms (Err e) ∷ fs) v h = λ p. p.0
+deliver_steady setting spot (frames.Annotated end ss ∷ fs) v h =
+    weaken spot.start (FineFrames (frames.Annotated end ss ∷ fs)) (FineFrames fs) (deliver setting spot fs (annotated ss v.payload)) (λ p. p.1) (deliver_steady setting spot fs (annotated ss v.payload) h)
 
-proceed_steady : (g : Catalog) (used start : ℕ) (c : List Slot) (fs : List Frame) → start ≤ used → Steady start (FineFrames fs) (proceed g used start c fs)
-proceed_steady g used start c [] h = record { from = h; to = omega arith }
-proceed_steady g used start c (frames.Items end x vs ∷ fs) h =
-    either (Steady start (FineFrames (frames.Items end x vs ∷ fs))) (used == end) _ _ (weaken start (FineFrames (frames.Items end x vs ∷ fs)) (FineFrames fs) (deliver g used start c fs (bare (listed x vs))) (λ p. p.1) (deliver_steady g used start c fs (bare (listed x vs)) h)) (record { from = omega arith; to = h })
-proceed_steady g used start c (frames.Fields end ms ∷ fs) h =
-    either (Steady start (FineFrames (frames.Fields end ms ∷ fs))) (used == end) _ _ (weaken start (FineFrames (frames.Fields end ms ∷ fs)) (FineFrames fs) (deliver g used start c fs (bare (payloads.Fields ms))) (λ p. p.1) (deliver_steady g used start c fs (bare (payloads.Fields ms)) h)) (record { from = omega arith; to = h })
-proceed_steady g used start c (frames.Named end ms name ∷ fs) h =
-    either (Steady start (FineFrames (frames.Named end ms name ∷ fs))) (used == end) _ _ (weaken start (FineFrames (frames.Named end ms name ∷ fs)) (FineFrames fs) (deliver g used start c fs (bare (payloads.Fields ms))) (λ p. p.1) (deliver_steady g used start c fs (bare (payloads.Fields ms)) h)) (record { from = omega arith; to = h })
-proceed_steady g used start c (frames.Annotated end ss ∷ fs) h = λ p. tt
+proceed_steady : (setting : Setting) (spot : Spot) (fs : List Frame) → spot.start ≤ spot.used → Steady spot.start (FineFrames fs) (proceed setting spot fs)
+proceed_steady setting spot [] h = record { from = h; to = omega arith }
+proceed_steady setting spot (frames.Items end x vs ∷ fs) h =
+    either (Steady spot.start (FineFrames (frames.Items end x vs ∷ fs))) (spot.used == end) _ _ (weaken spot.start (FineFrames (frames.Items end x vs ∷ fs)) (FineFrames fs) (deliver setting spot fs (bare (listed x vs))) (λ p. p.1) (deliver_steady setting spot fs (bare (listed x vs)) h)) (record { from = omega arith; to = h })
+proceed_steady setting spot (frames.Fields end ms ∷ fs) h =
+    either (Steady spot.start (FineFrames (frames.Fields end ms ∷ fs))) (spot.used == end) _ _ (weaken spot.start (FineFrames (frames.Fields end ms ∷ fs)) (FineFrames fs) (deliver setting spot fs (bare (payloads.Fields ms))) (λ p. p.1) (deliver_steady setting spot fs (bare (payloads.Fields ms)) h)) (record { from = omega arith; to = h })
+proceed_steady setting spot (frames.Named end ms name ∷ fs) h =
+    either (Steady spot.start (FineFrames (frames.Named end ms name ∷ fs))) (spot.used == end) _ _ (weaken spot.start (FineFrames (frames.Named end ms name ∷ fs)) (FineFrames fs) (deliver setting spot fs (bare (payloads.Fields ms))) (λ p. p.1) (deliver_steady setting spot fs (bare (payloads.Fields ms)) h)) (record { from = omega arith; to = h })
+proceed_steady setting spot (frames.Annotated end ss ∷ fs) h = λ p. tt
 
 long_fine : (item start : ℕ) (form : Form) (to : ℕ) → Fine (too_long item start form to)
 long_fine item start form to = either Fine (is_pad form || nat_le to (start + item)) _ _ tt tt
@@ -149,41 +144,41 @@ unfit_fine : (item start : ℕ) (fs : List Frame) (form : Form) (to : ℕ) → F
 unfit_fine item start fs form to p =
     or_fine (stray fs form) (or_else (misfits item start fs form to) (nameless fs form)) (stray_fine fs form) (or_fine (misfits item start fs form to) (nameless fs form) (misfits_fine item start fs form to) (nameless_fine fs form p))
 
-judged_steady : (g : Catalog) (used start : ℕ) (c : List Slot) (fs : List Frame) (r : Result Payload Reason) → start ≤ used → Decides r → Steady start (FineFrames fs) (judged g used start c fs r)
-judged_steady g used start c fs (Ok p) h f = deliver_steady g used start c fs (bare p) h
-judged_steady g used start c fs (Err e) h f = λ p. f
+judged_steady : (setting : Setting) (spot : Spot) (fs : List Frame) (r : Result Payload Reason) → spot.start ≤ spot.used → Decides r → Steady spot.start (FineFrames fs) (judged setting spot fs r)
+judged_steady setting spot fs (Ok p) h f = deliver_steady setting spot fs (bare p) h
+judged_steady setting spot fs (Err e) h f = λ p. f
 
 deeper_steady : (depth start : ℕ) (fs : List Frame) (r : Outcome) → Steady start (FineFrames fs) r → Steady start (FineFrames fs) (deeper depth fs r)
 deeper_steady depth start fs r h = either (Steady start (FineFrames fs)) (nat_lt (levels fs) depth) _ _ h (λ p. tt)
 
-struct_steady : (g : Catalog) (depth used start : ℕ) (c : List Slot) (fs : List Frame) (n : ℕ) → start ≤ used → Steady start (FineFrames fs) (open_struct g depth used start c fs n)
-struct_steady g depth used start c fs n h =
-    deeper_steady depth start fs _ (weaken start (FineFrames fs) (FineFrames (frames.Fields (used + n) [] ∷ fs)) (proceed g used start c (frames.Fields (used + n) [] ∷ fs)) (λ p. (tt, p)) (proceed_steady g used start c (frames.Fields (used + n) [] ∷ fs) h))
+struct_steady : (setting : Setting) (spot : Spot) (fs : List Frame) (n : ℕ) → spot.start ≤ spot.used → Steady spot.start (FineFrames fs) (open_struct setting spot fs n)
+struct_steady setting spot fs n h =
+    deeper_steady setting.limits.depth spot.start fs _ (weaken spot.start (FineFrames fs) (FineFrames (frames.Fields (spot.used + n) [] ∷ fs)) (proceed setting spot (frames.Fields (spot.used + n) [] ∷ fs)) (λ p. (tt, p)) (proceed_steady setting spot (frames.Fields (spot.used + n) [] ∷ fs) h))
 
-begin_steady : (g : Catalog) (depth used start : ℕ) (c : List Slot) (fs : List Frame) (form : Form) (n : ℕ) → start ≤ used → Steady start (FineFrames fs) (begin g depth used start c fs form n)
-begin_steady g depth used start c fs forms.Pad n h = either (Steady start (FineFrames fs)) (n == 0) _ _ (proceed_steady g used start c fs h) (record { from = omega arith; to = h })
-begin_steady g depth used start c fs (forms.Scalar t) n h = either (Steady start (FineFrames fs)) (n == 0) _ _ (judged_steady g used start c fs (judge c t []) h (judge_decides c t [])) (record { from = omega arith; to = h })
-begin_steady g depth used start c fs (forms.Listing x) n h =
-    deeper_steady depth start fs _ (weaken start (FineFrames fs) (FineFrames (frames.Items (used + n) x [] ∷ fs)) (proceed g used start c (frames.Items (used + n) x [] ∷ fs)) (λ p. (tt, p)) (proceed_steady g used start c (frames.Items (used + n) x [] ∷ fs) h))
-begin_steady g depth used start c fs forms.Struct n h = struct_steady g depth used start c fs n h
-begin_steady g depth used start c fs forms.OrderedStruct n h = either (Steady start (FineFrames fs)) (n == 0) _ _ (λ p. tt) (struct_steady g depth used start c fs n h)
-begin_steady g depth used start c fs forms.Wrapper n h = either (Steady start (FineFrames fs)) (n == 0) _ _ (λ p. tt) (record { from = omega arith; to = h })
+begin_steady : (setting : Setting) (spot : Spot) (fs : List Frame) (form : Form) (n : ℕ) → spot.start ≤ spot.used → Steady spot.start (FineFrames fs) (begin setting spot fs form n)
+begin_steady setting spot fs forms.Pad n h = either (Steady spot.start (FineFrames fs)) (n == 0) _ _ (proceed_steady setting spot fs h) (record { from = omega arith; to = h })
+begin_steady setting spot fs (forms.Scalar t) n h = either (Steady spot.start (FineFrames fs)) (n == 0) _ _ (judged_steady setting spot fs (judge spot.context t []) h (judge_decides spot.context t [])) (record { from = omega arith; to = h })
+begin_steady setting spot fs (forms.Listing x) n h =
+    deeper_steady setting.limits.depth spot.start fs _ (weaken spot.start (FineFrames fs) (FineFrames (frames.Items (spot.used + n) x [] ∷ fs)) (proceed setting spot (frames.Items (spot.used + n) x [] ∷ fs)) (λ p. (tt, p)) (proceed_steady setting spot (frames.Items (spot.used + n) x [] ∷ fs) h))
+begin_steady setting spot fs forms.Struct n h = struct_steady setting spot fs n h
+begin_steady setting spot fs forms.OrderedStruct n h = either (Steady spot.start (FineFrames fs)) (n == 0) _ _ (λ p. tt) (struct_steady setting spot fs n h)
+begin_steady setting spot fs forms.Wrapper n h = either (Steady spot.start (FineFrames fs)) (n == 0) _ _ (λ p. tt) (record { from = omega arith; to = h })
 
-sized_steady : (g : Catalog) (depth item used start : ℕ) (c : List Slot) (fs : List Frame) (form : Form) (n : ℕ) → start ≤ used → Steady start (FineFrames fs) (sized g depth item used start c fs form n)
-sized_steady g depth item used start c fs form n h =
-    steady_unless start (FineFrames fs) (unfit item start fs form (used + n)) _ (unfit_fine item start fs form (used + n)) (begin_steady g depth used start c fs form n h)
+sized_steady : (setting : Setting) (spot : Spot) (fs : List Frame) (form : Form) (n : ℕ) → spot.start ≤ spot.used → Steady spot.start (FineFrames fs) (sized setting spot fs form n)
+sized_steady setting spot fs form n h =
+    steady_unless spot.start (FineFrames fs) (unfit setting.limits.item spot.start fs form (spot.used + n)) _ (unfit_fine setting.limits.item spot.start fs form (spot.used + n)) (begin_steady setting spot fs form n h)
 
-longer_steady : (item used start : ℕ) (c : List Slot) (fs : List Frame) (p : Purpose) (a : ℕ) → start ≤ used → Steady start (FineFrames fs) (longer item used start c fs p a)
-longer_steady item used start c fs p a h = steady_unless start (FineFrames fs) (past item start fs p used) _ (λ i. past_fine item start fs p used) (record { from = omega arith; to = h })
+longer_steady : (setting : Setting) (spot : Spot) (fs : List Frame) (p : Purpose) (a : ℕ) → spot.start ≤ spot.used → Steady spot.start (FineFrames fs) (longer setting spot fs p a)
+longer_steady setting spot fs p a h = steady_unless spot.start (FineFrames fs) (past setting.limits.item spot.start fs p spot.used) _ (λ i. past_fine setting.limits.item spot.start fs p spot.used) (record { from = omega arith; to = h })
 
-unsized_steady : (item used start : ℕ) (c : List Slot) (fs : List Frame) (form : Form) → start ≤ used → Steady start (FineFrames fs) (unsized item used start c fs form)
-unsized_steady item used start c fs form h =
-    steady_unless start (FineFrames fs) (stray fs form) _ (λ i. stray_fine fs form)
-    (steady_unless start (FineFrames fs) (unending item start fs form used) _ (λ i. unending_fine item start fs form used)
-    (steady_unless start (FineFrames fs) (nameless fs form) _ (nameless_fine fs form) (record { from = omega arith; to = h })))
+unsized_steady : (setting : Setting) (spot : Spot) (fs : List Frame) (form : Form) → spot.start ≤ spot.used → Steady spot.start (FineFrames fs) (unsized setting spot fs form)
+unsized_steady setting spot fs form h =
+    steady_unless spot.start (FineFrames fs) (stray fs form) _ (λ i. stray_fine fs form)
+    (steady_unless spot.start (FineFrames fs) (unending setting.limits.item spot.start fs form spot.used) _ (λ i. unending_fine setting.limits.item spot.start fs form spot.used)
+    (steady_unless spot.start (FineFrames fs) (nameless fs form) _ (nameless_fine fs form) (record { from = omega arith; to = h })))
 
-one_steady : (g : Catalog) (item used start : ℕ) (c : List Slot) (fs : List Frame) (p : Payload) → start ≤ used → Steady start (FineFrames fs) (one_octet g item used start c fs p)
-one_steady g item used start c fs p h = steady_unless start (FineFrames fs) (unfit item start fs forms.Struct used) _ (unfit_fine item start fs forms.Struct used) (deliver_steady g used start c fs (bare p) h)
+one_steady : (setting : Setting) (spot : Spot) (fs : List Frame) (p : Payload) → spot.start ≤ spot.used → Steady spot.start (FineFrames fs) (one_octet setting spot fs p)
+one_steady setting spot fs p h = steady_unless spot.start (FineFrames fs) (unfit setting.limits.item spot.start fs forms.Struct spot.used) _ (unfit_fine setting.limits.item spot.start fs forms.Struct spot.used) (deliver_steady setting spot fs (bare p) h)
 
 -- why a descriptor is refused
 
@@ -222,63 +217,64 @@ opening_fine : (b : ℕ) → FineOpening (opening_of b)
 unfolding opening_of descriptor_of
 opening_fine b = opens_fine (descriptor_of b) (typed_fine (b / 16) (b % 16))
 
-descriptor_steady : (g : Catalog) (depth item used start : ℕ) (c : List Slot) (fs : List Frame) (d : Opening) → start ≤ used → FineOpening d → Steady start (FineFrames fs) (on_descriptor g depth item used start c fs d)
-descriptor_steady g depth item used start c fs (Refused e) h f = λ p. f
-descriptor_steady g depth item used start c [] Marker h f = record { from = omega arith; to = h }
-descriptor_steady g depth item used start c (k ∷ fs) Marker h f = λ p. tt
-descriptor_steady g depth item used start c fs (Null k) h f = one_steady g item used start c fs (payloads.Null k) h
-descriptor_steady g depth item used start c fs (Truth t) h f = one_steady g item used start c fs (payloads.Truth t) h
-descriptor_steady g depth item used start c fs (Sized form (Known n)) h f = sized_steady g depth item used start c fs form n h
-descriptor_steady g depth item used start c fs (Sized form Follows) h f = unsized_steady item used start c fs form h
+descriptor_steady : (setting : Setting) (spot : Spot) (fs : List Frame) (d : Opening) → spot.start ≤ spot.used → FineOpening d → Steady spot.start (FineFrames fs) (on_descriptor setting spot fs d)
+descriptor_steady setting spot fs (Refused e) h f = λ p. f
+descriptor_steady setting spot [] Marker h f = record { from = omega arith; to = h }
+descriptor_steady setting spot (k ∷ fs) Marker h f = λ p. tt
+descriptor_steady setting spot fs (Null k) h f = one_steady setting spot fs (payloads.Null k) h
+descriptor_steady setting spot fs (Truth t) h f = one_steady setting spot fs (payloads.Truth t) h
+descriptor_steady setting spot fs (Sized form (Known n)) h f = sized_steady setting spot fs form n h
+descriptor_steady setting spot fs (Sized form Follows) h f = unsized_steady setting spot fs form h
 
-name_steady : (used start : ℕ) (c : List Slot) (fs : List Frame) (id : ℕ) → start ≤ used → Steady start (FineFrames fs) (name_came used start c fs id)
-name_steady used start c [] id h = λ p. tt
-name_steady used start c (frames.Fields end ms ∷ fs) id h = either (Steady start (FineFrames (frames.Fields end ms ∷ fs))) (nat_lt used end) _ _ (record { from = omega arith; to = h }) (λ p. tt)
-name_steady used start c (frames.Items end x vs ∷ fs) id h = λ p. tt
-name_steady used start c (frames.Named end ms name ∷ fs) id h = λ p. tt
-name_steady used start c (frames.Annotated end ss ∷ fs) id h = λ p. tt
+name_steady : (spot : Spot) (fs : List Frame) (id : ℕ) → spot.start ≤ spot.used → Steady spot.start (FineFrames fs) (name_came spot fs id)
+name_steady spot [] id h = λ p. tt
+name_steady spot (frames.Fields end ms ∷ fs) id h = either (Steady spot.start (FineFrames (frames.Fields end ms ∷ fs))) (nat_lt spot.used end) _ _ (record { from = omega arith; to = h }) (λ p. tt)
+name_steady spot (frames.Items end x vs ∷ fs) id h = λ p. tt
+name_steady spot (frames.Named end ms name ∷ fs) id h = λ p. tt
+name_steady spot (frames.Annotated end ss ∷ fs) id h = λ p. tt
 
-count_steady : (used start : ℕ) (c : List Slot) (fs : List Frame) (n : ℕ) → start ≤ used → Steady start (FineFrames fs) (count_came used start c fs n)
-count_steady used start c [] n h = λ p. tt
-count_steady used start c (frames.Annotated end ss ∷ fs) n h =
-    let P : Outcome → Type 0 = Steady start (FineFrames (frames.Annotated end ss ∷ fs)) in
-    either P (n == 0) _ _ (λ p. tt) (either P (nat_lt (used + n) end) _ _ (record { from = omega arith; to = h }) (λ p. tt))
-count_steady used start c (frames.Fields end ms ∷ fs) n h = λ p. tt
-count_steady used start c (frames.Items end x vs ∷ fs) n h = λ p. tt
-count_steady used start c (frames.Named end ms name ∷ fs) n h = λ p. tt
+count_steady : (spot : Spot) (fs : List Frame) (n : ℕ) → spot.start ≤ spot.used → Steady spot.start (FineFrames fs) (count_came spot fs n)
+count_steady spot [] n h = λ p. tt
+count_steady spot (frames.Annotated end ss ∷ fs) n h =
+    let P : Outcome → Type 0 = Steady spot.start (FineFrames (frames.Annotated end ss ∷ fs)) in
+    either P (n == 0) _ _ (λ p. tt) (either P (nat_lt (spot.used + n) end) _ _ (record { from = omega arith; to = h }) (λ p. tt))
+count_steady spot (frames.Fields end ms ∷ fs) n h = λ p. tt
+count_steady spot (frames.Items end x vs ∷ fs) n h = λ p. tt
+count_steady spot (frames.Named end ms name ∷ fs) n h = λ p. tt
 
-annotation_steady : (used start : ℕ) (c : List Slot) (fs : List Frame) (stop : ℕ) (r : Result (Option (List ℕ)) Reason) → start ≤ used → Decides r → Steady start (FineFrames fs) (annotation_came used start c fs stop r)
-annotation_steady used start c [] stop r h f = λ p. tt
-annotation_steady used start c (frames.Annotated end ss ∷ fs) stop (Ok s) h f = record { from = omega arith; to = h }
-annotation_steady used start c (frames.Annotated end ss ∷ fs) stop (Err e) h f = λ p. f
-annotation_steady used start c (frames.Fields end ms ∷ fs) stop r h f = λ p. tt
-annotation_steady used start c (frames.Items end x vs ∷ fs) stop r h f = λ p. tt
-annotation_steady used start c (frames.Named end ms name ∷ fs) stop r h f = λ p. tt
+annotation_steady : (spot : Spot) (fs : List Frame) (stop : ℕ) (r : Result (Option (List ℕ)) Reason) → spot.start ≤ spot.used → Decides r → Steady spot.start (FineFrames fs) (annotation_came spot fs stop r)
+annotation_steady spot [] stop r h f = λ p. tt
+annotation_steady spot (frames.Annotated end ss ∷ fs) stop (Ok s) h f = record { from = omega arith; to = h }
+annotation_steady spot (frames.Annotated end ss ∷ fs) stop (Err e) h f = λ p. f
+annotation_steady spot (frames.Fields end ms ∷ fs) stop r h f = λ p. tt
+annotation_steady spot (frames.Items end x vs ∷ fs) stop r h f = λ p. tt
+annotation_steady spot (frames.Named end ms name ∷ fs) stop r h f = λ p. tt
 
-came_steady : (g : Catalog) (depth item used start : ℕ) (c : List Slot) (fs : List Frame) (p : Purpose) (n : ℕ) → start ≤ used → Steady start (FineFrames fs) (number_came g depth item used start c fs p n)
-came_steady g depth item used start c fs (purposes.Length form) n h = sized_steady g depth item used start c fs form n h
-came_steady g depth item used start c fs purposes.FieldName n h = name_steady used start c fs n h
-came_steady g depth item used start c fs purposes.AnnotationsLength n h = count_steady used start c fs n h
-came_steady g depth item used start c fs (purposes.Annotation stop) n h = annotation_steady used start c fs stop (resolve c n) h (resolve_decides c n)
+came_steady : (setting : Setting) (spot : Spot) (fs : List Frame) (p : Purpose) (n : ℕ) → spot.start ≤ spot.used → Steady spot.start (FineFrames fs) (number_came setting spot fs p n)
+came_steady setting spot fs (purposes.Length form) n h = sized_steady setting spot fs form n h
+came_steady setting spot fs purposes.FieldName n h = name_steady spot fs n h
+came_steady setting spot fs purposes.AnnotationsLength n h = count_steady spot fs n h
+came_steady setting spot fs (purposes.Annotation stop) n h = annotation_steady spot fs stop (resolve spot.context n) h (resolve_decides spot.context n)
 
-marker_steady : (used start : ℕ) (c : List Slot) (fs : List Frame) (m : Mark) (good : Bool) (b : ℕ) → start ≤ used → Steady start (FineFrames fs) (on_marker used start c fs m good b)
-marker_steady used start c fs First good b h = either (Steady start (FineFrames fs)) (b == 224) _ _ (record { from = omega arith; to = h }) (λ p. tt)
-marker_steady used start c fs Second good b h = record { from = omega arith; to = h }
-marker_steady used start c fs Third good b h = record { from = omega arith; to = h }
-marker_steady used start c fs Fourth good b h = either (Steady start (FineFrames fs)) (b == 234) _ _ (either (Steady start (FineFrames fs)) good _ _ (record { from = h; to = omega arith }) (λ p. tt)) (λ p. tt)
+marker_steady : (spot : Spot) (fs : List Frame) (m : Mark) (good : Bool) (b : ℕ) → spot.start ≤ spot.used → Steady spot.start (FineFrames fs) (on_marker spot fs m good b)
+marker_steady spot fs First good b h = either (Steady spot.start (FineFrames fs)) (b == 224) _ _ (record { from = omega arith; to = h }) (λ p. tt)
+marker_steady spot fs Second good b h = record { from = omega arith; to = h }
+marker_steady spot fs Third good b h = record { from = omega arith; to = h }
+marker_steady spot fs Fourth good b h = either (Steady spot.start (FineFrames fs)) (b == 234) _ _ (either (Steady spot.start (FineFrames fs)) good _ _ (record { from = h; to = omega arith }) (λ p. tt)) (λ p. tt)
 
-phase_steady : (g : Catalog) (depth item used start : ℕ) (c : List Slot) (fs : List Frame) (body : List ℕ) (p : Phase) (b : ℕ) → start ≤ used → Steady start (FineFrames fs) (on_phase g depth item used start c fs body p b)
-phase_steady g depth item used start c fs body (InMarker m good) b h = marker_steady used start c fs m good b h
-phase_steady g depth item used start c fs body Ready b h = descriptor_steady g depth item used start c fs (opening_of b) h (opening_fine b)
-phase_steady g depth item used start c fs body (InNumber p a) b h =
-    let P : Outcome → Type 0 = Steady start (FineFrames fs) in
+phase_steady : (setting : Setting) (m : Machine) (p : Phase) (b : ℕ) → m.spot.start ≤ m.spot.used → Steady m.spot.start (FineFrames m.frames) (on_phase setting m p b)
+phase_steady setting m (InMarker mark good) b h = marker_steady m.spot m.frames mark good b h
+phase_steady setting m Ready b h = descriptor_steady setting m.spot m.frames (opening_of b) h (opening_fine b)
+phase_steady setting m (InNumber p a) b h =
+    let P : Outcome → Type 0 = Steady m.spot.start (FineFrames m.frames) in
     either P (nat_lt b 128) _ _
-    (either P (nat_lt (128 * a + b) (2 ^ 63)) _ _ (longer_steady item used start c fs p (128 * a + b) h) (λ p. tt))
-    (either P (nat_lt (128 * a + (b - 128)) (2 ^ 63)) _ _ (came_steady g depth item used start c fs p (128 * a + (b - 128)) h) (λ p. tt))
-phase_steady g depth item used start c fs body (InBody t missing) b h =
-    either (Steady start (FineFrames fs)) (missing == 0) _ _ (judged_steady g used start c fs (judge c t (body ++ b ∷ [])) h (judge_decides c t (body ++ b ∷ []))) (record { from = omega arith; to = h })
-phase_steady g depth item used start c fs body (InPad missing) b h = either (Steady start (FineFrames fs)) (missing == 0) _ _ (proceed_steady g used start c fs h) (record { from = omega arith; to = h })
+    (either P (nat_lt (128 * a + b) (2 ^ 63)) _ _ (longer_steady setting m.spot m.frames p (128 * a + b) h) (λ p. tt))
+    (either P (nat_lt (128 * a + (b - 128)) (2 ^ 63)) _ _ (came_steady setting m.spot m.frames p (128 * a + (b - 128)) h) (λ p. tt))
+phase_steady setting m (InBody t missing) b h =
+    let body = m.body ++ b ∷ [] in
+    either (Steady m.spot.start (FineFrames m.frames)) (missing == 0) _ _ (judged_steady setting m.spot m.frames (judge m.spot.context t body) h (judge_decides m.spot.context t body)) (record { from = omega arith; to = h })
+phase_steady setting m (InPad missing) b h = either (Steady m.spot.start (FineFrames m.frames)) (missing == 0) _ _ (proceed_steady setting m.spot m.frames h) (record { from = omega arith; to = h })
 
 -- an octet leaves the start of the open piece where it is, or moves it on; where the ids of the open field names were looked up, it decides why it is refused
-pub feed_steady : (g : Catalog) (l : Limits) (m : Machine) (b : ℕ) → m.start ≤ m.used → Steady m.start (FineFrames m.frames) (feed g l m b)
-feed_steady g l m b h = phase_steady g l.depth l.item (m.used + 1) m.start m.context m.frames m.body m.phase b (omega arith)
+pub feed_steady : (setting : Setting) (m : Machine) (b : ℕ) → m.spot.start ≤ m.spot.used → Steady m.spot.start (FineFrames m.frames) (feed setting m b)
+feed_steady setting m b h = phase_steady setting (counted m) m.phase b (omega arith)

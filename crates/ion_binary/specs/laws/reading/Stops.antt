@@ -7,18 +7,18 @@ use Rattle.ion_symtab.specs.declared.catalog.Catalog.{Catalog}
 use Rattle.ion_symtab.specs.Promises.{BeginsNone}
 use Rattle.ion_binary.specs.declared.state.Phase.TheVariants.{Ready}
 use Rattle.ion_binary.specs.Grammar.{Document, Whole, no_piece, document}
-use Rattle.ion_binary.specs.machine.EachOctet.{Machine, Outcome, goes, gives, refuses, feed, at, initial}
+use Rattle.ion_binary.specs.machine.EachOctet.{Machine, Outcome, goes, gives, refuses, under, anew, feed, at, initial}
 use Rattle.ion_binary.specs.machine.Run.{Run, run, run_on, with_value}
 use Rattle.ion_binary.specs.machine.Pieces.{run-append, then_run, on_now}
 use Rattle.ion_binary.specs.laws.reading.Steady.{Steady, FineFrames, feed_steady}
 use Rattle.ion_binary.specs.laws.reading.Documents.{pieces_run}
 
 -- the start of the open piece never moves back
-pub run_onward : (g : Catalog) (l : Limits) (to : ℕ) (m : Machine) (w : List ℕ) (n : Machine) → m.start ≤ m.used → (run g l to m w).now ≡ Ok n → m.start ≤ n.start
-run_onward g l to m [] n h e = let k : m ≡ n = cc in subst (λ (x : Machine). m.start ≤ x.start) k (omega arith)
-run_onward g l to m (b ∷ bs) n h e = go (feed g l m b) (feed_steady g l m b h) (λ k i. run_onward g l (to + 1) k bs n i) e
+pub run_onward : (g : Catalog) (l : Limits) (to : ℕ) (m : Machine) (w : List ℕ) (n : Machine) → m.spot.start ≤ m.spot.used → (run g l to m w).now ≡ Ok n → m.spot.start ≤ n.spot.start
+run_onward g l to m [] n h e = let k : m ≡ n = cc in subst (λ (x : Machine). m.spot.start ≤ x.spot.start) k (omega arith)
+run_onward g l to m (b ∷ bs) n h e = go (feed (under g l) m b) (feed_steady (under g l) m b h) (λ k i. run_onward g l (to + 1) k bs n i) e
   where
-    go : (o : Outcome) → Steady m.start (FineFrames m.frames) o → ((k : Machine) → k.start ≤ k.used → (run g l (to + 1) k bs).now ≡ Ok n → k.start ≤ n.start) → (run_on (to + 1) (λ k. run g l (to + 1) k bs) o).now ≡ Ok n → m.start ≤ n.start
+    go : (o : Outcome) → Steady m.spot.start (FineFrames m.frames) o → ((k : Machine) → k.spot.start ≤ k.spot.used → (run g l (to + 1) k bs).now ≡ Ok n → k.spot.start ≤ n.spot.start) → (run_on (to + 1) (λ k. run g l (to + 1) k bs) o).now ≡ Ok n → m.spot.start ≤ n.spot.start
     go (goes k) s f e = let a = s.from in let b = f k s.to e in omega arith
     go (gives v k) s f e = let a = s.from in let b = f k s.to e in omega arith
     go (refuses x) s f e = absurd cc
@@ -32,16 +32,16 @@ pub record Stop (g : Catalog) (l : Limits) (to : ℕ) (m : Machine) (u : List �
   pub parts : u ≡ before ++ b ∷ rest
   pub ran : run g l to m before ≡ record { given = (run g l to m u).given; now = Ok n }
   pub offset : r.offset ≡ to + length before + 1
-  pub refused : feed g l n b ≡ refuses r.reason
+  pub refused : feed (under g l) n b ≡ refuses r.reason
 
 pub stop_of : (g : Catalog) (l : Limits) (to : ℕ) (m : Machine) (u : List ℕ) (r : Refusal) → (run g l to m u).now ≡ Err r → Stop g l to m u r
 stop_of g l to m [] r h = absurd cc
-stop_of g l to m (b ∷ bs) r h = go (feed g l m b) refl (λ n. stop_of g l (to + 1) n bs r) h
+stop_of g l to m (b ∷ bs) r h = go (feed (under g l) m b) refl (λ n. stop_of g l (to + 1) n bs r) h
   where
     on : List ℕ → Outcome → Run
     on ys o = run_on (to + 1) (λ n. run g l (to + 1) n ys) o
 
-    go : (o : Outcome) → feed g l m b ≡ o → ((n : Machine) → (run g l (to + 1) n bs).now ≡ Err r → Stop g l (to + 1) n bs r) → (run_on (to + 1) (λ n. run g l (to + 1) n bs) o).now ≡ Err r → Stop g l to m (b ∷ bs) r
+    go : (o : Outcome) → feed (under g l) m b ≡ o → ((n : Machine) → (run g l (to + 1) n bs).now ≡ Err r → Stop g l (to + 1) n bs r) → (run_on (to + 1) (λ n. run g l (to + 1) n bs) o).now ≡ Err r → Stop g l to m (b ∷ bs) r
     go (goes n) e rest h =
         let p = rest n h in
         let o = p.offset in
@@ -98,9 +98,9 @@ begins_none g l u r h rest s d =
     absurd cc
 
 -- whole pieces at the front of octets end where the open piece starts, or before it
-pub whole_within : (g : Catalog) (l : Limits) (v rest : List ℕ) (t : List Value) (n : Machine) → Whole g l v t → (run g l 0 initial (v ++ rest)).now ≡ Ok n → length v ≤ n.start
+pub whole_within : (g : Catalog) (l : Limits) (v rest : List ℕ) (t : List Value) (n : Machine) → Whole g l v t → (run g l 0 initial (v ++ rest)).now ≡ Ok n → length v ≤ n.spot.start
 whole_within g l _ rest t n no_piece h = omega arith
 whole_within g l _ rest t n (document v s c d) h =
     let i = ap (λ x. x.now) (run-append g l 0 (length v) v rest (omega arith) initial) in
     let j = ap (λ x. (then_run x (λ n. run g l (length v) n rest)).now) (pieces_run g l v s c d).ran in
-    run_onward g l (length v) (at (length v) (length v) c [] Ready) rest n (omega arith) (sym j ∙ (sym i ∙ h))
+    run_onward g l (length v) (at (anew (length v) c) [] Ready) rest n (omega arith) (sym j ∙ (sym i ∙ h))

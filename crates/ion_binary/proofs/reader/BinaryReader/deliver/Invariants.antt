@@ -1,13 +1,13 @@
 use Rattle.std.proofs.Common.{◌≡◌, length}
 use Rattle.ion_binary.specs.machine.EachOctet.{deliver}
-use Rattle.ion_binary.specs.machine.Views.{open_frames, SameSetting}
+use Rattle.ion_binary.specs.machine.Views.{setting_of, spot_of, open_frames, SameSetting}
 use Rattle.ion_binary.proofs.reader.BinaryReader.deliver.Given as goal
 
 -- What is left to do gives what the whole was to give.
 abbrev pub invariant-loop-frame : goal.invariant-loop-frame
 invariant-loop-frame l = record {
-  same : deliver l.self.catalog.now l.self.used l.self.start l.self.context (open_frames l.self) l.value
-      ≡ deliver l.fn.self.catalog.now l.fn.self.used l.fn.self.start l.fn.self.context (open_frames l.fn.self) l.fn.value;
+  same : deliver (setting_of l.self) (spot_of l.self) (open_frames l.self) l.value
+      ≡ deliver (setting_of l.fn.self) (spot_of l.fn.self) (open_frames l.fn.self) l.fn.value;
   used : l.self.used ≡ l.fn.self.used;
   setting : SameSetting l.fn.self l.self;
 }

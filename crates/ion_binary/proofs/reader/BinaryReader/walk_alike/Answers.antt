@@ -1,7 +1,7 @@
 use Rattle.std.proofs.Common.{rules, ◌≡◌, ◌+◌, ◌≤◌, None, arith}
 use Rattle.ion_binary.specs.declared.form.Form.TheVariants as forms
 use Rattle.ion_binary.specs.machine.EachOctet.{unfit}
-use Rattle.ion_binary.specs.machine.Views.{open_frames}
+use Rattle.ion_binary.specs.machine.Views.{spot_of, open_frames}
 use Rattle.ion_model.specs.Measures.{depth}
 use Rattle.ion_binary.proofs.Walks.{walk_gives}
 use Rattle.ion_binary.proofs.reader.BinaryReader.walk_alike.Goals as goal
@@ -18,6 +18,6 @@ returns-clause-gives c =
     let other_ready = c.may_walk-else-not-may_walk.ensures c.if-not-may_walk-2.false in
     let admitted : depth found.value ≤ r.limits.depth = omega (arith, found.deep, c.min-depth.ensures) in
     let other_admitted : depth found.value ≤ q.limits.depth = omega (arith, found.deep, c.min-depth.ensures) in
-    let mine = walk_gives r.catalog.now r.limits r.used r.start r.context (open_frames r) r.body.items r.phase c.args.piece.now step.count ready.0 ready.1 step.ensures.within found.value found.is admitted found.given fits in
-    let others = walk_gives q.catalog.now q.limits q.used q.start q.context (open_frames q) q.body.items q.phase c.args.beside.now step.other_count other_ready.0 other_ready.1 step.ensures.other_within found.value found.other other_admitted found.given other_fits in
+    let mine = walk_gives r.catalog.now r.limits (spot_of r) (open_frames r) r.body.items r.phase c.args.piece.now step.count ready.0 ready.1 step.ensures.within found.value found.is admitted found.given fits in
+    let others = walk_gives q.catalog.now q.limits (spot_of q) (open_frames q) q.body.items q.phase c.args.beside.now step.other_count other_ready.0 other_ready.1 step.ensures.other_within found.value found.other other_admitted found.given other_fits in
     (found.value, mine, others)

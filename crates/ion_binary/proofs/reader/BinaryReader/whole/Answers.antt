@@ -3,7 +3,7 @@ use Rattle.std.proofs.lemmas.List.{length-reverse}
 use Rattle.ion_model.specs.Measures.{depth}
 use Rattle.ion_binary.specs.declared.form.Form.TheVariants as forms
 use Rattle.ion_binary.specs.machine.EachOctet.{levels, unfit}
-use Rattle.ion_binary.specs.machine.Views.{open_frames}
+use Rattle.ion_binary.specs.machine.Views.{spot_of, open_frames}
 use Rattle.ion_binary.proofs.Levels.{levels_few}
 use Rattle.ion_binary.proofs.Wholes.{whole_runs, whole_some}
 use Rattle.ion_binary.proofs.reader.BinaryReader.whole.Goals as goal
@@ -19,5 +19,5 @@ returns c =
     record {
       within = found.within;
       some = whole_some r.context c.args.piece.now n v found.value;
-      runs = whole_runs r.catalog.now r.limits r.used r.start r.context (open_frames r) r.body.items r.phase c.args.piece.now n v c.requires.ready found.within found.value fits deep;
+      runs = whole_runs r.catalog.now r.limits (spot_of r) (open_frames r) r.body.items r.phase c.args.piece.now n v c.requires.ready found.within found.value fits deep;
     }
