@@ -4,6 +4,7 @@ pub mod Ranges
 pub mod Reasons
 pub mod Decimals
 pub mod Calendar
+pub mod Neighbours
 pub mod Timestamps
 pub mod Symbols
 pub mod Measures

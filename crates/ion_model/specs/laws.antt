@@ -7,5 +7,6 @@ pub mod Counts
 pub mod Same
 pub mod Equivalence
 pub mod Calendar
+pub mod Neighbours
 pub mod Timestamps
 pub mod PartingSteps

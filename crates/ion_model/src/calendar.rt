@@ -1,11 +1,9 @@
 //! The proleptic Gregorian calendar of the years 1 to 9999, whose days timestamps have (Ion 1.0,
 //! "Timestamp"). Nothing here takes memory.
 ghost use Rattle.std.specs.Prelude.{◌≡◌, ◌≤◌, ◌<◌, ◌+◌, ◌*◌, ◌⊎◌, ◌+ℤ◌, ◌≤ℤ◌, ◌<ℤ◌, pos, neg_ℤ, SomeIff, IfSome, IfNone, IsSome, ◌↔◌};
-ghost use Rattle.jiff.specs.Words.{IsYmd};
 ghost use Rattle.ion_model.specs.declared.calendar.Date.{Date as Day};
-ghost use Rattle.ion_model.specs.Calendar.{IsDate, IsMinute, InYears, month_length, day_number, minute_number, first_day, last_day};
-
-use jiff::civil;
+ghost use Rattle.ion_model.specs.Calendar.{IsDate, IsMinute, InYears, is_leap, month_length, day_number, minute_number, first_day, last_day};
+ghost use Rattle.ion_model.specs.Neighbours.{day_of};
 
 /// A day: its year, and its month and day of the month, both counted from 1.
 #[derive(Clone, Copy, Debug, PartialEq, Eq)]
@@ -24,15 +22,24 @@ pub struct Minute {
 }
 
 /// How many days a month of the years 1 to 9999 has.
+#[inline]
 pub fn days_of_month(year: u16, month: u8) -> u8
     requires year { (1 ≤ year) × (year ≤ 9999) }
     requires month { (1 ≤ month) × (month ≤ 12) }
     ensures { result ≡ month_length year month }
 {
-    match civil::Date::new(year as i16, month as i8, 1) {
-        Ok(first) => first.days_in_month() as u8,
-        Err(_) => unreachable!(),
+    match month {
+        2 if is_leap(year) => 29,
+        2 => 28,
+        4 | 6 | 9 | 11 => 30,
+        _ => 31,
     }
+}
+
+fn is_leap(year: u16) -> bool
+    ensures { result ≡ is_leap year }
+{
+    year % 4 == 0 && (year % 100 != 0 || year % 400 == 0)
 }
 
 impl Date {
@@ -57,10 +64,17 @@ impl Date {
         ensures some { IfSome result (λ d. IsDate d × (day_number d + 1 ≡ day_number self)) }
         ensures none { IfNone result (day_number self ≡ first_day) }
     {
-        match civil_date(self).yesterday() {
-            Ok(day) => own_date(day),
-            Err(_) => None,
+        if self.day > 1 {
+            return Some(day_of(self.year, self.month, self.day - 1));
         }
+        if self.month > 1 {
+            let last = days_of_month(self.year, self.month - 1);
+            return Some(day_of(self.year, self.month - 1, last));
+        }
+        if self.year > 1 {
+            return Some(day_of(self.year - 1, 12, 31));
+        }
+        None
     }
 
     /// The day after; `None` exactly for 9999-12-31.
@@ -69,36 +83,24 @@ impl Date {
         ensures some { IfSome result (λ d. IsDate d × (day_number d ≡ day_number self + 1)) }
         ensures none { IfNone result (day_number self ≡ last_day) }
     {
-        match civil_date(self).tomorrow() {
-            Ok(day) => own_date(day),
-            Err(_) => None,
+        if self.day < days_of_month(self.year, self.month) {
+            return Some(day_of(self.year, self.month, self.day + 1));
         }
+        if self.month < 12 {
+            return Some(day_of(self.year, self.month + 1, 1));
+        }
+        if self.year < 9999 {
+            return Some(day_of(self.year + 1, 1, 1));
+        }
+        None
     }
 }
 
-fn civil_date(date: Date) -> civil::Date
-    requires { IsDate date }
-    ensures { IsYmd (pos date.year) (pos date.month) (pos date.day) result }
+#[inline(always)]
+fn day_of(year: u16, month: u8, day: u8) -> Date
+    ensures { result ≡ day_of year month day }
 {
-    match civil::Date::new(date.year as i16, date.month as i8, date.day as i8) {
-        Ok(date) => date,
-        Err(_) => unreachable!(),
-    }
-}
-
-// The same day, if it isn't before the year 1.
-fn own_date(date: civil::Date) -> Option<Date>
-    ensures some { IfSome result (λ d. IsDate d × IsYmd (pos d.year) (pos d.month) (pos d.day) date) }
-    ensures none { IfNone result (date.year <ℤ pos 1) }
-{
-    if date.year() < 1 {
-        return None;
-    }
-    Some(Date {
-        year: date.year() as u16,
-        month: date.month() as u8,
-        day: date.day() as u8,
-    })
+    Date { year, month, day }
 }
 
 // The day before, the day itself and the day after, for 0, 1 and 2 days.

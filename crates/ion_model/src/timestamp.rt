@@ -115,7 +115,19 @@ impl Timestamp {
         if !is_kept_in_utc(minute, minutes_ahead(offset)) {
             return None;
         }
-        Some(Timestamp {
+        Some(Timestamp::of_parts(local, precision, offset))
+    }
+
+    /// The timestamp of parts that are known to be one (Ion 1.0, "Timestamp"): nothing is judged. Takes
+    /// no memory.
+    #[inline(always)]
+    pub fn of_parts(local: Local, precision: Precision, offset: Option<i16>) -> Timestamp
+        requires { let parts : TimestampParts = record { local = local; precision = precision; offset = offset } in
+            IsTimestamp parts }
+        ensures { let parts : TimestampParts = record { local = local; precision = precision; offset = offset } in
+            result ≡ parts }
+    {
+        Timestamp {
             fraction: Halves::new(local.fraction),
             year: local.year,
             offset,
@@ -125,7 +137,7 @@ impl Timestamp {
             hour: local.hour,
             minute: local.minute,
             second: local.second,
-        })
+        }
     }
 
     /// The fields that the place's clock and calendar show.

@@ -15,7 +15,8 @@ use Rattle.ion_scalar.specs.declared.fields.Signed.{Signed}
 use Rattle.ion_scalar.specs.declared.timestamp_body.Utc.{Utc}
 use Rattle.ion_scalar.specs.binary.Fields.{VarUInt, VarInt, var_uint, var_int, int_negative, int_magnitude}
 use Rattle.ion_scalar.specs.text.Decimals.{signed}
-use Rattle.ion_scalar.specs.binary.Shifted.{day_of, moved}
+use Rattle.ion_model.specs.Neighbours.{day_of}
+use Rattle.ion_scalar.specs.binary.Shifted.{moved}
 
 -- a day, of which nothing more is known
 abbrev pub day_known : Precision → Date → Utc

@@ -13,7 +13,8 @@ use Rattle.ion_scalar.specs.binary.Fields.{var_uint, var_int, int_negative, int_
 use Rattle.ion_scalar.specs.binary.Reads.{ReadsDecimalBody}
 use Rattle.ion_scalar.specs.binary.Decimal.{decimal_of_body}
 use Rattle.ion_scalar.specs.binary.laws.Decimal.{decimal_answers}
-use Rattle.ion_scalar.specs.binary.Shifted.{day_of, moved}
+use Rattle.ion_model.specs.Neighbours.{day_of}
+use Rattle.ion_scalar.specs.binary.Shifted.{moved}
 use Rattle.ion_scalar.specs.binary.Timestamp.{minute_of, in_range, read_field, and_then, read_digits, read_no_digits, read_fraction, with_power, read_behind_second, read_behind_minute, read_behind_hour, read_behind_day, read_behind_month, read_behind_year, read_fields, near, read_offset, kept_offset, shown_at, shown, shown_by, with_offset, timestamp_of_body}
 
 -- the reasons of a body

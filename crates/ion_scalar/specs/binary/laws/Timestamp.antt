@@ -18,8 +18,8 @@ use Rattle.ion_scalar.specs.binary.Fields.{VarUInt, VarInt, short, long, var_uin
 use Rattle.ion_scalar.specs.binary.Reads.{BeginsWith, ReadsVarUInt, ReadsVarInt}
 use Rattle.ion_scalar.specs.binary.laws.VarUInt.{var_uint_read, var_uint_answers}
 use Rattle.ion_scalar.specs.binary.laws.VarInt.{var_int_read, var_int_answers}
-use Rattle.ion_scalar.specs.binary.Shifted.{day_of}
-use Rattle.ion_scalar.specs.binary.laws.Shifted.{month_least}
+use Rattle.ion_model.specs.Neighbours.{day_of}
+use Rattle.ion_model.specs.laws.Neighbours.{month_least}
 use Rattle.ion_scalar.specs.binary.Timestamp.{time_known, minute_of, Begins, IsFractionOf, IsSecondsFraction, IsBehindSecond, IsBehindMinute, IsBehindHour, IsBehindDay, IsBehindMonth, IsBehindYear, AreFields, local_in, in_range, and_then, with_power, read_digits, read_no_digits, read_field, read_fraction, read_behind_second, read_behind_minute, read_behind_hour, read_behind_day, read_behind_month, read_behind_year, read_fields}
 
 -- fields of a day and a time of day, those past the precision the least

@@ -15,8 +15,10 @@ use Rattle.ion_model.specs.Timestamps.{TimestampParts, IsTimestamp, IsCut, IsOff
 use Rattle.ion_model.specs.laws.Timestamps.{local_minute-is}
 use Rattle.ion_scalar.specs.declared.timestamp_body.Utc.{Utc}
 use Rattle.ion_scalar.specs.binary.Fields.{VarInt}
-use Rattle.ion_scalar.specs.binary.Shifted.{day_of, moved}
-use Rattle.ion_scalar.specs.binary.laws.Shifted.{moved_is, month_most}
+use Rattle.ion_model.specs.Neighbours.{day_of}
+use Rattle.ion_scalar.specs.binary.Shifted.{moved}
+use Rattle.ion_model.specs.laws.Neighbours.{month_most}
+use Rattle.ion_scalar.specs.binary.laws.Shifted.{moved_is}
 use Rattle.ion_scalar.specs.binary.Spellings.{var_uint_octets, var_int_octets, int_octets}
 use Rattle.ion_scalar.specs.binary.laws.Spellings.{var_uint_spelled, var_int_spelled, int_parts}
 use Rattle.ion_scalar.specs.binary.Timestamp.{time_known, minute_of, Begins, IsBehindSecond, IsBehindMinute, IsBehindHour, IsBehindDay, IsBehindMonth, IsBehindYear, AreFields, IsTimestampBody, local_in, offset_from, kept_offset, timestamp_of_body}

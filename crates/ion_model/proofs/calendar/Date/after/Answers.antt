@@ -1,18 +1,25 @@
-use Rattle.std.proofs.lemmas.Bool.{false≢true}
-use Rattle.std.proofs.lemmas.Option.{IfSome_then}
-use Rattle.ion_model.specs.laws.Calendar.{is_last, stays, one_more}
-use Rattle.ion_model.proofs.Options.{IfNone_then}
+use Rattle.std.proofs.Common.{◌≡◌, ◌≤◌, ◌+◌, ◌∙◌, arith, sym, ap, subst}
+use Rattle.std.proofs.lemmas.Bool.{lt-ltb, le-ltb}
+use Rattle.ion_model.specs.Calendar.{IsDate, month_length, day_number}
+use Rattle.ion_model.specs.Neighbours.{next_day}
+use Rattle.ion_model.specs.laws.Neighbours.{next_number, next_is}
 use Rattle.ion_model.proofs.calendar.Date.after.Goals as goal
 
-pub returns-in-Ok-clause-some : goal.returns-in-Ok-clause-some
-returns-in-Ok-clause-some c =
-    IfSome_then c.own_date.result c.own_date.ensures.some
-    (λ d is. (is.0, one_more c.args.self d c.requires is.0 c.civil_date.result c.in-Ok.day c.civil_date.ensures is.1 c.in-Ok.ensures.value))
+pub returns-then-self-lt12-clause-some : goal.returns-then-self-lt12-clause-some
+returns-then-self-lt12-clause-some c =
+    let d = c.args.self in
+    let last : month_length d.year d.month ≤ d.day = omega (arith, c.days_of_month.ensures, c.if-self-days_of_month.false) in
+    let same : next_day d ≡ c.day_of-then-self-lt12.result =
+    rw (le-ltb d.day (month_length d.year d.month) last, lt-ltb d.month 12 c.if-self-lt12.true) (sym c.day_of-then-self-lt12.ensures) in
+    let within : (next_day d).year ≤ 9999 = omega (arith, ap (λ x. x.year) (same ∙ c.day_of-then-self-lt12.ensures), c.requires.year) in
+    subst (λ x. IsDate x × (day_number x ≡ day_number d + 1)) same (next_is d c.requires within, next_number d c.requires)
 
-pub returns-in-Ok-clause-none : goal.returns-in-Ok-clause-none
-returns-in-Ok-clause-none c =
-    IfNone_then c.own_date.result c.own_date.ensures.none
-    (λ low. absurd (stays c.args.self c.requires c.civil_date.result c.in-Ok.day c.civil_date.ensures c.in-Ok.ensures.value low))
-
-pub returns-in-Err-clause-none : goal.returns-in-Err-clause-none
-returns-in-Err-clause-none c = let s = c.in-Err.ensures.succeeds in is_last c.args.self c.requires c.civil_date.result c.civil_date.ensures (λ lt. false≢true (s.1 lt))
+pub returns-then-self-lt9999-clause-some : goal.returns-then-self-lt9999-clause-some
+returns-then-self-lt9999-clause-some c =
+    let d = c.args.self in
+    let last : month_length d.year d.month ≤ d.day = omega (arith, c.days_of_month.ensures, c.if-self-days_of_month.false) in
+    let december : 12 ≤ d.month = omega (arith, c.if-self-lt12.false) in
+    let same : next_day d ≡ c.day_of-then-self-lt9999.result =
+    rw (le-ltb d.day (month_length d.year d.month) last, le-ltb d.month 12 december) (sym c.day_of-then-self-lt9999.ensures) in
+    let within : (next_day d).year ≤ 9999 = omega (arith, ap (λ x. x.year) (same ∙ c.day_of-then-self-lt9999.ensures), c.if-self-lt9999.true) in
+    subst (λ x. IsDate x × (day_number x ≡ day_number d + 1)) same (next_is d c.requires within, next_number d c.requires)
