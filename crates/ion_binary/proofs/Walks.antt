@@ -1,6 +1,9 @@
 -- Values that are found and not built.
-use Rattle.std.proofs.Common.{Bool, length-take, min, map, sum, ◌≡◌, ℕ, pos, neg_ℤ, ◌+◌, ◌-◌, ◌^◌, ◌<◌, ◌≤◌, List, [], ◌∷◌, ◌++◌, length, take, drop, Option, Some, None, IfSome, Ok, ◌&&◌, false, refl, ap, sym, subst, ◌∙◌, arith}
+use Rattle.std.proofs.Common.{Bool, length-take, min, map, sum, ◌≡◌, ℕ, pos, neg_ℤ, ◌+◌, ◌-◌, ◌^◌, ◌<◌, ◌≤◌, List, [], ◌∷◌, ◌++◌, length, take, drop, Option, Some, None, IfSome, Result, Ok, Err, inl, inr, get_or, true, ◌&&◌, false, refl, ap, sym, subst, ◌∙◌, arith}
+use Rattle.std.specs.Prelude.{is_ok}
 use Rattle.std.specs.Str.{IsUtf8}
+use Rattle.std.proofs.Math.Nat.{one-le-pow, mul-le-mul_right}
+use Rattle.ion_model.specs.declared.refusal.Reason.{Reason}
 use Rattle.ion_model.specs.Decimals.{DecimalParts}
 use Rattle.ion_model.specs.Timestamps.{TimestampParts}
 use Rattle.ion_model.specs.declared.value.Payload.TheVariants as payloads
@@ -14,7 +17,7 @@ use Rattle.ion_model.specs.Kinds.{names_table, is_fields, is_table, kind_of, lay
 use Rattle.ion_model.specs.Measures.{depth, nodes, bare, annotated}
 use Rattle.ion_model.specs.laws.Measures.{deepest-more, depth-Null, depth-Truth, nodes-Null, nodes-Truth}
 use Rattle.ion_model.specs.Outlines.{outline_of}
-use Rattle.ion_scalar.specs.binary.Fields.{VarUInt, positional}
+use Rattle.ion_scalar.specs.binary.Fields.{VarUInt, positional, uint_field}
 use Rattle.ion_scalar.specs.binary.Decimal.{decimal_of_body}
 use Rattle.ion_scalar.specs.binary.Timestamp.{timestamp_of_body}
 use Rattle.ion_symtab.specs.Slots.{Slot, resolve}
@@ -35,7 +38,7 @@ use Rattle.ion_binary.specs.laws.reading.Small.{scalar_nodes, nodes-listed, node
 use Rattle.ion_binary.specs.machine.Walked.{Noted, Walked, WalkedPlain, WalkedBody, WalkedWrapper, WalkedScalar, WalkedItems, WalkedFields, WalkedIds, NoTable}
 use Rattle.ion_symtab.specs.declared.limits.Limits.{Limits}
 use Rattle.ion_symtab.specs.declared.catalog.Catalog.{Catalog}
-use Rattle.std.proofs.lemmas.Bool.{cond-false}
+use Rattle.std.proofs.lemmas.Bool.{cond-false, cases_lt, le-ltb}
 use Rattle.ion_binary.specs.declared.state.Frame.{Frame}
 use Rattle.ion_binary.specs.declared.state.Phase.{Phase}
 use Rattle.ion_binary.specs.declared.state.Phase.TheVariants.{Ready}
@@ -51,17 +54,40 @@ use Rattle.ion_binary.proofs.Wholes.{framed_scalar, framed_listing, framed_struc
 pub as_form : (c : List Slot) (t x : Scalar) (body : List ℕ) → t ≡ x → WalkedScalar c x body → WalkedScalar c t body
 as_form c t x body e s = subst (λ t. WalkedScalar c t body) (sym e) s
 
+pub uint_kept : (body : List ℕ) → is_ok (uint_field body) ≡ true → positional 256 body < 2 ^ 127
+uint_kept body h =
+    elim (cases_lt (positional 256 body) (2 ^ 127)) [
+      | inl small ↦ small
+      | inr large ↦ absurd (let k = rw (le-ltb (positional 256 body) (2 ^ 127) large) at h in cc)
+    ]
+
+-- the first octet is no leading zero
+pub uint_some : (body : List ℕ) → 0 < get_or body 0 0 → 0 < positional 256 body
+uint_some [] first = first
+uint_some (octet ∷ rest) first =
+    let one : 1 ≤ 256 ^ length rest = one-le-pow (length rest) 256 (omega arith) in
+    let more : 1 * 256 ^ length rest ≤ octet * 256 ^ length rest = mul-le-mul_right (256 ^ length rest) first in
+    omega (arith, one, more)
+
 pub walked_int : (c : List Slot) (body : List ℕ) (n : ℕ) → n ≡ positional 256 body → n < 2 ^ 127 → WalkedScalar c scalars.Int body
 walked_int c body n e h = record { payload = payloads.Int (pos n); is = int_is c body n (pos n) e h refl }
 
 pub walked_negative : (c : List Slot) (body : List ℕ) (n : ℕ) → n ≡ positional 256 body → n < 2 ^ 127 → 0 < n → WalkedScalar c scalars.NegativeInt body
 walked_negative c body n e h some = record { payload = payloads.Int (neg_ℤ (pos n)); is = negative_is c body n (neg_ℤ (pos n)) e h some refl }
 
-pub walked_decimal : (c : List Slot) (body : List ℕ) (d : DecimalParts) → decimal_of_body body ≡ Ok d → WalkedScalar c scalars.Decimal body
-walked_decimal c body d e = record { payload = payloads.Decimal d; is = decimal_is c body d e }
+decimal_on : (c : List Slot) (body : List ℕ) (r : Result DecimalParts Reason) → decimal_of_body body ≡ r → is_ok r ≡ true → WalkedScalar c scalars.Decimal body
+decimal_on c body (Ok d) e h = record { payload = payloads.Decimal d; is = decimal_is c body d e }
+decimal_on c body (Err reason) e h = absurd cc
 
-pub walked_timestamp : (c : List Slot) (body : List ℕ) (t : TimestampParts) → timestamp_of_body body ≡ Ok t → WalkedScalar c scalars.Timestamp body
-walked_timestamp c body t e = record { payload = payloads.Timestamp t; is = timestamp_is c body t e }
+pub walked_decimal : (c : List Slot) (body : List ℕ) → is_ok (decimal_of_body body) ≡ true → WalkedScalar c scalars.Decimal body
+walked_decimal c body h = decimal_on c body (decimal_of_body body) refl h
+
+timestamp_on : (c : List Slot) (body : List ℕ) (r : Result TimestampParts Reason) → timestamp_of_body body ≡ r → is_ok r ≡ true → WalkedScalar c scalars.Timestamp body
+timestamp_on c body (Ok t) e h = record { payload = payloads.Timestamp t; is = timestamp_is c body t e }
+timestamp_on c body (Err reason) e h = absurd cc
+
+pub walked_timestamp : (c : List Slot) (body : List ℕ) → is_ok (timestamp_of_body body) ≡ true → WalkedScalar c scalars.Timestamp body
+walked_timestamp c body h = timestamp_on c body (timestamp_of_body body) refl h
 
 pub walked_symbol : (c : List Slot) (body : List ℕ) (id : ℕ) (s : Option (List ℕ)) → id ≡ positional 256 body → id < 2 ^ 64 → resolve c id ≡ Ok s → WalkedScalar c scalars.Symbol body
 walked_symbol c body id s e small found = record { payload = payloads.Symbol s; is = symbol_is c body id s e small found }

@@ -12,7 +12,7 @@ use crate::form::{Form, Opening, Scalar, kind_of, opening_of};
 use crate::slots::{magnitude_of, small_uint};
 use crate::whole::{lengths, number, pad_of};
 use ion_model::{Kind, Outline, Symbol};
-use ion_scalar::{decimal_of, timestamp_of};
+use ion_scalar::{is_decimal_body, is_timestamp_body, is_uint};
 use ion_symtab::Context;
 
 /// What a walk noted of the values that it went over.
@@ -86,39 +86,33 @@ pub(crate) fn is_scalar(context: &Context, scalar: Scalar, body: &[u8]) -> bool
 fn is_int(body: &[u8]) -> bool
     ensures { result ≡ true → (c : List Slot) → WalkedScalar c scalars.Int body.now }
 {
-    match magnitude_of(body) {
-        Some(_) => true,
-        None => false,
-    }
+    is_uint(body)
 }
 
 fn is_negative(body: &[u8]) -> bool
     ensures { result ≡ true → (c : List Slot) → WalkedScalar c scalars.NegativeInt body.now }
 {
+    // most are spelled without leading zeros
+    if !body.is_empty() && body[0] != 0 {
+        return is_uint(body);
+    }
     match magnitude_of(body) {
         Some(magnitude) => magnitude != 0,
         None => false,
     }
 }
 
-#[inline(never)]
 fn is_decimal(body: &[u8]) -> bool
     ensures { result ≡ true → (c : List Slot) → WalkedScalar c scalars.Decimal body.now }
 {
-    match decimal_of(body) {
-        Ok(_) => true,
-        Err(_) => false,
-    }
+    is_decimal_body(body)
 }
 
 #[inline(never)]
 fn is_timestamp(body: &[u8]) -> bool
     ensures { result ≡ true → (c : List Slot) → WalkedScalar c scalars.Timestamp body.now }
 {
-    match timestamp_of(body) {
-        Ok(_) => true,
-        Err(_) => false,
-    }
+    is_timestamp_body(body)
 }
 
 fn is_symbol(context: &Context, body: &[u8]) -> bool

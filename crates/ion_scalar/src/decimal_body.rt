@@ -1,5 +1,5 @@
 //! The bodies of decimals in binary (Ion 1.0, "Ion Binary Encoding", decimal).
-ghost use Rattle.std.specs.Prelude.{Result, ◌≡◌, ◌<◌, ◌^◌, IsTrue, SomeIff};
+ghost use Rattle.std.specs.Prelude.{Result, ◌≡◌, ◌<◌, ◌^◌, IsTrue, SomeIff, is_ok};
 ghost use Rattle.ion_model.specs.Decimals.{DecimalParts};
 ghost use Rattle.ion_scalar.specs.binary.Reads.{ReadsDecimalBody};
 ghost use Rattle.ion_scalar.specs.text.Decimals.{signed};
@@ -23,7 +23,20 @@ pub fn decimal_of(octets: &[u8]) -> Result<Decimal, Reason>
     read_decimal(octets)
 }
 
+/// Whether the octets are the body of a decimal, that is, whether `decimal_of` answers one. Takes no memory.
+#[inline(always)]
+pub fn is_decimal_body(octets: &[u8]) -> bool
+    ensures { result ≡ is_ok (decimal_of_body octets.now) }
+{
+    // an exponent of one octet, and a coefficient of less than 127 bits
+    if !octets.is_empty() && octets[0] >= 128 && octets.len() < 16 {
+        return true;
+    }
+    decimal_of(octets).is_ok()
+}
+
 #[tactic(auto, unfolding(crate::specs::binary::Decimal::decimal_of_body))]
+#[inline(always)]
 fn read_decimal(octets: &[u8]) -> Result<Decimal, Reason>
     ensures { result ≡ decimal_of_body octets.now }
 {
@@ -37,6 +50,7 @@ fn read_decimal(octets: &[u8]) -> Result<Decimal, Reason>
     }
 }
 
+#[inline(always)]
 fn coefficient_behind(power: Signed, octets: &[u8]) -> Result<Decimal, Reason>
     ensures { result ≡ with_coefficient power octets.now }
 {
@@ -47,6 +61,7 @@ fn coefficient_behind(power: Signed, octets: &[u8]) -> Result<Decimal, Reason>
     Ok(decimal(negative, magnitude, exponent))
 }
 
+#[inline(always)]
 fn decimal(negative: bool, magnitude: u128, exponent: i32) -> Decimal
     requires { magnitude < 2 ^ 127 }
     ensures { result ≡ decimal_with negative magnitude exponent }
@@ -57,6 +72,7 @@ fn decimal(negative: bool, magnitude: u128, exponent: i32) -> Decimal
     }
 }
 
+#[inline(always)]
 fn exponent_of(power: Signed) -> Option<i32>
     ensures { SomeIff result (IsTrue (exponent_fits power)) (signed power.negative power.magnitude) }
 {

@@ -1,5 +1,5 @@
 //! The fields of binary values that are whole numbers (Ion 1.0, "Ion Binary Encoding", basic field formats).
-ghost use Rattle.std.specs.Prelude.{◌≡◌, ◌<◌, ◌≤◌, ◌+◌, ◌^◌, ◌∷◌, SomeIff, length};
+ghost use Rattle.std.specs.Prelude.{◌≡◌, ◌<◌, ◌≤◌, ◌+◌, ◌^◌, ◌∷◌, SomeIff, is_ok, length};
 ghost use Rattle.ion_scalar.specs.binary.Fields.{positional, var_uint, var_int, var_rest, uint_field, int_field, signed_of};
 
 use ion_model::Reason;
@@ -10,6 +10,7 @@ use ion_model::Reason;
 /// (Ion 1.0, "Ion Binary Encoding", "VarUInt and VarInt Fields"). Leading zero octets are accepted.
 ///
 /// Answers `TooLarge` once the octets read, the last at most, reach 2^63, else `Incomplete` where no octet ends.
+#[inline(always)]
 pub fn read_var_uint(octets: &[u8]) -> Result<(u64, usize), Reason>
     ensures { result ≡ var_uint octets.now }
 {
@@ -48,6 +49,7 @@ impl Signed {
 /// (Ion 1.0, "Ion Binary Encoding", "VarUInt and VarInt Fields"). The octet C0 is -0.
 ///
 /// Answers `TooLarge` once the magnitude read, with the last octet at most, reaches 2^63, else `Incomplete` where no octet ends.
+#[inline(always)]
 pub fn read_var_int(octets: &[u8]) -> Result<(Signed, usize), Reason>
     ensures { result ≡ var_int octets.now }
 {
@@ -67,6 +69,7 @@ pub fn read_var_int(octets: &[u8]) -> Result<(Signed, usize), Reason>
 }
 
 /// Reads the rest of a number behind the digit `front`, which took `used` octets.
+#[inline(never)]
 fn read_rest(front: u64, used: usize, octets: &[u8]) -> Result<(u64, usize), Reason>
     requires front { front < 2 ^ 63 }
     requires used { used ≤ 1 }
@@ -96,6 +99,18 @@ pub fn uint_of(octets: &[u8]) -> Result<u128, Reason>
         Some(value) => Ok(value),
         None => Err(Reason::TooLarge),
     }
+}
+
+/// Whether the UInt that all of `octets` are is below 2^127, so that `uint_of` answers it.
+#[inline(always)]
+pub fn is_uint(octets: &[u8]) -> bool
+    ensures { result ≡ is_ok (uint_field octets.now) }
+{
+    // 15 octets hold 120 bits
+    if octets.len() < 16 {
+        return true;
+    }
+    uint_of(octets).is_ok()
 }
 
 /// The sign, true if it is negative, and the magnitude of an Int, which is all of `octets`, big endian

@@ -12,14 +12,16 @@ mod number;
 mod put;
 mod text;
 mod timestamp_body;
+mod timestamp_usual;
 mod timestamp_writer;
 mod timestamps;
 
-pub use decimal_body::decimal_of;
+pub use decimal_body::{decimal_of, is_decimal_body};
 pub use descriptor::{Descriptor, Size};
-pub use fields::{Signed, int_of, read_var_int, read_var_uint, uint_of};
+pub use fields::{Signed, int_of, is_uint, read_var_int, read_var_uint, uint_of};
 pub use number::{Number, number_of};
 pub use put::{put_decimal, put_int, put_uint, put_var_int, put_var_uint};
 pub use text::put_number;
 pub use timestamp_body::timestamp_of;
+pub use timestamp_usual::is_timestamp_body;
 pub use timestamp_writer::put_timestamp;

@@ -21,6 +21,7 @@ pub struct Utc {
 }
 
 impl Utc {
+    #[inline(always)]
     fn of_day(precision: Precision, date: Date) -> Utc
         ensures { result ≡ day_known precision date }
     {
@@ -37,6 +38,7 @@ impl Utc {
         }
     }
 
+    #[inline(always)]
     fn of_time(precision: Precision, minute: Minute, second: u8, fraction: u128) -> Utc
         ensures { result ≡ time_known precision minute second fraction }
     {
@@ -70,6 +72,7 @@ pub fn timestamp_of(octets: &[u8]) -> Result<Timestamp, Reason>
 }
 
 #[tactic(auto, unfolding(crate::specs::binary::Timestamp::timestamp_of_body))]
+#[inline(always)]
 fn read_timestamp(octets: &[u8]) -> Result<Timestamp, Reason>
     ensures { result ≡ timestamp_of_body octets.now }
 {
@@ -78,7 +81,8 @@ fn read_timestamp(octets: &[u8]) -> Result<Timestamp, Reason>
 }
 
 #[tactic(auto, unfolding(crate::specs::binary::Timestamp::read_offset))]
-fn offset_of(octets: &[u8]) -> Result<(Option<i16>, usize), Reason>
+#[inline(always)]
+pub(crate) fn offset_of(octets: &[u8]) -> Result<(Option<i16>, usize), Reason>
     ensures value { result ≡ read_offset octets.now }
     ensures near { IfOk result (λ r. IfSome r.0 IsOffset) }
     ensures within { IfOk result (λ r. r.1 ≤ length octets.now) }
@@ -90,6 +94,7 @@ fn offset_of(octets: &[u8]) -> Result<(Option<i16>, usize), Reason>
     }
 }
 
+#[inline(always)]
 fn minutes_of(minutes: Signed) -> Option<i16>
     requires { minutes.magnitude ≤ 1439 }
     ensures value { result ≡ offset_from minutes.negative minutes.magnitude }
@@ -104,6 +109,7 @@ fn minutes_of(minutes: Signed) -> Option<i16>
     Some(-(minutes.magnitude as i16))
 }
 
+#[inline(always)]
 fn with_offset(offset: Option<i16>, octets: &[u8]) -> Result<Timestamp, Reason>
     requires { IfSome offset IsOffset }
     ensures { result ≡ shown_by offset (read_fields octets.now) }
@@ -114,7 +120,8 @@ fn with_offset(offset: Option<i16>, octets: &[u8]) -> Result<Timestamp, Reason>
 
 // The VarUInt at the front, if it lies in that range, and how many octets it takes.
 #[tactic(auto, unfolding(crate::specs::binary::Timestamp::read_field))]
-fn field(least: u64, most: u64, octets: &[u8]) -> Result<(u16, usize), Reason>
+#[inline(always)]
+pub(crate) fn field(least: u64, most: u64, octets: &[u8]) -> Result<(u16, usize), Reason>
     requires { most < 2 ^ 16 }
     ensures value { result ≡ read_field least most octets.now }
     ensures range { IfOk result (λ r. (least ≤ r.0) × (r.0 ≤ most)) }
@@ -128,6 +135,7 @@ fn field(least: u64, most: u64, octets: &[u8]) -> Result<(u16, usize), Reason>
 }
 
 #[tactic(auto, unfolding(crate::specs::binary::Timestamp::read_fields))]
+#[inline(always)]
 fn fields_of(octets: &[u8]) -> Result<Utc, Reason>
     ensures { result ≡ read_fields octets.now }
 {
@@ -136,6 +144,7 @@ fn fields_of(octets: &[u8]) -> Result<Utc, Reason>
 }
 
 #[tactic(auto, unfolding(crate::specs::binary::Timestamp::read_behind_year))]
+#[inline(always)]
 fn behind_year(year: u16, octets: &[u8]) -> Result<Utc, Reason>
     requires { (1 ≤ year) × (year ≤ 9999) }
     ensures { result ≡ read_behind_year year octets.now }
@@ -153,6 +162,7 @@ fn behind_year(year: u16, octets: &[u8]) -> Result<Utc, Reason>
 }
 
 #[tactic(auto, unfolding(crate::specs::binary::Timestamp::read_behind_month))]
+#[inline(always)]
 fn behind_month(year: u16, month: u8, octets: &[u8]) -> Result<Utc, Reason>
     requires year { (1 ≤ year) × (year ≤ 9999) }
     requires month { (1 ≤ month) × (month ≤ 12) }
@@ -177,6 +187,7 @@ fn behind_month(year: u16, month: u8, octets: &[u8]) -> Result<Utc, Reason>
 }
 
 #[tactic(auto, unfolding(crate::specs::binary::Timestamp::read_behind_day))]
+#[inline(always)]
 fn behind_day(date: Date, octets: &[u8]) -> Result<Utc, Reason>
     ensures { result ≡ read_behind_day date octets.now }
 {
@@ -188,6 +199,7 @@ fn behind_day(date: Date, octets: &[u8]) -> Result<Utc, Reason>
 }
 
 #[tactic(auto, unfolding(crate::specs::binary::Timestamp::read_behind_hour))]
+#[inline(always)]
 fn behind_hour(date: Date, hour: u8, octets: &[u8]) -> Result<Utc, Reason>
     ensures { result ≡ read_behind_hour date hour octets.now }
 {
@@ -201,6 +213,7 @@ fn behind_hour(date: Date, hour: u8, octets: &[u8]) -> Result<Utc, Reason>
 }
 
 #[tactic(auto, unfolding(crate::specs::binary::Timestamp::read_behind_minute))]
+#[inline(always)]
 fn behind_minute(minute: Minute, octets: &[u8]) -> Result<Utc, Reason>
     ensures { result ≡ read_behind_minute minute octets.now }
 {
@@ -212,6 +225,7 @@ fn behind_minute(minute: Minute, octets: &[u8]) -> Result<Utc, Reason>
 }
 
 #[tactic(auto, unfolding(crate::specs::binary::Timestamp::read_behind_second))]
+#[inline(always)]
 fn behind_second(minute: Minute, second: u8, octets: &[u8]) -> Result<Utc, Reason>
     ensures { result ≡ read_behind_second minute second octets.now }
 {
@@ -259,12 +273,10 @@ fn show(offset: Option<i16>, utc: Utc) -> Result<Timestamp, Reason>
     let Some(minute) = utc.minute.moved(ahead_of_utc(offset)) else {
         return Err(Reason::Malformed);
     };
-    match Timestamp::new(local_of(utc, minute), utc.precision, offset) {
-        Some(timestamp) => Ok(timestamp),
-        None => Err(Reason::Malformed),
-    }
+    Ok(Timestamp::of_parts(local_of(utc, minute), utc.precision, offset))
 }
 
+#[inline(always)]
 pub fn ahead_of_utc(offset: Option<i16>) -> i16
     requires { IfSome offset IsOffset }
     ensures value { result ≡ minutes_ahead offset }
@@ -276,6 +288,7 @@ pub fn ahead_of_utc(offset: Option<i16>) -> i16
     }
 }
 
+#[inline(always)]
 fn local_of(utc: Utc, minute: Minute) -> Local
     ensures { result ≡ local_in utc minute }
 {
@@ -291,6 +304,7 @@ fn local_of(utc: Utc, minute: Minute) -> Local
 }
 
 // Below minute precision a timestamp has no offset.
+#[inline(always)]
 fn offset_at(precision: Precision, offset: Option<i16>) -> Option<i16>
     requires { IfSome offset IsOffset }
     ensures value { result ≡ kept_offset precision offset }

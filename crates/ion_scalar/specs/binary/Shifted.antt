@@ -1,5 +1,5 @@
 -- A minute of the day before, of the same day or of the day after, by how many minutes it lies later or earlier.
-use Rattle.std.specs.Prelude.{ℕ, ◌+◌, ◌-◌, ◌*◌, ◌/◌, ◌%◌, ℤ, pos, ◌+ℤ◌, nat_lt, unsigned_abs, if◌then◌else◌}
+use Rattle.std.specs.Prelude.{ℕ, ◌+◌, ◌*◌, ◌/◌, ◌%◌, ℤ, pos, ◌+ℤ◌, nat_lt, unsigned_abs, if◌then◌else◌}
 use Rattle.ion_model.specs.declared.calendar.Date.{Date}
 use Rattle.ion_model.specs.declared.calendar.Minute.{Minute}
 use Rattle.ion_model.specs.Neighbours.{previous_day, next_day}

@@ -13,3 +13,4 @@ pub mod TimestampReasons
 pub mod TimestampSpellings
 pub mod Descriptor
 pub mod BodyReasons
+pub mod Usual

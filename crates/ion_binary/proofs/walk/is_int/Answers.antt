@@ -1,5 +1,6 @@
-use Rattle.ion_binary.proofs.Walks.{walked_int}
+use Rattle.std.proofs.Common.{sym, ◌∙◌, refl}
+use Rattle.ion_binary.proofs.Walks.{uint_kept, walked_int}
 use Rattle.ion_binary.proofs.walk.is_int.Goals as goal
 
-pub returns-in-Some : goal.returns-in-Some
-returns-in-Some c = λ _ d. walked_int d _ _ c.in-Some.ensures.is c.in-Some.ensures.bound
+pub returns : goal.returns
+returns c = λ e d. walked_int d _ _ refl (uint_kept _ (sym c.is_uint.ensures ∙ e))

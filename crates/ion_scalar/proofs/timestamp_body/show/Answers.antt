@@ -15,23 +15,21 @@ returns-in_default c =
     sym (shown_none c.args.utc c.requires.utc c.args.offset c.requires.offset
     (λ w. false≢true (some.1 (subst (λ z. InYears (pos (minute_number c.args.utc.minute) +ℤ z)) (sym by) w))))
 
-pub returns-in-Some-new : goal.returns-in-Some-new
-returns-in-Some-new c =
+pub of_parts-requires : goal.of_parts-requires
+of_parts-requires c =
+    let fits : FitsSigned w16 c.ahead_of_utc.result = near_fits c.ahead_of_utc.result c.ahead_of_utc.ensures.near in
+    let by : c.ahead_of_utc.result ≡ minutes_ahead (kept_offset c.args.utc.precision c.args.offset) = c.ahead_of_utc.ensures.value ∙ ap minutes_ahead c.offset_at-offset.ensures.value in
+    let m = simp to_z-of_z at c.in-Some.ensures.value in
+    let number = m.1 ∙ ap (λ z. pos (minute_number c.args.utc.minute) +ℤ z) by in
+    rw (c.local_of.ensures, c.offset_at-offset.ensures.value)
+    (shown_is c.args.utc c.requires.utc c.args.offset c.requires.offset c.in-Some.minute m.0 number)
+
+pub returns : goal.returns
+returns c =
     let fits : FitsSigned w16 c.ahead_of_utc.result = near_fits c.ahead_of_utc.result c.ahead_of_utc.ensures.near in
     let by : c.ahead_of_utc.result ≡ minutes_ahead (kept_offset c.args.utc.precision c.args.offset) = c.ahead_of_utc.ensures.value ∙ ap minutes_ahead c.offset_at-offset.ensures.value in
     let m = simp to_z-of_z at c.in-Some.ensures.value in
     let number = m.1 ∙ ap (λ z. pos (minute_number c.args.utc.minute) +ℤ z) by in
     let here = shown_some c.args.utc c.requires.utc c.args.offset c.requires.offset c.in-Some.minute m.0 number in
-    let is = c.in-Some-new.ensures in
-    let same = rw (c.local_of.ensures, c.offset_at-offset.ensures.value) at is.1 in
+    let same = rw (c.local_of.ensures, c.offset_at-offset.ensures.value) at c.of_parts.ensures in
     sym (here ∙ ap Ok (sym same))
-
-pub returns-in-None : goal.returns-in-None
-returns-in-None c =
-    let fits : FitsSigned w16 c.ahead_of_utc.result = near_fits c.ahead_of_utc.result c.ahead_of_utc.ensures.near in
-    let by : c.ahead_of_utc.result ≡ minutes_ahead (kept_offset c.args.utc.precision c.args.offset) = c.ahead_of_utc.ensures.value ∙ ap minutes_ahead c.offset_at-offset.ensures.value in
-    let m = simp to_z-of_z at c.in-Some.ensures.value in
-    let number = m.1 ∙ ap (λ z. pos (minute_number c.args.utc.minute) +ℤ z) by in
-    let is = shown_is c.args.utc c.requires.utc c.args.offset c.requires.offset c.in-Some.minute m.0 number in
-    let none = c.in-None.ensures in
-    absurd (none (rw (c.local_of.ensures, c.offset_at-offset.ensures.value) is))

@@ -14,7 +14,7 @@ use Rattle.ion_scalar.specs.binary.laws.Spellings.{positional_digits_of}
 one_more : (d p : ℕ) → suc d * p ≡ d * p + p
 one_more d p = suc-mul d p
 
-positional_below : (base : ℕ) (ds : List ℕ) → AreBelow base ds → positional base ds < base ^ length ds
+pub positional_below : (base : ℕ) (ds : List ℕ) → AreBelow base ds → positional base ds < base ^ length ds
 positional_below base [] all = rw (pow-zero base) (omega arith)
 positional_below base (d ∷ ds) all =
     let rest = positional_below base ds (λ k h. all (suc k) (omega arith)) in
@@ -71,7 +71,7 @@ var_uint_fewest w n octets v =
     omega (arith, ap (λ m. length (digits_of 128 m)) front)
 
 -- without their highest bit, the next of octets that go on is the sign
-six_below : (octet : ℕ) → seven_bits octet < 128 → six_bits octet < 64
+pub six_below : (octet : ℕ) → seven_bits octet < 128 → six_bits octet < 64
 six_below octet h =
     elim (cases_lt (seven_bits octet) 64) [
       | inl low ↦ rw (lt-leb 64 (seven_bits octet) low) low

@@ -1,5 +1,5 @@
 -- The minute of a day before or after has the number that it is to have.
-use Rattle.std.proofs.Common.{◌≡◌, ℕ, suc, ◌+◌, ◌-◌, ◌*◌, ◌<◌, ◌≤◌, inl, inr, Bool, true, false, cond, ℤ, pos, negsuc, ◌+ℤ◌, ◌≤ℤ◌, refl, ap, arith}
+use Rattle.std.proofs.Common.{◌≡◌, ℕ, ◌+◌, ◌-◌, ◌*◌, ◌<◌, ◌≤◌, inl, inr, Bool, true, false, cond, ℤ, pos, negsuc, ◌+ℤ◌, ◌≤ℤ◌, refl, arith}
 use Rattle.std.specs.Prelude.{unsigned_abs}
 use Rattle.std.proofs.lemmas.Bool.{lt-ltb, le-ltb, cases_lt}
 use Rattle.std.proofs.lemmas.Int.{ints}
@@ -19,6 +19,40 @@ low_of false d e h k = k
 high_of : (b : Bool) (d e : Date) → d.year ≤ 9999 → e.year ≤ 9999 → (cond b d e).year ≤ 9999
 high_of true d e h k = h
 high_of false d e h k = k
+
+-- from the second year to the last but one, no day beside another is out of the years
+module _ (d : Date) (low : 2 ≤ d.year) (high : d.year ≤ 9998) where
+  some : 1 ≤ d.year
+  some = omega arith
+
+  most : d.year ≤ 9999
+  most = omega arith
+
+  previous_stays : (1 ≤ (previous_day d).year) × ((previous_day d).year ≤ 9999)
+  previous_stays =
+      let before = day_of d.year (d.month - 1) (month_length d.year (d.month - 1)) in
+      let last = day_of (d.year - 1) 12 31 in (
+        low_of _ (day_of d.year d.month (d.day - 1)) _ some (low_of _ before last some (omega arith)),
+        high_of _ (day_of d.year d.month (d.day - 1)) _ most (high_of _ before last most (omega arith)),
+      )
+
+  next_stays : (1 ≤ (next_day d).year) × ((next_day d).year ≤ 9999)
+  next_stays =
+      let behind = day_of d.year (d.month + 1) 1 in
+      let first = day_of (d.year + 1) 1 1 in (
+        low_of _ (day_of d.year d.month (d.day + 1)) _ some (low_of _ behind first some (omega arith)),
+        high_of _ (day_of d.year d.month (d.day + 1)) _ most (high_of _ behind first most (omega arith)),
+      )
+
+  day_stays : (n : ℕ) → (1 ≤ (day_at d n).year) × ((day_at d n).year ≤ 9999)
+  day_stays n = (
+    low_of _ (previous_day d) _ previous_stays.0 (low_of _ d (next_day d) some next_stays.0),
+    high_of _ (previous_day d) _ previous_stays.1 (high_of _ d (next_day d) most next_stays.1),
+  )
+
+pub moved_stays : (m : Minute) (by : ℤ) → 2 ≤ m.date.year → m.date.year ≤ 9998 → (1 ≤ (moved m by).date.year) × ((moved m by).date.year ≤ 9999)
+unfolding moved
+moved_stays m by low high = day_stays m.date low high (unsigned_abs (pos (m.hour * 60 + m.minute + 1440) +ℤ by))
 
 module _ (d : Date) (h : IsDate d) where
   -- a minute counted from the beginning of the day before

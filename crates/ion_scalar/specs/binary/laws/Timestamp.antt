@@ -156,7 +156,7 @@ module _ (minute : Minute) (second : ℕ) (octets : List ℕ) (utc : Utc) where
             ]
           ]
 
-  fraction_read : (below : Bool) (power : ℕ) → IsFractionOf below power octets minute second utc → read_fraction minute second (signed_of below power) octets ≡ Ok utc
+  pub fraction_read : (below : Bool) (power : ℕ) → IsFractionOf below power octets minute second utc → read_fraction minute second (signed_of below power) octets ≡ Ok utc
   unfolding read_fraction
   fraction_read below power (inl (b, some, few, sign, bound, same)) =
       let most : 10 ^ power ≤ 10 ^ 38 = pow-le-pow_right (omega arith) few in

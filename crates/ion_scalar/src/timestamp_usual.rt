@@ -1,0 +1,164 @@
+//! Whether octets are the body of a timestamp (Ion 1.0, "Ion Binary Encoding", timestamp), where nobody asks for its parts. Bodies
+//! of the usual form are judged part by part; what is unusual isn't told of them here.
+ghost use Rattle.std.specs.Prelude.{◌≡◌, ◌<◌, ◌≤◌, ◌^◌, ℕ, true, Ok, is_ok, IsOkAnd, IfSome, length};
+ghost use Rattle.ion_model.specs.declared.calendar.Date.{Date};
+ghost use Rattle.ion_model.specs.declared.calendar.Minute.{Minute};
+ghost use Rattle.ion_scalar.specs.binary.Timestamp.{timestamp_of_body, read_field, read_fields, read_behind_year, read_behind_month, read_behind_day, read_behind_hour, read_behind_minute, read_behind_second};
+
+use crate::fields::int_of;
+use crate::timestamp_body::{field, offset_of, timestamp_of};
+use ion_model::calendar::days_of_month;
+
+/// Whether the octets are the body of a timestamp, that is, whether `timestamp_of` answers one. Takes no memory.
+pub fn is_timestamp_body(octets: &[u8]) -> bool
+    ensures { result ≡ is_ok (timestamp_of_body octets.now) }
+{
+    if is_usual(octets) {
+        return true;
+    }
+    timestamp_of(octets).is_ok()
+}
+
+fn is_usual(octets: &[u8]) -> bool
+    ensures { result ≡ true → is_ok (timestamp_of_body octets.now) ≡ true }
+{
+    match offset_of(octets) {
+        Ok((_, used)) => is_usual_time(&octets[used..]),
+        Err(_) => false,
+    }
+}
+
+// Of these years no offset leads out of the years 1 to 9999.
+#[inline(always)]
+#[tactic(auto, unfolding(crate::specs::binary::Timestamp::read_fields))]
+fn is_usual_time(octets: &[u8]) -> bool
+    ensures { result ≡ true → IsOkAnd (read_fields octets.now)
+        (λ utc. (2 ≤ utc.minute.date.year) × (utc.minute.date.year ≤ 9998)) }
+{
+    match field(1, 9999, octets) {
+        Ok((year, used)) if 2 <= year && year <= 9998 => usual_month(year, &octets[used..]),
+        _ => false,
+    }
+}
+
+// The number of a part that has one octet.
+#[inline(always)]
+#[tactic(auto, unfolding(crate::specs::binary::Timestamp::read_field))]
+fn part(least: u8, most: u8, octets: &[u8]) -> Option<u8>
+    ensures some { IfSome result (λ number. 0 < length octets.now) }
+    ensures range { IfSome result (λ number. (least ≤ number) × (number ≤ most)) }
+    ensures read { IfSome result (λ number. read_field least most octets.now ≡ Ok (number, 1)) }
+{
+    if octets.is_empty() || octets[0] < 128 {
+        return None;
+    }
+    let number = octets[0] - 128;
+    if number < least || number > most {
+        return None;
+    }
+    Some(number)
+}
+
+#[inline(always)]
+#[tactic(auto, unfolding(crate::specs::binary::Timestamp::read_behind_year))]
+fn usual_month(year: u16, octets: &[u8]) -> bool
+    requires { (1 ≤ year) × (year ≤ 9999) }
+    ensures { result ≡ true → IsOkAnd (read_behind_year year octets.now)
+        (λ utc. utc.minute.date.year ≡ year) }
+{
+    if octets.is_empty() {
+        return true;
+    }
+    match part(1, 12, octets) {
+        Some(month) => usual_day(year, month, &octets[1..]),
+        None => false,
+    }
+}
+
+#[inline(always)]
+#[tactic(auto, unfolding(crate::specs::binary::Timestamp::read_behind_month))]
+fn usual_day(year: u16, month: u8, octets: &[u8]) -> bool
+    requires year { (1 ≤ year) × (year ≤ 9999) }
+    requires month { (1 ≤ month) × (month ≤ 12) }
+    ensures { result ≡ true → IsOkAnd (read_behind_month year month octets.now)
+        (λ utc. utc.minute.date.year ≡ year) }
+{
+    if octets.is_empty() {
+        return true;
+    }
+    match part(1, days_of_month(year, month), octets) {
+        Some(_) => usual_hour(&octets[1..]),
+        None => false,
+    }
+}
+
+#[inline(always)]
+#[tactic(auto, unfolding(crate::specs::binary::Timestamp::read_behind_day))]
+fn usual_hour(octets: &[u8]) -> bool
+    ensures { result ≡ true → (date : Date) → IsOkAnd (read_behind_day date octets.now)
+        (λ utc. utc.minute.date ≡ date) }
+{
+    if octets.is_empty() {
+        return true;
+    }
+    match part(0, 23, octets) {
+        Some(_) => usual_minute(&octets[1..]),
+        None => false,
+    }
+}
+
+#[inline(always)]
+#[tactic(auto, unfolding(crate::specs::binary::Timestamp::read_behind_hour))]
+fn usual_minute(octets: &[u8]) -> bool
+    ensures { result ≡ true → (date : Date) (hour : ℕ) → IsOkAnd (read_behind_hour date hour octets.now)
+        (λ utc. utc.minute.date ≡ date) }
+{
+    let minute = part(0, 59, octets);
+    match minute {
+        Some(_) => usual_second(&octets[1..]),
+        None => false,
+    }
+}
+
+#[inline(always)]
+#[tactic(auto, unfolding(crate::specs::binary::Timestamp::read_behind_minute))]
+fn usual_second(octets: &[u8]) -> bool
+    ensures { result ≡ true → (minute : Minute) → IsOkAnd (read_behind_minute minute octets.now)
+        (λ utc. utc.minute ≡ minute) }
+{
+    if octets.is_empty() {
+        return true;
+    }
+    let second = part(0, 59, octets);
+    match second {
+        Some(_) => usual_fraction(&octets[1..]),
+        None => false,
+    }
+}
+
+#[inline(always)]
+#[tactic(auto, unfolding(crate::specs::binary::Timestamp::read_behind_second))]
+fn usual_fraction(octets: &[u8]) -> bool
+    ensures { result ≡ true → (minute : Minute) (second : ℕ) → IsOkAnd (read_behind_second minute second octets.now)
+        (λ utc. utc.minute ≡ minute) }
+{
+    if octets.is_empty() {
+        return true;
+    }
+    // an exponent from -1 to -18
+    if octets[0] < 193 || octets[0] > 210 {
+        return false;
+    }
+    match int_of(&octets[1..]) {
+        Ok((negative, magnitude)) => !negative && magnitude < ten_to(octets[0] - 192),
+        Err(_) => false,
+    }
+}
+
+#[inline(always)]
+fn ten_to(digits: u8) -> u128
+    requires { digits ≤ 18 }
+    ensures { result ≡ 10 ^ digits }
+{
+    u128::from(10u64.pow(u32::from(digits)))
+}
