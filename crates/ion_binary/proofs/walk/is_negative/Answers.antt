@@ -6,5 +6,5 @@ use Rattle.ion_binary.proofs.walk.is_negative.Goals as goal
 pub returns-in-Some : goal.returns-in-Some
 returns-in-Some c = λ e d. walked_negative d _ _ c.in-Some.ensures.is c.in-Some.ensures.bound (grind (arith, common_steps, e))
 
-pub returns-then-not-is_empty : goal.returns-then-not-is_empty
-returns-then-not-is_empty c = λ e d. walked_negative d _ _ refl (uint_kept _ (sym c.is_uint.ensures ∙ e)) (uint_some _ (omega arith))
+pub returns-then-body-ne0 : goal.returns-then-body-ne0
+returns-then-body-ne0 c = λ e d. walked_negative d _ _ refl (uint_kept _ (sym c.is_uint.ensures ∙ e)) (uint_some _ (omega arith))
