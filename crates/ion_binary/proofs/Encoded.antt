@@ -1,5 +1,5 @@
 -- The octets of a value with and without annotations.
-use Rattle.std.proofs.Common.{◌≡◌, ℕ, ◌+◌, ◌<◌, ◌≤◌, List, [], ◌∷◌, ◌++◌, length, take, drop, get_or, refl, sym, ap, subst, ◌∙◌, arith, append_assoc, Result, Ok, Err, OnOk}
+use Rattle.std.proofs.Common.{◌≡◌, ℕ, ◌+◌, ◌<◌, ◌≤◌, List, [], ◌∷◌, ◌++◌, length, take, drop, get_or, refl, sym, ap, subst, ◌∙◌, arith, append_assoc, length-append, Result, Ok, Err, OnOk}
 use Rattle.std.proofs.Math.ListN.{drop_of_length-le}
 use Rattle.std.proofs.Math.Seq.{take-append_seam, drop-append-add}
 use Rattle.std.proofs.lemmas.List.{drop_more}
@@ -10,6 +10,7 @@ use Rattle.ion_model.specs.declared.value.Value.{Value}
 use Rattle.ion_model.specs.declared.value.Payload.TheViews.{out-Payload}
 use Rattle.ion_binary.specs.Output.{Names, framed, counted, ids_octets, wrapped, value_octets}
 use Rattle.ion_binary.specs.laws.writing.Output.{layer_octets, octets-out}
+use Rattle.ion_binary.specs.writer.Later.{IsLater}
 
 wrapped_none : (names ss : Names) (w : List ℕ) → length ss ≡ 0 → wrapped names ss w ≡ w
 wrapped_none names [] w e = refl
@@ -25,17 +26,22 @@ octets_bare names v e = octets-out names v ∙ wrapped_none names v.annotations 
 pub octets_wrapped : (names : Names) (v : Value) → 0 < length v.annotations → value_octets names v ≡ framed 14 (counted (ids_octets names v.annotations) ++ layer_octets names (out-Payload v.payload))
 octets_wrapped names v h = octets-out names v ∙ wrapped_some names v.annotations _ h
 
+-- whichever names are later
+pub octets_bare_later : {A E : Type 0} (r : Result A E) (names : Names) (v : Value) (old new : List ℕ) → length v.annotations ≡ 0
+    → OnOk r ((later : Names) → IsLater names later → new ≡ old ++ layer_octets later (out-Payload v.payload)) → OnOk r ((later : Names) → IsLater names later → new ≡ old ++ value_octets later v)
+octets_bare_later (Ok x) names v old new e h = λ later l. h later l ∙ ap (λ w. old ++ w) (sym (octets_bare later v e))
+octets_bare_later (Err x) names v old new e h = tt
+
 -- the octets of what is left of a list behind one of its items
 pub octets_at : {X : Type 0} (f : X → List ℕ) (body new all : List ℕ) (xs : List X) (i : ℕ) (x : X) → i < length xs → x ≡ get_or xs i x → new ≡ body ++ f x → body ++ flat_map f (drop i xs) ≡ all → new ++ flat_map f (drop (i + 1) xs) ≡ all
 octets_at f body new all xs i x small is e so_far =
     ap (λ w. w ++ flat_map f (drop (i + 1) xs)) (e ∙ ap (λ y. body ++ f y) is) ∙ append_assoc body (f (get_or xs i x)) (flat_map f (drop (i + 1) xs))
     ∙ ap (λ ys. body ++ flat_map f ys) (sym (drop_more xs i x small)) ∙ so_far
 
--- what is kept once all was gone over
+pub longer_by : (n : ℕ) (old new body : List ℕ) → new ≡ old ++ body → n ≤ length old → n ≤ length new
+longer_by n old new body e h = omega (arith, h, ap length e, length-append old body)
 
-pub on_ok : {A E P : Type 0} (r : Result A E) → P → OnOk r P
-on_ok (Ok x) h = h
-on_ok (Err e) h = tt
+-- what is kept once all was gone over
 
 pub all_items : (vs : List Value) (i : ℕ) → length vs ≤ i → (KeptItems (drop i vs) → KeptItems vs) → KeptItems vs
 all_items vs i past h = h (subst KeptItems (sym (drop_of_length-le vs past)) no_items)

@@ -40,7 +40,7 @@ id_found names ids s index = rw (index.exact s) (by (list_any (symbol_same s) na
     by true e = refl
     by false e = sym (absent_id names s e)
 
-last_id : (names : Names) (s : Option (List ℕ)) → list_any (symbol_same s) names ≡ false → id_of (names ++ s ∷ []) s ≡ length names
+pub last_id : (names : Names) (s : Option (List ℕ)) → list_any (symbol_same s) names ≡ false → id_of (names ++ s ∷ []) s ≡ length names
 last_id [] s h = rw (symbol_self s) refl
 last_id (x ∷ names) s h = absent_either (symbol_same s x) (list_any (symbol_same s) names) (id_of (names ++ s ∷ []) s) (length names) h (last_id names s)
 

@@ -6,6 +6,7 @@ pub mod Insides
 pub mod Encoded
 pub mod Numbered
 pub mod Ids
+pub mod Later
 pub mod Tabled
 pub mod Fronts
 pub mod Wholes

@@ -1,5 +1,5 @@
 -- Names with more of them at the end.
-use Rattle.std.proofs.Common.{if◌then◌else◌, ◌≡◌, inl, inr, ℕ, ◌+◌, ◌≤◌, ◌<◌, Bool, true, false, List, [], ◌∷◌, ◌++◌, length, get_or, drop, Option, ap, sym, ◌∙◌, arith, length-append}
+use Rattle.std.proofs.Common.{if◌then◌else◌, ◌≡◌, inl, inr, ℕ, ◌+◌, ◌≤◌, ◌<◌, Bool, true, false, List, [], ◌∷◌, ◌++◌, length, get_or, drop, Option, refl, ap, sym, ◌∙◌, arith, length-append}
 use Rattle.std.specs.List.{list_any, flat_map}
 use Rattle.std.proofs.lemmas.List.{drop_more}
 use Rattle.std.proofs.lemmas.List.Sums.{fold-append}
@@ -51,3 +51,11 @@ fault_at_symbol names old ss i s f small is so_far fault = fault_more (with_name
 -- the symbols of a value: annotations, then its payload
 pub of_value : (names : Names) (v : Value) → with_names (with_names names v.annotations) (layer_symbols (out-Payload v.payload)) ≡ names_after names v
 of_value names v = sym (fold-append with_name names v.annotations (layer_symbols (out-Payload v.payload))) ∙ ap (with_names names) (sym (symbols-out v))
+
+no_annotations : (names ss layer : Names) → length ss ≡ 0 → with_names names layer ≡ with_names (with_names names ss) layer
+no_annotations names [] layer e = refl
+no_annotations names (s ∷ ss) layer e = absurd (omega (arith, e))
+
+-- the symbols of a value without annotations
+pub of_bare : (names : Names) (v : Value) → length v.annotations ≡ 0 → with_names names (layer_symbols (out-Payload v.payload)) ≡ names_after names v
+of_bare names v e = no_annotations names v.annotations (layer_symbols (out-Payload v.payload)) e ∙ of_value names v

@@ -1,28 +1,50 @@
--- A table that is put together part by part.
-use Rattle.std.proofs.Common.{◌≡◌, ℕ, List, [], ◌∷◌, ◌++◌, map, Option, Some, codes, ap, ◌∙◌}
-use Rattle.ion_model.specs.declared.value.Value.{Value}
+-- The octets of a local symbol table, part by part.
+use Rattle.std.proofs.Common.{◌≡◌, ℕ, List, [], ◌∷◌, ◌++◌, map, Option, Some, codes, refl, ap, ◌∙◌, append-nil}
+use Rattle.std.specs.List.{flat_map}
 use Rattle.ion_model.specs.declared.value.Field.{Field}
 use Rattle.ion_model.specs.declared.value.Payload.TheVariants as payloads
-use Rattle.ion_model.specs.Measures.{bare, annotated, field_of}
-use Rattle.ion_binary.specs.Output.{Names, string_value, table_value}
+use Rattle.ion_model.specs.declared.value.Payload.TheViews as views
+use Rattle.ion_model.specs.Measures.{Layer, bare, field_of}
+use Rattle.ion_scalar.specs.binary.Spellings.{uint_octets, var_uint_octets}
+use Rattle.ion_binary.specs.Output.{Names, id_of, framed, counted, wrapped, named, value_octets, text_of, string_value, table_value}
+use Rattle.ion_binary.specs.laws.writing.Output.{layer_octets, octets-out}
 
-abbrev the_name : Option (List ℕ)
-the_name = Some (codes "$ion_symbol_table")
+abbrev table_word : Option (List ℕ)
+table_word = Some (codes "$ion_symbol_table")
 
-abbrev imports_field : Option (List ℕ) → Field
-imports_field base = field_of (Some (codes "imports")) (bare (payloads.Symbol base))
+abbrev imports_word : Option (List ℕ)
+imports_word = Some (codes "imports")
 
-abbrev symbols_field : List Value → Field
-symbols_field texts = field_of (Some (codes "symbols")) (bare (payloads.List texts))
+abbrev symbols_word : Option (List ℕ)
+symbols_word = Some (codes "symbols")
 
-pub table_made : (added : Names) (base name : Option (List ℕ)) (texts : List Value) (f g : Field) (none one two : List Field) (empty ss : Names)
-    → base ≡ the_name → texts ≡ map string_value added → none ≡ [] → f ≡ imports_field base → one ≡ none ++ f ∷ [] → g ≡ symbols_field texts → two ≡ one ++ g ∷ []
-    → empty ≡ [] → name ≡ the_name → ss ≡ empty ++ name ∷ [] → annotated ss (payloads.Fields two) ≡ table_value added
-table_made added base name texts f g none one two empty ss eb et en ef eo eg ew eno ena es =
-    let first : f ≡ imports_field the_name = ef ∙ ap imports_field eb in
-    let second : g ≡ symbols_field (map string_value added) = eg ∙ ap symbols_field et in
-    let front : one ≡ f ∷ [] = eo ∙ ap (λ (x : List Field). x ++ f ∷ []) en in
-    let both : two ≡ f ∷ g ∷ [] = ew ∙ ap (λ (x : List Field). x ++ g ∷ []) front in
-    let all : two ≡ imports_field the_name ∷ symbols_field (map string_value added) ∷ [] = both ∙ ap (λ x. x ∷ g ∷ []) first ∙ ap (λ x. imports_field the_name ∷ x ∷ []) second in
-    let names : ss ≡ the_name ∷ [] = es ∙ ap (λ (x : Names). x ++ name ∷ []) eno ∙ ap (λ x. x ∷ []) ena in
-    ap (λ (x : Names). annotated x (payloads.Fields two)) names ∙ ap (λ (x : List Field). annotated (the_name ∷ []) (payloads.Fields x)) all
+abbrev table_fields : Names → List Field
+table_fields more = field_of imports_word (bare (payloads.Symbol table_word)) ∷ field_of symbols_word (bare (payloads.List (map string_value more))) ∷ []
+
+string_octets : (names : Names) (s : Option (List ℕ)) → value_octets names (string_value s) ≡ framed 8 (text_of s)
+string_octets names s = octets-out names (string_value s) ∙ ap (layer_octets names) (views.outs-Str (text_of s))
+
+strings_octets : (names more : Names) → flat_map (value_octets names) (map string_value more) ≡ flat_map (λ s. framed 8 (text_of s)) more
+strings_octets names [] = refl
+strings_octets names (s ∷ more) =
+    ap (λ w. w ++ flat_map (value_octets names) (map string_value more)) (string_octets names s) ∙ ap (λ w. framed 8 (text_of s) ++ w) (strings_octets names more)
+
+imports_octets : (names : Names) → value_octets names (bare (payloads.Symbol table_word)) ≡ framed 7 (uint_octets (id_of names table_word))
+imports_octets names = octets-out names (bare (payloads.Symbol table_word)) ∙ ap (layer_octets names) (views.outs-Symbol table_word)
+
+symbols_octets : (names more : Names) → value_octets names (bare (payloads.List (map string_value more))) ≡ framed 11 (flat_map (λ s. framed 8 (text_of s)) more)
+symbols_octets names more =
+    octets-out names (bare (payloads.List (map string_value more))) ∙ (ap (layer_octets names) (views.outs-List (map string_value more)) ∙ ap (framed 11) (strings_octets names more))
+
+-- the octets of a table behind what names the context so far
+pub table_is : (names more : Names) (base : ℕ) → base ≡ id_of names table_word → value_octets names (table_value more)
+    ≡ framed 14 (counted (var_uint_octets base) ++ framed 13 (named names imports_word (framed 7 (uint_octets base)) ++ named names symbols_word (framed 11 (flat_map (λ s. framed 8 (text_of s)) more))))
+table_is names more base e =
+    let ids = var_uint_octets (id_of names table_word) in
+    let imports = value_octets names (bare (payloads.Symbol table_word)) in
+    let symbols = value_octets names (bare (payloads.List (map string_value more))) in
+    octets-out names (table_value more)
+    ∙ (ap (λ (d : Layer). wrapped names (table_word ∷ []) (layer_octets names d)) (views.outs-Fields (table_fields more))
+    ∙ (ap (λ w. framed 14 (counted w ++ framed 13 (named names imports_word imports ++ (named names symbols_word symbols ++ [])))) (append-nil ids)
+    ∙ (ap (λ w. framed 14 (counted ids ++ framed 13 (named names imports_word imports ++ w))) (append-nil (named names symbols_word symbols))
+    ∙ rw (imports_octets names, symbols_octets names more, e) refl)))

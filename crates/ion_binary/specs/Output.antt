@@ -132,9 +132,13 @@ table_value names =
     ∷ field_of (Some (codes "symbols")) (bare (payloads.List (map string_value names)))
     ∷ []))
 
+-- the table of the names from an id on; nothing where there are none
+abbrev pub table_from : ℕ → Names → List ℕ
+table_from first names = if nat_lt first (length names) then value_octets names (table_value (drop first names)) else []
+
 -- the table that makes the names old the names new; nothing where no name is new
 abbrev pub table_octets : Names → Names → List ℕ
-table_octets old new = if nat_lt (length old) (length new) then value_octets new (table_value (drop (length old) new)) else []
+table_octets old new = table_from (length old) new
 
 -- 4. Streams.
 

@@ -1,4 +1,5 @@
 -- What the writer keeps.
 pub mod Ids
+pub mod Later
 pub mod Puts
 pub mod Names

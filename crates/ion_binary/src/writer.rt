@@ -1,27 +1,25 @@
 //! The writer of binary documents.
-ghost use Rattle.std.specs.Prelude.{◌≡◌, ◌≤◌, ◌++◌, Some, None, Ok, Err, true, false, MatchResult, OnOk, OnErr, IfErr, IsOkUnless, length, drop};
+ghost use Rattle.std.specs.Prelude.{◌≡◌, ◌++◌, Some, None, Ok, Err, true, false, MatchResult, OnOk, OnErr, IfErr, IsOkUnless};
 ghost use Rattle.ion_model.specs.Kept.{IsKept};
 ghost use Rattle.ion_symtab.specs.declared.fault.Fault.{Fault as AnyFault};
 ghost use Rattle.ion_symtab.specs.declared.fault.Fault.TheVariants as faults;
 ghost use Rattle.ion_symtab.specs.Took.{Took, TookFront};
-ghost use Rattle.ion_binary.specs.Output.{nothing_yet, adds, after, opening, names_after, value_octets, table_value, Progress};
-ghost use Rattle.ion_binary.specs.Writing.{IsWritingFault, IsNumberingFault};
+ghost use Rattle.ion_binary.specs.Output.{nothing_yet, adds, after, opening, names_after, table_from};
+ghost use Rattle.ion_binary.specs.Writing.{IsWritingFault};
 
 use encoding::put_value;
 use guesses::Guesses;
 use ion_model::Value;
 use ion_symtab::{Fault, Outlet, flushed, write_whole};
 use names::Names;
-use numbering::number_value;
 use std::alloc::Global;
 use std::marker::Model;
-use table::table_of;
+use table::put_table;
 
 mod encoding;
 mod framing;
 mod guesses;
 mod names;
-mod numbering;
 mod table;
 
 /// The marker of Ion 1.0 (Ion 1.0, "Ion Binary Encoding", "Value Streams").
@@ -37,8 +35,10 @@ pub struct BinaryWriter {
     alloc: Global,
     names: Names,
     guesses: Guesses,
-    /// The octets that were written last; those of the next value take their memory.
+    /// The octets of the value that was written last; those of the next value take their memory.
     octets: Vec<u8>,
+    /// What was written before them.
+    front: Vec<u8>,
     /// Whether the marker is out.
     begun: bool,
     /// The fault that each call answers from now on.
@@ -63,6 +63,7 @@ impl BinaryWriter {
             names: Names::system(alloc)?,
             guesses: Guesses::new(alloc),
             octets: Vec::new(alloc),
+            front: Vec::new(alloc),
             begun: false,
             failed: None,
         })
@@ -131,57 +132,36 @@ impl BinaryWriter {
         ensures cause { IfErr result (IsWritingFault (names_after self.old.progress.names value.now) (W.has_failed out.new)) }
     {
         self.octets.clear();
+        self.front.clear();
+        self.guesses.restart();
+        let known = self.names.len();
         let (names, guesses) = (&mut self.names, &mut self.guesses);
-        put_addition(
-            self.alloc,
-            names,
-            guesses,
-            self.begun,
-            value,
-            &mut self.octets,
-        )?;
+        put_value(names, guesses, value, &mut self.octets)?;
+        put_front(self.alloc, names, known, self.begun, &mut self.front)?;
         self.begun = true;
+        write_whole(out, &self.front)?;
         write_whole(out, &self.octets)
     }
 }
 
-// Appends what the value adds to the document.
-fn put_addition(
+// Appends what stands before a value: the marker where none is out, and the table of the names from an id
+// on where there are any. The only fault is `Memory`.
+fn put_front(
     alloc: Global,
-    names: &mut Names,
-    guesses: &mut Guesses,
+    names: &Names,
+    known: usize,
     begun: bool,
-    value: &Value,
-    octets: &mut Vec<u8>,
+    front: &mut Vec<u8>,
 ) -> Result<(), Fault>
-    ensures ok { let before : Progress = record { names = names.old; begun = begun } in
-        OnOk result (octets.new.items ≡ octets.old.items ++ adds before value.now) }
-    ensures after { OnOk result (names.new ≡ names_after names.old value.now) }
-    ensures kept { OnOk result (IsKept value.now) }
-    ensures cause { IfErr result (IsNumberingFault (names_after names.old value.now)) }
-{
-    if !begun {
-        octets.extend_from_slice(&MARKER)?;
-    }
-    let known = names.len();
-    guesses.restart();
-    number_value(names, guesses, value)?;
-    if names.len() > known {
-        put_table(alloc, names, known, octets)?;
-    }
-    guesses.restart();
-    put_value(names, guesses, value, octets)?;
-    Ok(())
-}
-
-// Appends the table that gives the names from an id on. The only fault is `Memory`.
-#[inline(never)]
-fn put_table(alloc: Global, names: &Names, first: usize, octets: &mut Vec<u8>) -> Result<(), Fault>
-    requires { first ≤ length names.now }
-    ensures ok { let table = table_value (drop first names.now) in
-        OnOk result (octets.new.items ≡ octets.old.items ++ value_octets names.now table) }
+    ensures ok { OnOk result (front.new.items ≡
+        front.old.items ++ (opening begun ++ table_from known names.now)) }
     ensures memory { IsOkUnless result faults.Memory }
 {
-    let table = table_of(alloc, names, first)?;
-    put_value(names, &mut Guesses::new(alloc), &table, octets)
+    if !begun {
+        front.extend_from_slice(&MARKER)?;
+    }
+    if names.len() > known {
+        put_table(alloc, names, known, front)?;
+    }
+    Ok(())
 }

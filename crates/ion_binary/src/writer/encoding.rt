@@ -1,13 +1,18 @@
-//! Values as octets (Ion 1.0, "Ion Binary Encoding"). Each function appends to `out`, and its only fault
-//! is `Memory`, on which some of the octets may stand there. What is written was a value that the types
-//! keep: its texts are UTF-8, its numbers in range.
-ghost use Rattle.std.specs.Prelude.{◌≡◌, ◌<◌, ◌++◌, OnOk, IsOkUnless};
+//! Values as octets (Ion 1.0, "Ion Binary Encoding"), in which each symbol gets an id where it is first used:
+//! the annotations first, then the payload, a field's name before its value. Each function appends to `out`.
+//! What is written was a value that the types keep: its texts are UTF-8, its numbers in range. The ids stay
+//! what they are, so the octets are right under whatever names are later.
+//!
+//! Faults are `Memory`, and `TooLarge` where an id would be above 2^31-1. Some of the octets may stand there
+//! then, and some of the symbols have ids.
+ghost use Rattle.std.specs.Prelude.{◌≡◌, ◌<◌, ◌++◌, IfErr, OnOk};
 ghost use Rattle.std.specs.List.{flat_map};
 ghost use Rattle.ion_model.specs.declared.value.Payload.TheViews.{out-Payload};
 ghost use Rattle.ion_model.specs.Kept.{AreTexts, IsKept, KeptItems, KeptFields, KeptLayer};
-ghost use Rattle.ion_symtab.specs.declared.fault.Fault.TheVariants as faults;
-ghost use Rattle.ion_binary.specs.Output.{value_octets, framed, counted, ids_octets};
-ghost use Rattle.ion_binary.specs.laws.writing.Output.{layer_octets, field_octets};
+ghost use Rattle.ion_binary.specs.Output.{Names as SymbolsById, value_octets, framed, counted, ids_octets, with_names, names_after, symbols_of};
+ghost use Rattle.ion_binary.specs.Writing.{IsNumberingFault};
+ghost use Rattle.ion_binary.specs.laws.writing.Output.{layer_octets, field_octets, field_symbols, layer_symbols};
+ghost use Rattle.ion_binary.specs.writer.Later.{IsLater};
 
 use super::framing::{
     frame, insert_length, put_decimal_value, put_framed, put_id, put_null, put_symbol,
@@ -18,17 +23,19 @@ use super::names::Names;
 use ion_model::{Field, Payload, Symbol, Value};
 use ion_symtab::Fault;
 
-/// Appends a value whose symbols have ids.
+/// Appends a value.
 #[cycle(encoding)]
 pub(crate) fn put_value(
-    names: &Names,
+    names: &mut Names,
     guesses: &mut Guesses,
     value: &Value,
     out: &mut Vec<u8>,
 ) -> Result<(), Fault>
-    ensures ok { OnOk result (out.new.items ≡ out.old.items ++ value_octets names.now value.now) }
+    ensures ok { OnOk result ((later : SymbolsById) → IsLater names.new later →
+        out.new.items ≡ out.old.items ++ value_octets later value.now) }
+    ensures after { OnOk result (names.new ≡ names_after names.old value.now) }
     ensures kept { OnOk result (IsKept value.now) }
-    ensures memory { IsOkUnless result faults.Memory }
+    ensures cause { IfErr result (IsNumberingFault (names_after names.old value.now)) }
 {
     let annotations = value.annotations.as_slice();
     if annotations.is_empty() {
@@ -38,37 +45,46 @@ pub(crate) fn put_value(
     out.push(0)?;
     put_annotations(names, guesses, annotations, out)?;
     put_payload(names, guesses, value, out)?;
-    frame(14, place, out)
+    frame(14, place, out)?;
+    Ok(())
 }
 
 fn put_annotations(
-    names: &Names,
+    names: &mut Names,
     guesses: &mut Guesses,
     annotations: &[Symbol],
     out: &mut Vec<u8>,
 ) -> Result<(), Fault>
-    ensures ok { OnOk result (out.new.items ≡ out.old.items ++ counted (ids_octets names.now annotations.now)) }
+    ensures ok { OnOk result ((later : SymbolsById) → IsLater names.new later →
+        out.new.items ≡ out.old.items ++ counted (ids_octets later annotations.now)) }
+    ensures after { OnOk result (names.new ≡ with_names names.old annotations.now) }
     ensures kept { OnOk result (AreTexts annotations.now) }
-    ensures memory { IsOkUnless result faults.Memory }
+    ensures cause { IfErr result (IsNumberingFault (with_names names.old annotations.now)) }
 {
     let place = out.len();
     for symbol in annotations {
         symbol.kept();
-        put_id(names, guesses, symbol, out)?;
+        let id = names.add(guesses, symbol)?;
+        put_id(id, out)?;
     }
-    insert_length(place, out.len() - place, out)
+    insert_length(place, out.len() - place, out)?;
+    Ok(())
 }
 
 #[cycle(encoding)]
 fn put_payload(
-    names: &Names,
+    names: &mut Names,
     guesses: &mut Guesses,
     value: &Value,
     out: &mut Vec<u8>,
 ) -> Result<(), Fault>
-    ensures ok { OnOk result (out.new.items ≡ out.old.items ++ layer_octets names.now (out-Payload value.now.payload)) }
+    ensures ok { OnOk result ((later : SymbolsById) → IsLater names.new later →
+        out.new.items ≡ out.old.items ++ layer_octets later (out-Payload value.now.payload)) }
+    ensures after { OnOk result (names.new ≡
+        with_names names.old (layer_symbols (out-Payload value.now.payload))) }
     ensures kept { OnOk result (KeptLayer (out-Payload value.now.payload)) }
-    ensures memory { IsOkUnless result faults.Memory }
+    ensures cause { IfErr result (IsNumberingFault
+        (with_names names.old (layer_symbols (out-Payload value.now.payload)))) }
 {
     value.scalar_kept();
     match &value.payload {
@@ -77,7 +93,10 @@ fn put_payload(
         Payload::Int(whole) => put_whole(*whole, out),
         Payload::Decimal(decimal) => put_decimal_value(*decimal, out),
         Payload::Timestamp(timestamp) => put_timestamp_value(*timestamp, out),
-        Payload::Symbol(symbol) => put_symbol(names, guesses, symbol, out),
+        Payload::Symbol(symbol) => {
+            let id = names.add(guesses, symbol)?;
+            put_symbol(id, out)
+        }
         Payload::Str(text) => put_framed(8, text.as_str().as_bytes(), out),
         Payload::Clob(octets) => put_framed(9, octets.as_slice(), out),
         Payload::Blob(octets) => put_framed(10, octets.as_slice(), out),
@@ -89,42 +108,52 @@ fn put_payload(
 
 #[cycle(encoding)]
 fn put_items(
-    names: &Names,
+    names: &mut Names,
     guesses: &mut Guesses,
     code: u8,
     items: &[Value],
     out: &mut Vec<u8>,
 ) -> Result<(), Fault>
     requires { code < 16 }
-    ensures ok { OnOk result (out.new.items ≡ out.old.items ++ framed code (flat_map (value_octets names.now) items.now)) }
+    ensures ok { OnOk result ((later : SymbolsById) → IsLater names.new later →
+        out.new.items ≡ out.old.items ++ framed code (flat_map (value_octets later) items.now)) }
+    ensures after { OnOk result (names.new ≡ with_names names.old (flat_map symbols_of items.now)) }
     ensures kept { OnOk result (KeptItems items.now) }
-    ensures memory { IsOkUnless result faults.Memory }
+    ensures cause { IfErr result (IsNumberingFault
+        (with_names names.old (flat_map symbols_of items.now))) }
 {
     let place = out.len();
     out.push(0)?;
     for item in items {
         put_value(names, guesses, item, out)?;
     }
-    frame(code, place, out)
+    frame(code, place, out)?;
+    Ok(())
 }
 
 #[cycle(encoding)]
 fn put_fields(
-    names: &Names,
+    names: &mut Names,
     guesses: &mut Guesses,
     fields: &[Field],
     out: &mut Vec<u8>,
 ) -> Result<(), Fault>
-    ensures ok { OnOk result (out.new.items ≡ out.old.items ++ framed 13 (flat_map (field_octets names.now) fields.now)) }
+    ensures ok { OnOk result ((later : SymbolsById) → IsLater names.new later →
+        out.new.items ≡ out.old.items ++ framed 13 (flat_map (field_octets later) fields.now)) }
+    ensures after { OnOk result (names.new ≡
+        with_names names.old (flat_map field_symbols fields.now)) }
     ensures kept { OnOk result (KeptFields fields.now) }
-    ensures memory { IsOkUnless result faults.Memory }
+    ensures cause { IfErr result (IsNumberingFault
+        (with_names names.old (flat_map field_symbols fields.now))) }
 {
     let place = out.len();
     out.push(0)?;
     for field in fields {
         field.name.kept();
-        put_id(names, guesses, &field.name, out)?;
+        let id = names.add(guesses, &field.name)?;
+        put_id(id, out)?;
         put_value(names, guesses, &field.value, out)?;
     }
-    frame(13, place, out)
+    frame(13, place, out)?;
+    Ok(())
 }

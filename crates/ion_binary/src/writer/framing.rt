@@ -4,12 +4,10 @@
 ghost use Rattle.std.specs.Prelude.{◌≡◌, ◌<◌, ◌≤◌, ◌*◌, ◌^◌, ◌+◌, ◌++◌, ◌∷◌, [], take, drop, vec_len, OnOk, IsOkUnless};
 ghost use Rattle.ion_symtab.specs.declared.fault.Fault.TheVariants as faults;
 ghost use Rattle.ion_scalar.specs.binary.Spellings.{var_uint_octets, uint_octets, decimal_octets};
-ghost use Rattle.ion_binary.specs.Output.{id_of, framed, null_octet, truth_octet, whole_octets};
+ghost use Rattle.ion_binary.specs.Output.{framed, null_octet, truth_octet, whole_octets};
 ghost use Rattle.ion_scalar.specs.binary.TimestampSpellings.{timestamp_octets};
 
-use super::guesses::Guesses;
-use super::names::Names;
-use ion_model::{Decimal, Kind, Symbol, Timestamp, Whole};
+use ion_model::{Decimal, Kind, Timestamp, Whole};
 use ion_scalar::{put_decimal, put_timestamp, put_uint, put_var_uint};
 use ion_symtab::Fault;
 
@@ -73,16 +71,11 @@ fn put_length(length: usize, out: &mut Vec<u8>) -> Result<(), Fault>
 }
 
 /// Appends the id of a symbol as a VarUInt.
-pub(crate) fn put_id(
-    names: &Names,
-    guesses: &mut Guesses,
-    symbol: &Symbol,
-    out: &mut Vec<u8>,
-) -> Result<(), Fault>
-    ensures ok { OnOk result (out.new.items ≡ out.old.items ++ var_uint_octets (id_of names.now symbol.now)) }
+pub(crate) fn put_id(id: u64, out: &mut Vec<u8>) -> Result<(), Fault>
+    requires { id < 2 ^ 63 }
+    ensures ok { OnOk result (out.new.items ≡ out.old.items ++ var_uint_octets id) }
     ensures memory { IsOkUnless result faults.Memory }
 {
-    let id = names.id_of(guesses, symbol)?;
     if id < 128 {
         out.push(128 + id as u8)?;
         return Ok(());
@@ -177,17 +170,11 @@ pub(crate) fn put_timestamp_value(timestamp: Timestamp, out: &mut Vec<u8>) -> Re
     frame(6, place, out)
 }
 
-/// Appends a symbol as a value.
+/// Appends a symbol of this id as a value.
 #[inline(never)]
-pub(crate) fn put_symbol(
-    names: &Names,
-    guesses: &mut Guesses,
-    symbol: &Symbol,
-    out: &mut Vec<u8>,
-) -> Result<(), Fault>
-    ensures ok { OnOk result (out.new.items ≡ out.old.items ++ framed 7 (uint_octets (id_of names.now symbol.now))) }
+pub(crate) fn put_symbol(id: u64, out: &mut Vec<u8>) -> Result<(), Fault>
+    ensures ok { OnOk result (out.new.items ≡ out.old.items ++ framed 7 (uint_octets id)) }
     ensures memory { IsOkUnless result faults.Memory }
 {
-    let id = names.id_of(guesses, symbol)?;
     put_magnitude(7, u128::from(id), out)
 }

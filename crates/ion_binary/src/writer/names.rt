@@ -2,8 +2,9 @@
 ghost use Rattle.std.specs.Prelude.{◌≡◌, ◌<◌, ◌≤◌, ◌^◌, Some, true, length, map, drop, MatchResult, IfErr, IfOk, OnOk};
 ghost use Rattle.ion_model.specs.Symbols.{symbol_same};
 ghost use Rattle.ion_symtab.specs.declared.fault.Fault.TheVariants as faults;
-ghost use Rattle.ion_binary.specs.Output.{system_names, id_of, with_name, with_names};
+ghost use Rattle.ion_binary.specs.Output.{Names as SymbolsById, system_names, id_of, with_name, with_names};
 ghost use Rattle.ion_binary.specs.Writing.{IsNumberingFault};
+ghost use Rattle.ion_binary.specs.writer.Later.{IsLater};
 
 use super::guesses::Guesses;
 use ion_model::Symbol;
@@ -66,21 +67,24 @@ impl Names {
         self.symbols.len()
     }
 
-    /// Gives the symbol the next id, if it has none.
+    /// The id of a symbol, which is the next one where it had none. It stays the symbol's id.
     ///
-    /// `TooLarge` where that id would be above 2^31-1.
-    pub(crate) fn add(&mut self, guesses: &mut Guesses, symbol: &Symbol) -> Result<(), Fault>
+    /// `Memory`, or `TooLarge` where that id would be above 2^31-1.
+    pub(crate) fn add(&mut self, guesses: &mut Guesses, symbol: &Symbol) -> Result<u64, Fault>
         ensures ok { OnOk result (self.new ≡ with_name self.old symbol.now) }
+        ensures id { IfOk result (λ id. (later : SymbolsById) → IsLater self.new later →
+            id ≡ id_of later symbol.now) }
+        ensures small { IfOk result (λ id. id < 2 ^ 63) }
         ensures cause { IfErr result (IsNumberingFault (with_name self.old symbol.now)) }
     {
         let guess = guesses.guess();
         if self.stands_at(guess, symbol) {
             guesses.note(guess);
-            return Ok(());
+            return Ok(guess as u64);
         }
         let id = self.add_by_text(symbol)?;
         guesses.note(id);
-        Ok(())
+        Ok(id as u64)
     }
 
     // Whether this is the symbol's id. Takes no look by its text.
@@ -95,10 +99,12 @@ impl Names {
         }
     }
 
-    // As `add`, with a look by the text; answers the symbol's id.
+    // As `add`, with a look by the text.
     #[inline(never)]
     fn add_by_text(&mut self, symbol: &Symbol) -> Result<usize, Fault>
         ensures ok { OnOk result (self.new ≡ with_name self.old symbol.now) }
+        ensures id { IfOk result (λ id. id ≡ id_of self.new symbol.now) }
+        ensures small { IfOk result (λ id. id < 2 ^ 63) }
         ensures cause { IfErr result (IsNumberingFault (with_name self.old symbol.now)) }
     {
         let key = copy_of(symbol)?;
@@ -110,44 +116,31 @@ impl Names {
 
     // Gives the symbol the next id, if it has none, and answers its id. The only fault is `Memory`.
     fn insert(&mut self, key: Symbol) -> Result<usize, Fault>
-        ensures { MatchResult result (λ _. self.new ≡ with_name self.old key) (λ f. f ≡ faults.Memory) }
+        ensures ok { MatchResult result (λ _. self.new ≡ with_name self.old key) (λ f. f ≡ faults.Memory) }
+        ensures id { IfOk result (λ id. id ≡ id_of self.new key) }
+        ensures small { IfOk result (λ id. id < 2 ^ 63) }
     {
+        let next = self.symbols.len();
         if let Some(id) = self.ids.get(&key) {
             return Ok(*id);
         }
-        let id = self.symbols.len();
         let symbol = copy_of(&key)?;
         // Behind the map's growth nothing may fail.
         self.symbols.reserve(1)?;
-        self.ids.insert(key, id)?;
+        self.ids.insert(key, next)?;
         self.symbols.push(symbol)?;
-        Ok(id)
+        Ok(next)
     }
 
-    /// The id of a symbol. The only fault is `Memory`.
-    pub(crate) fn id_of(&self, guesses: &mut Guesses, symbol: &Symbol) -> Result<u64, Fault>
-        ensures id { MatchResult result (λ id. id ≡ id_of self.now symbol.now) (λ f. f ≡ faults.Memory) }
-        ensures small { IfOk result (λ id. id < 2 ^ 63) }
-    {
-        let guess = guesses.guess();
-        if self.stands_at(guess, symbol) {
-            guesses.note(guess);
-            return Ok(guess as u64);
-        }
-        let id = self.id_by_text(symbol)?;
-        guesses.note(id);
-        Ok(id as u64)
-    }
-
-    // As `id_of`, with a look by the text.
+    /// The id of a text, or how many symbols there are, where it has none. The only fault is `Memory`.
     #[inline(never)]
-    fn id_by_text(&self, symbol: &Symbol) -> Result<usize, Fault>
-        ensures id { MatchResult result (λ id. id ≡ id_of self.now symbol.now) (λ f. f ≡ faults.Memory) }
+    pub(crate) fn id_of_text(&self, alloc: Global, text: &str) -> Result<u64, Fault>
+        ensures id { MatchResult result (λ id. id ≡ id_of self.now (Some text.now)) (λ f. f ≡ faults.Memory) }
         ensures small { IfOk result (λ id. id < 2 ^ 63) }
     {
-        let key = copy_of(symbol)?;
+        let key = Symbol::known(alloc, text).map_err(|_| Fault::Memory)?;
         let count = self.len();
-        Ok(self.ids.get(&key).copied().unwrap_or(count))
+        Ok(self.ids.get(&key).copied().unwrap_or(count) as u64)
     }
 
     /// The symbols from an id on, in the order of their ids.

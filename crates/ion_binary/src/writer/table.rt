@@ -1,61 +1,85 @@
-//! Local symbol tables that append to the context (Ion 1.0, "Symbols", "Local Symbol Tables").
-ghost use Rattle.std.specs.Prelude.{◌≡◌, ◌≤◌, Some, drop, length, map, MatchResult};
-ghost use Rattle.ion_model.specs.Measures.{bare, field_of};
+//! Local symbol tables that append to the context (Ion 1.0, "Symbols", "Local Symbol Tables"). Each function
+//! appends to `out`, and its only fault is `Memory`, on which some of the octets may stand there.
+ghost use Rattle.std.specs.Prelude.{◌≡◌, ◌≤◌, ◌<◌, ◌^◌, ◌++◌, Some, codes, drop, length, OnOk, IsOkUnless};
+ghost use Rattle.std.specs.List.{flat_map};
+ghost use Rattle.ion_scalar.specs.binary.Spellings.{uint_octets, var_uint_octets};
 ghost use Rattle.ion_symtab.specs.declared.fault.Fault.TheVariants as faults;
-ghost use Rattle.ion_binary.specs.Output.{string_value, table_value};
+ghost use Rattle.ion_binary.specs.Output.{counted, framed, named, table_value, text_of, value_octets};
 
+use super::framing::{frame, insert_length, put_framed, put_id, put_symbol};
 use super::names::Names;
-use ion_model::{Field, Payload, Sequence, Symbol, Text, Value};
+use ion_model::Symbol;
 use ion_symtab::Fault;
 use std::alloc::Global;
 
-/// The local symbol table that appends the texts from an id on. The only fault is `Memory`.
-pub(crate) fn table_of(alloc: Global, names: &Names, first: usize) -> Result<Value, Fault>
+/// Appends the local symbol table that gives the texts from an id on.
+#[inline(never)]
+pub(crate) fn put_table(
+    alloc: Global,
+    names: &Names,
+    first: usize,
+    out: &mut Vec<u8>,
+) -> Result<(), Fault>
     requires { first ≤ length names.now }
-    ensures { MatchResult result (λ made. made ≡ table_value (drop first names.now)) (λ f. f ≡ faults.Memory) }
+    ensures ok { let table = table_value (drop first names.now) in
+        OnOk result (out.new.items ≡ out.old.items ++ value_octets names.now table) }
+    ensures memory { IsOkUnless result faults.Memory }
 {
-    let base = symbol_of(alloc, "$ion_symbol_table")?;
-    let texts = texts_of(alloc, names.from(first))?;
-    let mut fields = Sequence::new(alloc);
-    fields.push(field_of(alloc, "imports", Payload::Symbol(base))?)?;
-    fields.push(field_of(alloc, "symbols", Payload::List(texts))?)?;
-    let mut annotations = Sequence::new(alloc);
-    annotations.push(symbol_of(alloc, "$ion_symbol_table")?)?;
-    Ok(Value {
-        annotations,
-        payload: Payload::Fields(fields),
-    })
+    let base = names.id_of_text(alloc, "$ion_symbol_table")?;
+    let place = out.len();
+    out.push(0)?;
+    put_counted(base, out)?;
+    put_table_fields(alloc, names, base, first, out)?;
+    frame(14, place, out)
 }
 
-fn field_of(alloc: Global, name: &str, payload: Payload) -> Result<Field, Fault>
-    ensures { MatchResult result (λ made. made ≡ field_of (Some name.now) (bare payload)) (λ f. f ≡ faults.Memory) }
+// The one annotation, behind the length of its id.
+fn put_counted(id: u64, out: &mut Vec<u8>) -> Result<(), Fault>
+    requires { id < 2 ^ 63 }
+    ensures ok { OnOk result (out.new.items ≡ out.old.items ++ counted (var_uint_octets id)) }
+    ensures memory { IsOkUnless result faults.Memory }
 {
-    Ok(Field {
-        name: symbol_of(alloc, name)?,
-        value: Value::bare(alloc, payload),
-    })
+    let place = out.len();
+    put_id(id, out)?;
+    insert_length(place, out.len() - place, out)
 }
 
-// The texts as strings.
-fn texts_of(alloc: Global, symbols: &[Symbol]) -> Result<Sequence<Value>, Fault>
-    ensures { MatchResult result (λ made. made ≡ map string_value symbols.now) (λ f. f ≡ faults.Memory) }
+// The imports, which are the context so far, and the symbols.
+fn put_table_fields(
+    alloc: Global,
+    names: &Names,
+    base: u64,
+    first: usize,
+    out: &mut Vec<u8>,
+) -> Result<(), Fault>
+    requires { first ≤ length names.now }
+    ensures ok { let imports = named names.now (Some (codes "imports")) (framed 7 (uint_octets base)) in
+        let texts = framed 11 (flat_map (λ s. framed 8 (text_of s)) (drop first names.now)) in
+        let symbols = named names.now (Some (codes "symbols")) texts in
+        OnOk result (out.new.items ≡ out.old.items ++ framed 13 (imports ++ symbols)) }
+    ensures memory { IsOkUnless result faults.Memory }
 {
-    let mut texts = Sequence::new(alloc);
+    let imports = names.id_of_text(alloc, "imports")?;
+    let symbols = names.id_of_text(alloc, "symbols")?;
+    let place = out.len();
+    out.push(0)?;
+    put_id(imports, out)?;
+    put_symbol(base, out)?;
+    put_id(symbols, out)?;
+    put_texts(names.from(first), out)?;
+    frame(13, place, out)
+}
+
+// The texts as a list of strings.
+fn put_texts(symbols: &[Symbol], out: &mut Vec<u8>) -> Result<(), Fault>
+    ensures ok { OnOk result (out.new.items ≡
+        out.old.items ++ framed 11 (flat_map (λ s. framed 8 (text_of s)) symbols.now)) }
+    ensures memory { IsOkUnless result faults.Memory }
+{
+    let place = out.len();
+    out.push(0)?;
     for symbol in symbols {
-        texts.push(string_of(alloc, symbol)?)?;
+        put_framed(8, symbol.text().unwrap_or("").as_bytes(), out)?;
     }
-    Ok(texts)
-}
-
-fn string_of(alloc: Global, symbol: &Symbol) -> Result<Value, Fault>
-    ensures { MatchResult result (λ made. made ≡ string_value symbol.now) (λ f. f ≡ faults.Memory) }
-{
-    let text = String::from_str(alloc, symbol.text().unwrap_or(""))?;
-    Ok(Value::bare(alloc, Payload::Str(Text::from_string(text))))
-}
-
-fn symbol_of(alloc: Global, text: &str) -> Result<Symbol, Fault>
-    ensures { MatchResult result (λ made. made ≡ Some text.now) (λ f. f ≡ faults.Memory) }
-{
-    Symbol::known(alloc, text).map_err(|_| Fault::Memory)
+    frame(11, place, out)
 }
