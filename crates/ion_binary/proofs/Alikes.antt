@@ -1,5 +1,6 @@
 -- Values that are found on two sides and not built.
-use Rattle.std.proofs.Common.{◌≡◌, ℕ, ◌+◌, ◌-◌, ◌<◌, ◌≤◌, ◌^◌, List, length, take, drop, Option, Some, None, IfSome, Ok, refl, ap, sym, subst, ◌∙◌, arith}
+use Rattle.std.proofs.Common.{◌≡◌, ℕ, ◌+◌, ◌-◌, ◌<◌, ◌≤◌, ◌^◌, ◌⊎◌, inl, inr, Bool, List, length, take, drop, get_or, Option, Some, None, IfSome, Ok, refl, ap, sym, subst, ◌∙◌, arith}
+use Rattle.ion_model.specs.declared.kind.Kind.{Kind}
 use Rattle.ion_model.specs.declared.value.Payload.{Payload}
 use Rattle.ion_model.specs.declared.value.Payload.TheVariants as payloads
 use Rattle.ion_model.specs.Kinds.{kind_of}
@@ -11,13 +12,16 @@ use Rattle.ion_binary.specs.declared.form.Scalar.TheVariants as scalars
 use Rattle.ion_binary.specs.declared.form.Listing.{Listing}
 use Rattle.ion_binary.specs.declared.form.Form.{Form}
 use Rattle.ion_binary.specs.declared.form.Form.TheVariants as forms
+use Rattle.ion_binary.specs.declared.form.Opening.{Opening}
+use Rattle.ion_binary.specs.declared.form.Opening.TheVariants.{Null, Truth}
+use Rattle.ion_binary.specs.Opening.{opening_of}
 use Rattle.ion_binary.specs.laws.reading.Judged.{scalar_flat}
 use Rattle.ion_binary.specs.Grammar.{listed, IsScalar, is_int, is_negative, is_decimal, is_timestamp, is_symbol, is_string, is_clob, is_blob, unannotated}
 use Rattle.ion_binary.specs.laws.reading.Complete.{depth-listed, depth-fields}
 use Rattle.ion_binary.specs.machine.Walked.{WalkedScalar}
 use Rattle.ion_binary.specs.machine.Alike.{Alike, AlikePlain, AlikeBody, AlikeWrapper, AlikeScalar, AlikeItems, AlikeFields, AlikeIds}
 use Rattle.ion_binary.proofs.Slotted.{symbol_is}
-use Rattle.ion_binary.proofs.Wholes.{framed_scalar, framed_listing, framed_struct, framed_ordered, wraps, depth_wrapped}
+use Rattle.ion_binary.proofs.Wholes.{plain_null, plain_truth, flat_null, flat_truth, framed_scalar, framed_listing, framed_struct, framed_ordered, wraps, depth_wrapped}
 
 -- scalars
 
@@ -46,6 +50,26 @@ alike_symbol c d body beside id k s e f small also found and = record {
   is = symbol_is c body id s e small found;
   other = symbol_is d beside k s f also and;
 }
+
+-- a null and a truth value are one octet, the same on both sides
+pub both_one : (c d : List Slot) (level : ℕ) (octets others : List ℕ) (o : Opening) → 0 < length octets → 0 < length others → get_or octets 0 0 ≡ get_or others 0 0 → o ≡ opening_of (get_or octets 0 0) → ((k : Kind) × (o ≡ Null k)) ⊎ ((t : Bool) × (o ≡ Truth t))
+    → AlikePlain c d level (take 1 octets) (take 1 others)
+both_one c d level octets others o some other_some same opens (inl h) =
+    let null = sym opens ∙ h.1 in
+    record {
+      payload = payloads.Null h.0;
+      is = plain_null c octets h.0 some null;
+      other = plain_null d others h.0 other_some (ap opening_of (sym same) ∙ null);
+      deep = omega (arith, flat_null h.0);
+    }
+both_one c d level octets others o some other_some same opens (inr h) =
+    let truth = sym opens ∙ h.1 in
+    record {
+      payload = payloads.Truth h.0;
+      is = plain_truth c octets h.0 some truth;
+      other = plain_truth d others h.0 other_some (ap opening_of (sym same) ∙ truth);
+      deep = omega (arith, flat_truth h.0);
+    }
 
 -- bodies
 

@@ -276,13 +276,7 @@ fn alike_plain(
             }
             None
         }
-        Opening::Null(_) => {
-            if octets[0] == other_octets[0] {
-                return Some((1, 1));
-            }
-            None
-        }
-        Opening::Truth(_) => {
+        Opening::Null(_) | Opening::Truth(_) => {
             if octets[0] == other_octets[0] {
                 return Some((1, 1));
             }

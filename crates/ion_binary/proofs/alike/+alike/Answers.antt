@@ -1,36 +1,18 @@
-use Rattle.std.proofs.Common.{ℕ, length-take, length-drop, [], ◌≡◌, ◌∷◌, ◌++◌, ◌+◌, ◌-◌, ◌<◌, ◌≤◌, length, take, drop, get_or, ◌∙◌, refl, ap, sym, arith}
+use Rattle.std.proofs.Common.{ℕ, length-take, length-drop, [], ◌∷◌, ◌++◌, ◌+◌, ◌-◌, ◌<◌, ◌≤◌, length, take, drop, ◌∙◌, refl, ap, sym, arith}
 use Rattle.std.proofs.lemmas.Grind.{common_steps}
 use Rattle.ion_model.specs.Measures.{field_of}
-use Rattle.ion_model.specs.declared.value.Payload.TheVariants as payloads
 use Rattle.ion_binary.specs.declared.form.Form.TheVariants as forms
-use Rattle.ion_binary.specs.declared.form.Opening.TheVariants.{Null, Truth, Sized}
+use Rattle.ion_binary.specs.declared.form.Opening.TheVariants.{Sized}
 use Rattle.ion_binary.specs.Grammar.{nothing, no_fields}
-use Rattle.ion_binary.specs.Opening.{opening_of}
 use Rattle.ion_binary.specs.machine.Alike.{Alike, AlikePlain}
 use Rattle.ion_binary.proofs.Leading.{whole_rest}
-use Rattle.ion_binary.proofs.Wholes.{slice_of, plain_null, plain_truth, flat_null, flat_truth, headed, within_more, sequence_more, sequence_padded, fields_more, fields_padded, depths_more, field_depths_more}
-use Rattle.ion_binary.proofs.Alikes.{both_scalar, both_listing, both_struct, both_ordered, alike_bare, alike_wrapper}
+use Rattle.ion_binary.proofs.Wholes.{slice_of, headed, within_more, sequence_more, sequence_padded, fields_more, fields_padded, depths_more, field_depths_more}
+use Rattle.ion_binary.proofs.Alikes.{both_one, both_scalar, both_listing, both_struct, both_ordered, alike_bare, alike_wrapper}
 use Rattle.ion_binary.proofs.alike.+alike.Goals as goal
 
 pub alike_plain-returns-then-octets-other_octets-clause-value : goal.alike_plain-returns-then-octets-other_octets-clause-value
 alike_plain-returns-then-octets-other_octets-clause-value t c =
-    let opens : opening_of (get_or c.args.octets.now 0 0) ≡ Null c.in-Null.field-0 = sym c.requires.opens ∙ c.in-Null.is in
-    record {
-      payload = payloads.Null c.in-Null.field-0;
-      is = plain_null _ _ _ c.requires.some opens;
-      other = plain_null _ _ _ c.requires.other_some (ap opening_of (sym c.if-octets-other_octets.true) ∙ opens);
-      deep = omega (arith, flat_null c.in-Null.field-0);
-    }
-
-pub alike_plain-returns-then-octets-other_octets-2-clause-value : goal.alike_plain-returns-then-octets-other_octets-2-clause-value
-alike_plain-returns-then-octets-other_octets-2-clause-value t c =
-    let opens : opening_of (get_or c.args.octets.now 0 0) ≡ Truth c.in-Truth.field-0 = sym c.requires.opens ∙ c.in-Truth.is in
-    record {
-      payload = payloads.Truth c.in-Truth.field-0;
-      is = plain_truth _ _ _ c.requires.some opens;
-      other = plain_truth _ _ _ c.requires.other_some (ap opening_of (sym c.if-octets-other_octets-2.true) ∙ opens);
-      deep = omega (arith, flat_truth c.in-Truth.field-0);
-    }
+    both_one c.args.context.now c.args.other_context.now c.args.level c.args.octets.now c.args.other_octets.now c.args.opening c.requires.some c.requires.other_some c.if-octets-other_octets.true c.requires.opens c.in-Null.is
 
 pub alike_plain-returns-then-alike_bodies-clause-value : goal.alike_plain-returns-then-alike_bodies-clause-value
 alike_plain-returns-then-alike_bodies-clause-value t c =
