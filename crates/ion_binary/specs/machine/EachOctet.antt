@@ -34,7 +34,8 @@ pub record Setting : Type 0 where
   pub catalog : Catalog
   pub limits : Limits
 
--- `used` octets were taken up, the open piece of the top level begins at `start`, `context` are the slots of symbol ids there
+-- `used` octets were taken up, the open piece of the top level begins at `start`,
+-- `context` are the slots of symbol ids there
 pub record Spot : Type 0 where
   pub used : ℕ
   pub start : ℕ
@@ -193,7 +194,8 @@ abbrev pub deeper : ℕ → List Frame → Outcome → Outcome
 deeper depth fs r = if nat_lt (levels fs) depth then r else refuses Depth
 
 abbrev pub open_struct : Setting → Spot → List Frame → ℕ → Outcome
-open_struct setting spot fs n = deeper setting.limits.depth fs (proceed setting spot (frames.Fields (spot.used + n) [] ∷ fs))
+open_struct setting spot fs n =
+    deeper setting.limits.depth fs (proceed setting spot (frames.Fields (spot.used + n) [] ∷ fs))
 
 -- a header has ended, and n octets of body follow
 abbrev pub begin : Setting → Spot → List Frame → Form → ℕ → Outcome
@@ -278,7 +280,8 @@ abbrev pub on_number : Setting → Spot → List Frame → Purpose → ℕ → �
 on_number setting spot fs p a b =
     if nat_lt b 128
     then (if nat_lt (128 * a + b) (2 ^ 63) then longer setting spot fs p (128 * a + b) else refuses TooLarge)
-    else (if nat_lt (128 * a + (b - 128)) (2 ^ 63) then number_came setting spot fs p (128 * a + (b - 128)) else refuses TooLarge)
+    else
+    (if nat_lt (128 * a + (b - 128)) (2 ^ 63) then number_came setting spot fs p (128 * a + (b - 128)) else refuses TooLarge)
 
 -- an octet of a marker; good where those before it are as they should be
 abbrev pub on_marker : Spot → List Frame → Mark → Bool → ℕ → Outcome
@@ -296,7 +299,8 @@ on_body setting spot fs t missing body =
     else goes (in_body spot fs t (missing - 1) body)
 
 abbrev pub on_pad : Setting → Spot → List Frame → ℕ → Outcome
-on_pad setting spot fs missing = if missing == 0 then proceed setting spot fs else goes (at spot fs (InPad (missing - 1)))
+on_pad setting spot fs missing =
+    if missing == 0 then proceed setting spot fs else goes (at spot fs (InPad (missing - 1)))
 
 -- an octet in a phase, which is counted already
 abbrev pub on_phase : Setting → Machine → Phase → ℕ → Outcome

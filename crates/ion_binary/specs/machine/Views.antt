@@ -35,7 +35,8 @@ spot_of r = spot_at r.used r.start r.context
 
 -- the machine that a reader holds
 abbrev pub machine_of : BinaryReader → Machine
-machine_of r = record { spot = spot_of r; frames = open_frames r; phase = r.phase; body = body_so_far r.phase r.body.items }
+machine_of r =
+    record { spot = spot_of r; frames = open_frames r; phase = r.phase; body = body_so_far r.phase r.body.items }
 
 -- the run of a reader's machine over octets
 abbrev pub run_of : BinaryReader → List ℕ → Run
