@@ -1,5 +1,6 @@
 //! A line for each value of a document.
-ghost use Rattle.std.specs.Prelude.{◌≡◌, ℕ, ◌+◌, ◌^◌, ◌<◌, ◌≤◌, ◌⊎◌, List, length, true, false, IfOk, IfErr, OnOk, OnErr, Option, option_to_list, string_bytes};
+ghost use Rattle.std.specs.Prelude.{◌≡◌, ℕ, ◌+◌, ◌^◌, ◌<◌, ◌≤◌, ◌⊎◌, ◌++◌, List, length, true, false, IfOk, IfErr, OnOk, OnErr, Option, option_to_list, string_bytes};
+ghost use Rattle.std.specs.Fmt.{decimal};
 ghost use Rattle.ion_model.specs.declared.value.Value.{Value};
 ghost use Rattle.ion_symtab.specs.Took.{Took, TookFront};
 ghost use Rattle.ion_symtab.specs.Cause.{IsReadCause};
@@ -10,6 +11,7 @@ ghost use Rattle.ion_docs.specs.Listing.{line_of, lines_from, accepted_line, IsS
 use crate::source::{Reached, Source, Standing, last, value_of};
 use ion_model::{Outline, Refusal, Value};
 use ion_symtab::{Fault, Inlet, Items, Outlet, flushed, write_whole};
+use itoa::Buffer;
 use std::alloc::{AllocError, Global};
 
 /// Makes a text the line of a value: its index, kind, depth and number of nodes. One text is kept for all
@@ -18,13 +20,29 @@ fn set_line(text: &mut String, index: u64, outline: Outline) -> Result<(), Alloc
     ensures { OnOk result (string_bytes text.new ≡ line_of index outline) }
 {
     text.clear();
-    write!(
-        text,
-        "{index} {} depth {} nodes {}\n",
-        outline.kind.name(),
-        outline.depth,
-        outline.nodes
-    )
+    push_number(text, index, " ")?;
+    push(text, outline.kind.name())?;
+    push(text, " depth ")?;
+    push_number(text, outline.depth, " nodes ")?;
+    push_number(text, outline.nodes, "\n")
+}
+
+fn push(text: &mut String, words: &str) -> Result<(), AllocError>
+    ensures { OnOk result (string_bytes text.new ≡ string_bytes text.old ++ words.now) }
+{
+    text.push_str(words)?;
+    Ok(())
+}
+
+/// Appends a number in decimal, and words behind it.
+fn push_number(text: &mut String, number: u64, words: &str) -> Result<(), AllocError>
+    ensures { OnOk result (string_bytes text.new
+        ≡ string_bytes text.old ++ (decimal number ++ words.now)) }
+{
+    let mut digits = Buffer::new();
+    text.push_str(digits.format(number))?;
+    text.push_str(words)?;
+    Ok(())
 }
 
 /// The last line, behind those of the values.
