@@ -6,7 +6,7 @@ use Rattle.ion_symtab.specs.declared.limits.Limits.{Limits}
 use Rattle.ion_symtab.specs.declared.inlet.Inlet.{Ghosts as Inlet}
 use Rattle.ion_symtab.specs.declared.items.Items.{Ghosts as Items}
 use Rattle.ion_docs.specs.reading.Alongside.{WentPast, StandingPast}
-use Rattle.ion_docs.specs.reading.Read.{between, left_of, Begins, IsReady, IsWithin, work}
+use Rattle.ion_docs.specs.reading.Read.{between, left_of, Begins, IsReady, IsWithin}
 use Rattle.ion_docs.specs.reading.Standing.{IfOpen, IsOpen, IfClosed, work_of, Stood}
 use Rattle.ion_docs.specs.declared.source.Source.{Source}
 use Rattle.ion_docs.specs.declared.source.Standing.{Standing}

@@ -1,6 +1,7 @@
 -- What a device took of a document, one value after another.
-use Rattle.std.proofs.Common.{ℕ, List, [], ◌++◌, Bool, false, sym, subst, append-nil}
+use Rattle.std.proofs.Common.{◌≡◌, ℕ, List, [], ◌++◌, length, arith, Bool, false, sym, subst, append-nil}
 use Rattle.ion_model.specs.declared.value.Value.{Value}
+use Rattle.ion_model.specs.Kept.{AreKept}
 use Rattle.ion_symtab.specs.Took.{Took, TookFront}
 use Rattle.ion_symtab.specs.laws.Took.{Took-nil, Took-trans, Front-all, Front-more, Front-behind}
 use Rattle.ion_symtab.specs.declared.fault.Fault.{Fault}
@@ -11,10 +12,13 @@ use Rattle.ion_symtab.specs.declared.inlet.Inlet.{Ghosts as Inlet}
 use Rattle.ion_symtab.specs.declared.items.Items.{Ghosts as Items}
 use Rattle.ion_symtab.specs.declared.outlet.Outlet.{Ghosts as Outlet}
 use Rattle.ion_docs.specs.reading.Read.{left_of}
-use Rattle.ion_docs.specs.reading.Standing.{Stood}
+use Rattle.ion_docs.specs.Checked.{counted}
+use Rattle.ion_docs.specs.Conversion.{WritesKept}
+use Rattle.ion_docs.specs.Formats.{format_of}
+use Rattle.ion_docs.specs.reading.Standing.{IfOpen, Stood}
 use Rattle.ion_docs.specs.declared.source.Standing.{Standing}
 use Rattle.ion_docs.specs.declared.source.Standing.TheVariants as TheStanding
-use Rattle.ion_docs.specs.Converted.{ReadSoFar, in_reading, at_refusal, at_end, IsConvertCause}
+use Rattle.ion_docs.specs.Converted.{ReadSoFar, in_reading, at_refusal, at_end, IsConverted, IsConvertCause}
 use Rattle.ion_docs.specs.Encodings.{Encoding, IsFrontOf, TookBehind, TookSomeBehind, IsPuttingFault}
 
 module _ {T : Type 0} (W : Outlet T) where
@@ -53,3 +57,17 @@ module _ {S X : Type 0} (R : Inlet S) (I : Items X) (g : Catalog) (l : Limits) w
   was_read first now (TheStanding.Open source) s h = in_reading (record { items = source.items; left = left_of source; ended = false; gave = h })
   was_read first now (TheStanding.Refused refusal) s h = at_refusal refusal h
   was_read first now TheStanding.Ended s h = at_end h
+
+-- the end, wherever it leaves the document
+module _ {S X T : Type 0} (R : Inlet S) (I : Items X) (W : Outlet T) (E : Encoding) (g : Catalog) (l : Limits) where
+  pub converted_at : (first now : S) (old new : T) (place : Standing X) (s : List Value) (values : ℕ) → IfOpen place (λ source. ⊥) → length s ≡ values → Stood R I g l first now place s → Took W.took W.written old new (E.document s) →
+      IsConverted R W E (format_of I g l) first now old new (counted values false place)
+  converted_at first now old new (TheStanding.Open source) s values closed count h took = absurd closed
+  converted_at first now old new TheStanding.Ended s values closed count h took = (s, h, omega (arith, count), took)
+  converted_at first now old new (TheStanding.Refused refusal) s values closed count h took = (s, h, took)
+
+  pub kept_at : (first now : S) (old new : T) (place : Standing X) (s : List Value) (values : ℕ) → IfOpen place (λ source. ⊥) → AreKept s → Stood R I g l first now place s → Took W.took W.written old new (E.document s) →
+      WritesKept R W E (format_of I g l) first now old new (counted values false place)
+  kept_at first now old new (TheStanding.Open source) s values closed kept h took = absurd closed
+  kept_at first now old new TheStanding.Ended s values closed kept h took = (s, h, kept, took)
+  kept_at first now old new (TheStanding.Refused refusal) s values closed kept h took = (s, h, kept, took)

@@ -18,7 +18,7 @@ use Rattle.ion_docs.specs.Outcomes.{EndsWell, EndsRefused, ToldRefusedEach}
 use Rattle.ion_docs.specs.reading.Standing.{IfOpen, MatchClosed, Stood}
 use Rattle.ion_docs.specs.Checked.{IsChecked, counted}
 use Rattle.ion_docs.specs.reading.Reached.{Reaches}
-use Rattle.ion_docs.specs.declared.source.passing.Reached.TheVariants.{Value as AValue}
+use Rattle.ion_docs.specs.declared.source.Reached.TheVariants.{Value as AValue}
 use Rattle.ion_docs.specs.declared.source.Source.{Source}
 use Rattle.ion_docs.specs.declared.source.Standing.{Standing}
 use Rattle.ion_docs.specs.declared.source.Standing.TheVariants as TheStanding
@@ -40,14 +40,14 @@ module _ {X : Type 0} (I : Items X) (source after : Source X) where
 
 module _ {S X : Type 0} (R : Inlet S) (I : Items X) (g : Catalog) (l : Limits) where
   one_more : (first now : S) (after : Source X) (given : List (Value × ℕ)) (outline : Outline) (value : Option Value) → option_map outline_of value ≡ Some outline → ReadsEach R I g l first now after (given ++ given_at value after.used) →
-      Reaches R I g l first now after given (AValue outline)
+      Reaches outline_of R I g l first now after given (AValue outline)
   one_more first now after given outline None e h = absurd cc
   one_more first now after given outline (Some v) e h = (v, same_Some _ _ e, h)
 
   -- a value was passed over
   pub passes_on : (first now : S) (source after : Source X) (given : List (Value × ℕ)) (outline : Outline) → ReadsEach R I g l first now source given →
       ((u : List ℕ) (given : List (Value × ℕ)) → I.stands source.items u given → (value : Option Value) × (option_map outline_of value ≡ Some outline) × Went I u given (left_of source) after value) →
-      I.catalog after.items ≡ I.catalog source.items → I.limits after.items ≡ I.limits source.items → Reaches R I g l first now after given (AValue outline)
+      I.catalog after.items ≡ I.catalog source.items → I.limits after.items ≡ I.limits source.items → Reaches outline_of R I g l first now after given (AValue outline)
   passes_on first now source after given outline h go under within =
       let w = go h.u given h.stood in
       one_more first now after given outline w.0 w.1 (reads_by R I g l first now source after given w.0 h w.2 under within)

@@ -2,8 +2,6 @@
 use Rattle.std.proofs.Common.{◌≡◌, ℕ, ◌+◌, ◌^◌, ◌≤◌, List, [], ◌∷◌, ◌++◌, length, refl, ap, sym, subst, ◌∙◌, arith, Bool, true, false, Option, Some, None, option_map, option_to_list, append-nil, length-append, Result, Ok, Err, IfOk, OnErr}
 use Rattle.std.proofs.lemmas.List.{map-append}
 use Rattle.ion_model.specs.declared.value.Value.{Value}
-use Rattle.ion_model.specs.declared.outline.Outline.{Outline}
-use Rattle.ion_model.specs.Outlines.{outline_of}
 use Rattle.ion_model.specs.declared.refusal.Refusal.{Refusal}
 use Rattle.ion_symtab.specs.declared.catalog.Catalog.{Catalog}
 use Rattle.ion_symtab.specs.declared.limits.Limits.{Limits}
@@ -19,7 +17,7 @@ use Rattle.ion_docs.specs.Outcomes.{EndsWell, EndsRefused, ToldDocument, ToldRef
 use Rattle.ion_docs.specs.reading.Standing.{IfOpen, MatchClosed, Stood, StoodEach}
 use Rattle.ion_docs.specs.reading.Reached.{Reaches}
 use Rattle.ion_docs.specs.declared.source.Source.{Source}
-use Rattle.ion_docs.specs.declared.source.passing.Reached.TheVariants.{Value as AValue}
+use Rattle.ion_docs.specs.declared.source.Reached.TheVariants.{Value as AValue}
 use Rattle.ion_docs.specs.declared.source.Standing.{Standing}
 use Rattle.ion_docs.specs.declared.source.Standing.TheVariants as TheStanding
 use Rattle.ion_symtab.specs.declared.fault.Fault.{Fault}
@@ -55,7 +53,7 @@ module _ {S X : Type 0} (R : Inlet S) (I : Items X) (g : Catalog) (l : Limits) w
   reads_went first now source after given value h go under within = reads_by first now source after given value h (go h.u given h.stood) under within
 
   -- nothing was left, and the device was asked again
-  reads_filled : (first now new : S) (source after : Source X) (more : List ℕ) (ended : Bool) (given : List (Value × ℕ)) → ReadsEach R I g l first now source given → left_of source ≡ [] → Heard R now new more ended →
+  pub reads_filled : (first now new : S) (source after : Source X) (more : List ℕ) (ended : Bool) (given : List (Value × ℕ)) → ReadsEach R I g l first now source given → left_of source ≡ [] → Heard R now new more ended →
       left_of after ≡ more → after.items ≡ source.items → GaveEach R I g l first new after.items (left_of after) ended given
   reads_filled first now new source after more ended given h empty heard rest same =
       record {
@@ -107,13 +105,11 @@ module _ {S X : Type 0} (R : Inlet S) (I : Items X) (g : Catalog) (l : Limits) w
         ends = λ more none. subst (λ (x : List ℕ). EndsRefused (format_of I g l) x given r) (sym (ap (λ x. h.u ++ x) (none refl) ∙ append-nil h.u)) (refused h.u h.stood);
       }
 
-  -- a step gave no value and left nothing, and the device was asked again
-  pub reads_on : (first now new : S) (source mid after : Source X) (more : List ℕ) (ended : Bool) (given : List (Value × ℕ)) → ReadsEach R I g l first now source given →
-      ((u : List ℕ) (given : List (Value × ℕ)) → I.stands source.items u given → Went I u given (left_of source) mid None) → I.catalog mid.items ≡ I.catalog source.items → I.limits mid.items ≡ I.limits source.items →
-      left_of mid ≡ [] → Heard R now new more ended → left_of after ≡ more → after.items ≡ mid.items → GaveEach R I g l first new after.items (left_of after) ended given
-  reads_on first now new source mid after more ended given h go under within empty heard rest same =
-      let w : ReadsEach R I g l first now mid given = rw append-nil at (reads_went first now source mid given None h go under within) in
-      reads_filled first now new mid after more ended given w empty heard rest same
+  -- some octets were used, and gave no value
+  pub reads_none : (first now : S) (source after : Source X) (given : List (Value × ℕ)) → ReadsEach R I g l first now source given →
+      ((u : List ℕ) (given : List (Value × ℕ)) → I.stands source.items u given → Went I u given (left_of source) after None) →
+      I.catalog after.items ≡ I.catalog source.items → I.limits after.items ≡ I.limits source.items → ReadsEach R I g l first now after given
+  reads_none first now source after given h go under within = rw append-nil at (reads_went first now source after given None h go under within)
 
   -- the end of a document whose octets were all used
   pub last_gives : (first now : S) (source : Source X) (given : List (Value × ℕ)) (place : Standing X) (last : Option (Value × ℕ)) → left_of source ≡ [] →
@@ -153,11 +149,17 @@ module _ {S X : Type 0} (R : Inlet S) (I : Items X) (g : Catalog) (l : Limits) w
   pub refused_plain : (first now : S) (refusal : Refusal) (given : List (Value × ℕ)) (s : List Value) → plain given ≡ s → ToldRefusedEach R (format_of I g l) first now given refusal → ToldRefused R (format_of I g l) first now s refusal
   refused_plain first now refusal given s values h = subst (λ (x : List Value). ToldRefused R (format_of I g l) first now x refusal) values (stood_plain first now (TheStanding.Refused refusal) given h)
 
-  -- the values alone, also of one more that was passed over
-  pub reads_more : (first old now : S) (source after : Source X) (s : List Value) (outline : Outline) (h : Reads R I g l first old source s) → Reaches R I g l first now after h.given (AValue outline) →
-      (v : Value) × (outline_of v ≡ outline) × Reads R I g l first now after (s ++ v ∷ [])
-  reads_more first old now source after s outline h w =
+  -- the values alone, also of one more
+  pub reads_more : {A : Type 0} (of : Value → A) (first old now : S) (source after : Source X) (s : List Value) (found : A) (h : Reads R I g l first old source s) → Reaches of R I g l first now after h.given (AValue found) →
+      (v : Value) × (of v ≡ found) × Reads R I g l first now after (s ++ v ∷ [])
+  reads_more of first old now source after s found h w =
       (w.0, w.1, record { given = h.given ++ (w.0, after.used) ∷ []; each = w.2; values = plain_next h.given (Some (w.0, after.used)) (Some w.0) s h.values refl })
+
+  pub reads_next : (first old now : S) (source after : Source X) (s : List Value) (v : Value) (h : Reads R I g l first old source s) → Reaches (λ (x : Value). x) R I g l first now after h.given (AValue v) →
+      Reads R I g l first now after (s ++ v ∷ [])
+  reads_next first old now source after s v h w =
+      let more = reads_more (λ (x : Value). x) first old now source after s v h w in
+      subst (λ (x : Value). Reads R I g l first now after (s ++ x ∷ [])) more.1 more.2
 
   -- the values alone, also of one that the end showed
   pub stood_last : (first now : S) (source : Source X) (place : Standing X) (found : Option (Value × ℕ)) (value : Option Value) (given : List (Value × ℕ)) (s : List Value) → option_map (λ (x : Value × ℕ). x.0) found ≡ value → plain given ≡ s → left_of source ≡ [] →
@@ -206,6 +208,10 @@ ready_begun I source items none free same empty piece few =
 
 pub within_begun : {S X : Type 0} (R : Inlet S) (now : S) (source : Source X) (reads : ℕ) → source.reads ≡ reads → IsWithin R reads now now source
 within_begun R now source reads e = record { made = 0; were = WereMade-nil R now; rest = omega arith }
+
+-- a device that wasn't asked
+pub within_kept : {S X : Type 0} (R : Inlet S) (reads : ℕ) (first now : S) (source after : Source X) → after.reads ≡ source.reads → IsWithin R reads first now source → IsWithin R reads first now after
+within_kept R reads first now source after e w = record { made = w.made; were = w.were; rest = ap (λ (n : ℕ). w.made + n) e ∙ w.rest }
 
 pub one_at_most : (value : Option Value) → length (option_to_list value) ≤ 1
 one_at_most None = omega arith

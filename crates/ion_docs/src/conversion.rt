@@ -9,7 +9,7 @@ ghost use Rattle.ion_docs.specs.reading.Read.{IsFresh};
 ghost use Rattle.ion_docs.specs.Conversion.{WritesKept};
 ghost use Rattle.ion_docs.specs.Converted.{IsConverted, ReadSoFar, ConvertsSoFar, IsConvertCause};
 
-use crate::source::{Source, Standing, next_value};
+use crate::source::{Reached, Source, counted, last, value_of};
 use crate::writers::Encoder;
 use ion_model::{Refusal, Value};
 use ion_symtab::{Fault, Inlet, Items, Outlet};
@@ -92,17 +92,19 @@ pub fn convert_items<E: Encoder + Drop, I: Items + Drop, R: Inlet, W: Outlet>(
     let mut encoder = encoder;
     let mut values: u64 = 0;
     loop {
-        let (place, value) = next_value(source, reader)?;
-        values = convert_next(&mut encoder, writer, values, value)?;
-        match place {
-            Standing::Open(after) => source = after,
-            Standing::Ended => {
-                encoder.finish(writer)?;
-                return Ok(Ok(values));
+        match source.read_on(reader)? {
+            Reached::Value(value) => {
+                values = convert_next(&mut encoder, writer, values, Some(value))?;
             }
-            Standing::Refused(refusal) => {
+            Reached::Refused(refusal) => {
                 encoder.finish(writer)?;
                 return Ok(Err(refusal));
+            }
+            Reached::End => {
+                let (place, found) = last(source)?;
+                values = convert_next(&mut encoder, writer, values, value_of(found))?;
+                encoder.finish(writer)?;
+                return Ok(counted(values, place, false));
             }
         }
     }

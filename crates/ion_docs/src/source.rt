@@ -7,7 +7,8 @@ ghost use Rattle.ion_symtab.specs.declared.limits.Limits.{Limits};
 ghost use Rattle.ion_symtab.specs.Heard.{Heard};
 ghost use Rattle.ion_symtab.specs.Cause.{WereMade, IsReadCause};
 ghost use Rattle.ion_docs.specs.Formats.{format_of};
-ghost use Rattle.ion_docs.specs.reading.Read.{left_of, Begins, IsReady, IsWithin, work, Went, Reads, ReadsEach, GaveSoFar};
+ghost use Rattle.ion_docs.specs.reading.Read.{left_of, IsReady, IsWithin, work, Went, GaveEach, Reads, ReadsEach, GaveSoFar};
+ghost use Rattle.ion_docs.specs.reading.Reached.{IfValue, IfEnd, IsSpent, Reaches};
 ghost use Rattle.ion_docs.specs.Outcomes.{EndsWell, EndsRefused};
 ghost use Rattle.ion_docs.specs.reading.Standing.{IfOpen, IsOpen, IfClosed, MatchClosed, work_of, Stood, StoodEach};
 
@@ -18,7 +19,7 @@ use std::alloc::Global;
 mod alike;
 mod passing;
 
-pub(crate) use passing::{Reached, pass_all};
+pub(crate) use passing::{counted, pass_all};
 
 /// At most so many octets are read from a device in one call.
 const PIECE: usize = 4096;
@@ -72,19 +73,13 @@ impl<I: Items + Drop> Source<I> {
             (u : List ℕ) (given : List (Value × ℕ)) → I.stands self.old.items u given → (more : List ℕ) →
             EndsRefused (format_of I.Items (I.catalog self.old.items) (I.limits self.old.items))
             ((u ++ left_of self.old) ++ more) given refusal) }
-        ensures within { IfOk result (λ value. (self.old.at ≤ self.new.at) × (self.new.at ≤ self.new.end)) }
+        ensures ready { IfOk result (λ value. IsReady I.Items self.new) }
         ensures all { IfOk result (λ value. value ≡ Option.None → self.new.at ≡ self.new.end) }
-        ensures taken { IfOk result (λ value.
-            I.taken self.new.items + self.old.at ≡ I.taken self.old.items + self.new.at) }
-        ensures counted { IfOk result (λ value. I.taken self.new.items ≡ self.new.used) }
         ensures pending { IfOk result (λ value. work I.Items self.new ≤ work I.Items self.old) }
         ensures less { IfOk result (λ value. IsSome value →
             work I.Items self.new < work I.Items self.old) }
-        ensures begins { IfOk result (λ value. Begins (I.awaits self.new.items) (left_of self.new)) }
         ensures catalog { I.catalog self.new.items ≡ I.catalog self.old.items }
         ensures limits { I.limits self.new.items ≡ I.limits self.old.items }
-        ensures piece { self.new.piece.items ≡ self.old.piece.items }
-        ensures end { self.new.end ≡ self.old.end }
         ensures reads { self.new.reads ≡ self.old.reads }
     {
         match self.items.step(&self.piece[self.at..self.end]) {
@@ -128,6 +123,96 @@ impl<I: Items + Drop> Source<I> {
             }
         }
     }
+
+    /// Reads another piece where this one is used up; answers whether the device had more octets, or else
+    /// answered its end.
+    ///
+    /// Faults are `Read` and `TooManyReads`.
+    fn refill<R: Inlet>(&mut self, reader: &mut R) -> Result<bool, Fault>
+        requires ready { IsReady I.Items self.old }
+        requires used_up { self.old.at ≡ self.old.end }
+        ensures ready { IfOk result (λ more. more ≡ true → IsReady I.Items self.new) }
+        ensures less { IfOk result (λ more. more ≡ true → work I.Items self.new ≤ work I.Items self.old) }
+        ensures fewer { IfOk result (λ more. more ≡ true → self.new.reads < self.old.reads) }
+        ensures within { IfOk result (λ more. more ≡ true → (first : R) (reads : ℕ) →
+            IsWithin R.Inlet reads first reader.old self.old →
+            IsWithin R.Inlet reads first reader.new self.new) }
+        ensures goes_on { IfOk result (λ more. more ≡ true →
+            (g : Catalog) (l : Limits) (first : R) (given : List (Value × ℕ)) →
+            ReadsEach R.Inlet I.Items g l first reader.old self.old given →
+            ReadsEach R.Inlet I.Items g l first reader.new self.new given) }
+        ensures ends { IfOk result (λ more. more ≡ false →
+            (g : Catalog) (l : Limits) (first : R) (given : List (Value × ℕ)) →
+            ReadsEach R.Inlet I.Items g l first reader.old self.old given →
+            GaveEach R.Inlet I.Items g l first reader.new self.new.items (left_of self.new) true given) }
+        ensures spent { IfOk result (λ more. more ≡ false → IsSpent I.Items self.new) }
+        ensures cause { IfErr result (λ fault. (first : R) (reads : ℕ) →
+            IsWithin R.Inlet reads first reader.old self.old →
+            IsReadCause R.Inlet reads first reader.new fault) }
+        ensures kept { OnErr result ((g : Catalog) (l : Limits) (first : R) (s : List Value) →
+            Reads R.Inlet I.Items g l first reader.old self.old s →
+            GaveSoFar R.Inlet I.Items g l first reader.new s) }
+    {
+        if self.reads == 0 {
+            return Err(Fault::TooManyReads);
+        }
+        if !self.fill(reader)? {
+            return Ok(false);
+        }
+        Ok(true)
+    }
+
+    /// Reads on up to the next value or to the end.
+    ///
+    /// Faults are `Memory`, `Read` and `TooManyReads`.
+    pub(crate) fn read_on<R: Inlet>(&mut self, reader: &mut R) -> Result<Reached<Value>, Fault>
+        requires { IsReady I.Items self.old }
+        ensures gives { IfOk result (λ reached.
+            (g : Catalog) (l : Limits) (first : R) (given : List (Value × ℕ)) →
+            ReadsEach R.Inlet I.Items g l first reader.old self.old given →
+            Reaches (λ v. v) R.Inlet I.Items g l first reader.new self.new given reached) }
+        ensures ready { IfOk result (λ reached. IfValue reached (IsReady I.Items self.new)) }
+        ensures less { IfOk result (λ reached. IfValue reached
+            (work I.Items self.new < work I.Items self.old)) }
+        ensures within { IfOk result (λ reached. IfValue reached ((first : R) (reads : ℕ) →
+            IsWithin R.Inlet reads first reader.old self.old →
+            IsWithin R.Inlet reads first reader.new self.new)) }
+        ensures ended { IfOk result (λ reached. IfEnd reached (IsSpent I.Items self.new)) }
+        ensures cause { IfErr result (λ fault. (first : R) (reads : ℕ) →
+            IsWithin R.Inlet reads first reader.old self.old →
+            IsReadCause R.Inlet reads first reader.new fault) }
+        ensures kept { OnErr result ((g : Catalog) (l : Limits) (first : R) (s : List Value) →
+            Reads R.Inlet I.Items g l first reader.old self.old s →
+            GaveSoFar R.Inlet I.Items g l first reader.new s) }
+    {
+        loop {
+            match self.take() {
+                Err(
+                    Refusal {
+                        reason: Reason::Memory,
+                        ..
+                    },
+                ) => return Err(Fault::Memory),
+                Err(refusal) => return Ok(Reached::Refused(refusal)),
+                Ok(Some(value)) => return Ok(Reached::Value(value)),
+                Ok(None) => {}
+            }
+            if !self.refill(reader)? {
+                return Ok(Reached::End);
+            }
+        }
+    }
+}
+
+/// What is reached in a document that is read on.
+#[derive(Drop)]
+pub(crate) enum Reached<T> {
+    /// The next value, or what is told of it.
+    Value(T),
+    /// The end that the device answered; all octets before it are used.
+    End,
+    /// What shows that the document is none.
+    Refused(Refusal),
 }
 
 /// Where a document stands.
@@ -219,27 +304,13 @@ pub fn next_placed<I: Items + Drop, R: Inlet>(
         Reads R.Inlet I.Items g l first reader.old source s →
         GaveSoFar R.Inlet I.Items g l first reader.new s) }
 {
-    loop {
-        match source.take() {
-            Err(
-                Refusal {
-                    reason: Reason::Memory,
-                    ..
-                },
-            ) => return Err(Fault::Memory),
-            Err(refusal) => return Ok((Standing::Refused(refusal), None)),
-            Ok(Some(value)) => {
-                let used = source.used;
-                return Ok((Standing::Open(source), Some((value, used))));
-            }
-            Ok(None) => {}
+    match source.read_on(reader)? {
+        Reached::Value(value) => {
+            let used = source.used;
+            Ok((Standing::Open(source), Some((value, used))))
         }
-        if source.reads == 0 {
-            return Err(Fault::TooManyReads);
-        }
-        if !source.fill(reader)? {
-            return last(source);
-        }
+        Reached::Refused(refusal) => Ok((Standing::Refused(refusal), None)),
+        Reached::End => last(source),
     }
 }
 

@@ -1,7 +1,6 @@
--- What is reached in a document that is read without its values.
+-- What is reached in a document that is read on.
 use Rattle.std.specs.Prelude.{◌≡◌, ℕ, List, [], ◌∷◌, ◌++◌, true, IsNone}
 use Rattle.ion_model.specs.declared.value.Value.{Value}
-use Rattle.ion_model.specs.Outlines.{outline_of}
 use Rattle.ion_symtab.specs.declared.catalog.Catalog.{Catalog}
 use Rattle.ion_symtab.specs.declared.limits.Limits.{Limits}
 use Rattle.ion_symtab.specs.declared.inlet.Inlet.{Ghosts as Inlet}
@@ -10,16 +9,16 @@ use Rattle.ion_docs.specs.Formats.{format_of}
 use Rattle.ion_docs.specs.reading.Read.{left_of, GaveEach, ReadsEach}
 use Rattle.ion_docs.specs.Outcomes.{ToldRefusedEach}
 use Rattle.ion_docs.specs.declared.source.Source.{Source}
-use Rattle.ion_docs.specs.declared.source.passing.Reached.{Reached}
-use Rattle.ion_docs.specs.declared.source.passing.Reached.TheVariants.{Value as AValue, End, Refused}
+use Rattle.ion_docs.specs.declared.source.Reached.{Reached}
+use Rattle.ion_docs.specs.declared.source.Reached.TheVariants.{Value as AValue, End, Refused}
 
-abbrev pub IfValue : Reached → Type 0 → Type 0
-IfValue (AValue outline) P = P
+abbrev pub IfValue : {A : Type 0} → Reached A → Type 0 → Type 0
+IfValue (AValue found) P = P
 IfValue End P = Unit {0}
 IfValue (Refused refusal) P = Unit {0}
 
-abbrev pub IfEnd : Reached → Type 0 → Type 0
-IfEnd (AValue outline) P = Unit {0}
+abbrev pub IfEnd : {A : Type 0} → Reached A → Type 0 → Type 0
+IfEnd (AValue found) P = Unit {0}
 IfEnd End P = P
 IfEnd (Refused refusal) P = Unit {0}
 
@@ -29,8 +28,8 @@ pub record IsSpent {X : Type 0} (I : Items X) (source : Source X) : Type 0 where
   pub awaited : IsNone (I.awaits source.items)
   pub counted : I.taken source.items ≡ source.used
 
--- From first to now the document gave these values and one more with that outline, or these up to the end that the device answered, or these before it was refused.
-abbrev pub Reaches : {S X : Type 0} → Inlet S → Items X → Catalog → Limits → S → S → Source X → List (Value × ℕ) → Reached → Type 0
-Reaches R I g l first now source given (AValue outline) = (value : Value) × (outline_of value ≡ outline) × ReadsEach R I g l first now source (given ++ (value, source.used) ∷ [])
-Reaches R I g l first now source given End = GaveEach R I g l first now source.items (left_of source) true given
-Reaches R I g l first now source given (Refused refusal) = ToldRefusedEach R (format_of I g l) first now given refusal
+-- From first to now the document gave these values and one more, of which this is told, or these up to the end that the device answered, or these before it was refused.
+abbrev pub Reaches : {S X A : Type 0} → (Value → A) → Inlet S → Items X → Catalog → Limits → S → S → Source X → List (Value × ℕ) → Reached A → Type 0
+Reaches of R I g l first now source given (AValue found) = (value : Value) × (of value ≡ found) × ReadsEach R I g l first now source (given ++ (value, source.used) ∷ [])
+Reaches of R I g l first now source given End = GaveEach R I g l first now source.items (left_of source) true given
+Reaches of R I g l first now source given (Refused refusal) = ToldRefusedEach R (format_of I g l) first now given refusal

@@ -7,25 +7,14 @@ ghost use Rattle.ion_symtab.specs.declared.catalog.Catalog.{Catalog};
 ghost use Rattle.ion_symtab.specs.declared.limits.Limits.{Limits};
 ghost use Rattle.ion_symtab.specs.Cause.{IsReadCause};
 ghost use Rattle.ion_docs.specs.Formats.{format_of};
-ghost use Rattle.ion_docs.specs.reading.Read.{left_of, Begins, IsReady, IsWithin, work, Went, Reads, ReadsEach, GaveSoFar};
+ghost use Rattle.ion_docs.specs.reading.Read.{left_of, IsReady, IsWithin, work, Went, Reads, ReadsEach, GaveSoFar};
 ghost use Rattle.ion_docs.specs.reading.Reached.{IfValue, IfEnd, IsSpent, Reaches};
 ghost use Rattle.ion_docs.specs.Outcomes.{EndsRefused};
 ghost use Rattle.ion_docs.specs.Checked.{IsChecked, counted};
 
-use super::{Source, Standing, last};
+use super::{Reached, Source, Standing, last};
 use ion_model::{Outline, Reason, Refusal};
 use ion_symtab::{Fault, Inlet, Items, Passed};
-
-/// What is reached in a document that is read without its values.
-#[derive(Clone, Copy, Drop)]
-pub(crate) enum Reached {
-    /// The next value, of which this is told.
-    Value(Outline),
-    /// The end that the device answered; all octets before it are used.
-    End,
-    /// What shows that the document is none.
-    Refused(Refusal),
-}
 
 impl<I: Items + Drop> Source<I> {
     /// Takes up octets of the piece as `take` does: the outline of the next value.
@@ -39,20 +28,13 @@ impl<I: Items + Drop> Source<I> {
             (u : List ℕ) (given : List (Value × ℕ)) → I.stands self.old.items u given → (more : List ℕ) →
             EndsRefused (format_of I.Items (I.catalog self.old.items) (I.limits self.old.items))
             ((u ++ left_of self.old) ++ more) given refusal) }
-        ensures within { IfOk result (λ outline.
-            (self.old.at ≤ self.new.at) × (self.new.at ≤ self.new.end)) }
+        ensures ready { IfOk result (λ outline. IsReady I.Items self.new) }
         ensures all { IfOk result (λ outline. outline ≡ Option.None → self.new.at ≡ self.new.end) }
-        ensures taken { IfOk result (λ outline.
-            I.taken self.new.items + self.old.at ≡ I.taken self.old.items + self.new.at) }
-        ensures counted { IfOk result (λ outline. I.taken self.new.items ≡ self.new.used) }
         ensures pending { IfOk result (λ outline. work I.Items self.new ≤ work I.Items self.old) }
         ensures less { IfOk result (λ outline. IsSome outline →
             work I.Items self.new < work I.Items self.old) }
-        ensures begins { IfOk result (λ outline. Begins (I.awaits self.new.items) (left_of self.new)) }
         ensures catalog { I.catalog self.new.items ≡ I.catalog self.old.items }
         ensures limits { I.limits self.new.items ≡ I.limits self.old.items }
-        ensures piece { self.new.piece.items ≡ self.old.piece.items }
-        ensures end { self.new.end ≡ self.old.end }
         ensures reads { self.new.reads ≡ self.old.reads }
     {
         match self.items.pass(&self.piece[self.at..self.end]) {
@@ -68,12 +50,12 @@ impl<I: Items + Drop> Source<I> {
     /// Reads on up to the next value or to the end.
     ///
     /// Faults are `Memory`, `Read` and `TooManyReads`.
-    pub(crate) fn pass_on<R: Inlet>(&mut self, reader: &mut R) -> Result<Reached, Fault>
+    pub(crate) fn pass_on<R: Inlet>(&mut self, reader: &mut R) -> Result<Reached<Outline>, Fault>
         requires { IsReady I.Items self.old }
         ensures gives { IfOk result (λ reached.
             (g : Catalog) (l : Limits) (first : R) (given : List (Value × ℕ)) →
             ReadsEach R.Inlet I.Items g l first reader.old self.old given →
-            Reaches R.Inlet I.Items g l first reader.new self.new given reached) }
+            Reaches outline_of R.Inlet I.Items g l first reader.new self.new given reached) }
         ensures ready { IfOk result (λ reached. IfValue reached (IsReady I.Items self.new)) }
         ensures less { IfOk result (λ reached. IfValue reached
             (work I.Items self.new < work I.Items self.old)) }
@@ -100,10 +82,7 @@ impl<I: Items + Drop> Source<I> {
                 Ok(Some(outline)) => return Ok(Reached::Value(outline)),
                 Ok(None) => {}
             }
-            if self.reads == 0 {
-                return Err(Fault::TooManyReads);
-            }
-            if !self.fill(reader)? {
+            if !self.refill(reader)? {
                 return Ok(Reached::End);
             }
         }
@@ -140,7 +119,7 @@ pub(crate) fn pass_all<I: Items + Drop, R: Inlet>(
 }
 
 /// How many values there are, with one that the end may have shown, or the refusal of the end.
-fn counted<I: Drop>(values: u64, place: Standing<I>, some: bool) -> Result<u64, Refusal>
+pub(crate) fn counted<I: Drop>(values: u64, place: Standing<I>, some: bool) -> Result<u64, Refusal>
     requires { values + 1 < 2 ^ 64 }
     ensures { result ≡ counted values some place }
 {

@@ -1,4 +1,4 @@
-use Rattle.std.proofs.Common.{rules, ◌≡◌, ◌<◌, ◌⊎◌, ◌++◌, [], ◌∷◌, Some, inl, inr, arith, ap, ◌∙◌, option_to_list}
+use Rattle.std.proofs.Common.{rules, ◌≡◌, ◌⊎◌, ◌++◌, [], ◌∷◌, Some, inl, inr, arith, ap, ◌∙◌, option_to_list}
 use Rattle.ion_docs.specs.declared.source.Standing.{Standing}
 use Rattle.ion_docs.specs.reading.Courses.{count_of}
 use Rattle.ion_docs.specs.reading.Read.{IsWithin}

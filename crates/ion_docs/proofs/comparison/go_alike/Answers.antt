@@ -1,4 +1,4 @@
-use Rattle.std.proofs.Common.{rules, ◌≡◌, true, refl}
+use Rattle.std.proofs.Common.{rules, refl}
 use Rattle.ion_model.specs.laws.Equivalence.{same-equiv}
 use Rattle.ion_docs.proofs.comparison.go_alike.Goals.{in-Alike-Open-Open+else-not-pass_alike, in_default, in_default-2, in_default-3}
 use Rattle.ion_docs.proofs.comparison.go_alike.Goals as goal

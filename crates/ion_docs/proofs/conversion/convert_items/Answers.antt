@@ -1,12 +1,13 @@
-use Rattle.std.proofs.Common.{◌≡◌, ◌++◌, ℕ, List, [], inl, inr, arith, refl, ap, sym, subst, ◌∙◌, option_to_list}
+use Rattle.std.proofs.Common.{◌≡◌, ◌++◌, ◌∷◌, ℕ, List, [], Some, true, false, inl, inr, arith, refl, ap, sym, subst, ◌∙◌, option_to_list}
 use Rattle.ion_symtab.specs.Took.{Took}
 use Rattle.ion_symtab.specs.laws.Took.{Took-nil}
 use Rattle.std.proofs.lemmas.Result.{err_from_is_err_and}
 use Rattle.ion_model.specs.laws.Kept.{kept_both}
-use Rattle.ion_docs.specs.Converted.{ReadSoFar, in_reading, at_refusal, at_end, so_far}
+use Rattle.ion_docs.specs.reading.Read.{left_of}
+use Rattle.ion_docs.specs.Converted.{ReadSoFar, in_reading, at_refusal, so_far}
 use Rattle.ion_docs.proofs.Pieces.{between_nil}
-use Rattle.ion_docs.proofs.Steps.{reads_begun, ready_begun, within_begun, one_at_most, length_more, on_err}
-use Rattle.ion_docs.proofs.Conversions.{took_whole, took_some, front_of_front, took_front, put_cause, was_read}
+use Rattle.ion_docs.proofs.Steps.{reads_begun, ready_begun, within_begun, gave_so_far, refused_plain, reads_next, stood_last, length_more, on_err}
+use Rattle.ion_docs.proofs.Conversions.{took_whole, took_some, front_of_front, took_front, put_cause, was_read, converted_at, kept_at}
 use Rattle.ion_docs.proofs.conversion.convert_items.Goals as goal
 
 pub loop-encoder-init : goal.loop-encoder-init
@@ -30,131 +31,160 @@ loop-encoder-init g c =
       );
     }
 
-pub returns-in_err-place-clause-so_far : goal.returns-in_err-place-clause-so_far
-returns-in_err-place-clause-so_far g c =
+pub returns-in_err-value-clause-so_far : goal.returns-in_err-value-clause-so_far
+returns-in_err-value-clause-so_far g c =
     let r = c.loop-encoder.invariant.reads in
-    on_err c.from_residual-in_err-place.result _ (so_far r.0 (in_reading (c.in_err-place.ensures.kept _ _ _ r.0 r.1))
+    on_err c.from_residual-in_err-value.result _ (so_far r.0 (in_reading (c.in_err-value.ensures.kept _ _ _ r.0 r.1))
     (took_front g.W.Outlet c.args.writer.now c.loop-encoder.writer (g.E.Encoder.puts r.0) (g.E.Encoder.encoding.document r.0) r.4 (g.met.E.Encoder.fronts r.0)))
 
-pub returns-in_err-place-clause-cause : goal.returns-in_err-place-clause-cause
-returns-in_err-place-clause-cause g c =
-    let p = err_from_is_err_and c.from_residual-in_err-place.result c.from_residual-in_err-place.ensures.1 in
-    rw (p.1, p.2) (inl (c.in_err-place.ensures.cause c.args.reader.now c.args.reads c.loop-encoder.invariant.within))
+pub returns-in_err-value-clause-cause : goal.returns-in_err-value-clause-cause
+returns-in_err-value-clause-cause g c =
+    let p = err_from_is_err_and c.from_residual-in_err-value.result c.from_residual-in_err-value.ensures.1 in
+    rw (p.1, p.2) (inl (c.in_err-value.ensures.cause c.args.reader.now c.args.reads c.loop-encoder.invariant.within))
 
-pub returns-in_err-values-clause-so_far : goal.returns-in_err-values-clause-so_far
-returns-in_err-values-clause-so_far g c =
+pub returns-in_err-values-in-Value-clause-so_far : goal.returns-in_err-values-in-Value-clause-so_far
+returns-in_err-values-in-Value-clause-so_far g c =
     let r = c.loop-encoder.invariant.reads in
-    let s = r.0 ++ option_to_list c.in_ok-place.value in
-    let front = took_some g.W.Outlet c.args.writer.now c.loop-encoder.writer c.convert_next.new.writer (g.E.Encoder.puts r.0) (g.E.Encoder.puts s) r.4 (c.in_err-values.ensures.front r.0 r.3) in
-    on_err c.from_residual-in_err-values.result _
-    (so_far s
-    (was_read g.R.Inlet g.I.Items (g.I.Items.catalog c.args.items) (g.I.Items.limits c.args.items) c.args.reader.now c.next_value.new.reader c.in_ok-place.place s (c.in_ok-place.ensures.gives _ _ _ r.0 r.1))
+    let source = c.read_on.new.self in
+    let s = r.0 ++ c.in-Value.value ∷ [] in
+    let read = reads_next g.R.Inlet g.I.Items _ _ _ _ _ c.loop-encoder.source source r.0 c.in-Value.value r.1 (rw c.in-Value.is at (c.in_ok-value.ensures.gives _ _ _ r.1.given r.1.each)) in
+    let front = took_some g.W.Outlet c.args.writer.now c.loop-encoder.writer c.convert_next.new.writer (g.E.Encoder.puts r.0) (g.E.Encoder.puts s) r.4 (c.in_err-values-in-Value.ensures.front r.0 r.3) in
+    on_err c.from_residual-in_err-values-in-Value.result _
+    (so_far s (in_reading (record { items = source.items; left = left_of source; ended = false; gave = read }))
     (front_of_front g.W.Outlet c.args.writer.now c.convert_next.new.writer (g.E.Encoder.puts s) (g.E.Encoder.encoding.document s) front (g.met.E.Encoder.fronts s)))
 
-pub returns-in_err-values-clause-cause : goal.returns-in_err-values-clause-cause
-returns-in_err-values-clause-cause g c =
+pub returns-in_err-values-in-Value-clause-cause : goal.returns-in_err-values-in-Value-clause-cause
+returns-in_err-values-in-Value-clause-cause g c =
     let r = c.loop-encoder.invariant.reads in
-    let s = r.0 ++ option_to_list c.in_ok-place.value in
-    let p = err_from_is_err_and c.from_residual-in_err-values.result c.from_residual-in_err-values.ensures.1 in
-    let read =
-    was_read g.R.Inlet g.I.Items (g.I.Items.catalog c.args.items) (g.I.Items.limits c.args.items) c.args.reader.now c.next_value.new.reader c.in_ok-place.place s (c.in_ok-place.ensures.gives _ _ _ r.0 r.1) in
+    let source = c.read_on.new.self in
+    let s = r.0 ++ c.in-Value.value ∷ [] in
+    let read = reads_next g.R.Inlet g.I.Items _ _ _ _ _ c.loop-encoder.source source r.0 c.in-Value.value r.1 (rw c.in-Value.is at (c.in_ok-value.ensures.gives _ _ _ r.1.given r.1.each)) in
+    let p = err_from_is_err_and c.from_residual-in_err-values-in-Value.result c.from_residual-in_err-values-in-Value.ensures.1 in
     rw (p.1, p.2) (inr (put_cause g.E.Encoder.encoding
-    (ReadSoFar g.R.Inlet g.I.Items (g.I.Items.catalog c.args.items) (g.I.Items.limits c.args.items) c.args.reader.now c.next_value.new.reader)
-    (g.W.Outlet.has_failed c.convert_next.new.writer) s _ read (c.in_err-values.ensures.cause r.0 r.3)))
+    (ReadSoFar g.R.Inlet g.I.Items (g.I.Items.catalog c.args.items) (g.I.Items.limits c.args.items) c.args.reader.now c.read_on.new.reader)
+    (g.W.Outlet.has_failed c.convert_next.new.writer) s _ (in_reading (record { items = source.items; left = left_of source; ended = false; gave = read })) (c.in_err-values-in-Value.ensures.cause r.0 r.3)))
 
 pub loop-encoder-preserved : goal.loop-encoder-preserved
 loop-encoder-preserved g c =
     let i = c.loop-encoder.invariant in
     let r = i.reads in
     let bound = i.bound in
-    let next = c.in_ok-place.ensures in
-    let put = c.in_ok-values.ensures in
-    let value = c.in_ok-place.value in
-    let less = rw c.in-Open.is at next.less in
-    let s = r.0 ++ option_to_list value in
+    let next = c.in_ok-value.ensures in
+    let put = c.in_ok-values-in-Value.ensures in
+    let value = c.in-Value.value in
+    let less = rw c.in-Value.is at next.less in
+    let s = r.0 ++ value ∷ [] in
     record {
-      ready = rw c.in-Open.is at next.ready;
-      bound = omega (arith, bound, less, one_at_most value, put.count);
-      within = rw c.in-Open.is at (next.within c.args.reader.now c.args.reads i.within);
+      ready = rw c.in-Value.is at next.ready;
+      bound = omega (arith, bound, less, put.count);
+      within = (rw c.in-Value.is at next.within) c.args.reader.now c.args.reads i.within;
       reads = (
         s,
-        rw c.in-Open.is at (next.gives _ _ _ r.0 r.1),
-        length_more r.0 value c.loop-encoder.values c.in_ok-values.values r.2 put.count,
+        reads_next g.R.Inlet g.I.Items _ _ _ _ _ c.loop-encoder.source c.read_on.new.self r.0 value r.1 (rw c.in-Value.is at (next.gives _ _ _ r.1.given r.1.each)),
+        length_more r.0 (Some value) c.loop-encoder.values c.in_ok-values-in-Value.values r.2 put.count,
         put.put r.0 r.3,
         took_whole g.W.Outlet c.args.writer.now c.loop-encoder.writer c.convert_next.new.writer (g.E.Encoder.puts r.0) (g.E.Encoder.puts s) r.4 (put.wrote r.0 r.3),
-        kept_both r.0 (option_to_list value) r.5 put.kept,
+        kept_both r.0 (value ∷ []) r.5 put.kept,
       );
     }
 
-pub returns-in_err-finish-in-Ended-clause-so_far :
-    goal.returns-in_err-finish-in-Ended-clause-so_far
-returns-in_err-finish-in-Ended-clause-so_far g c =
-    let r = c.loop-encoder.invariant.reads in
-    let s = r.0 ++ option_to_list c.in_ok-place.value in
-    let put = c.in_ok-values.ensures in
-    let wrote = took_whole g.W.Outlet c.args.writer.now c.loop-encoder.writer c.convert_next.new.writer (g.E.Encoder.puts r.0) (g.E.Encoder.puts s) r.4 (put.wrote r.0 r.3) in
-    on_err c.from_residual-in_err-finish-in-Ended.result _
-    (so_far s (at_end (rw c.in-Ended.is at (c.in_ok-place.ensures.gives _ _ _ r.0 r.1)))
-    (took_some g.W.Outlet c.args.writer.now c.convert_next.new.writer c.finish.new.out (g.E.Encoder.puts s) (g.E.Encoder.encoding.document s) wrote (c.in_err-finish-in-Ended.ensures.front s (put.put r.0 r.3))))
-
-pub returns-in-Ended-clause-converted : goal.returns-in-Ended-clause-converted
-returns-in-Ended-clause-converted g c =
-    let r = c.loop-encoder.invariant.reads in
-    let value = c.in_ok-place.value in
-    let s = r.0 ++ option_to_list value in
-    let put = c.in_ok-values.ensures in
-    let wrote = took_whole g.W.Outlet c.args.writer.now c.loop-encoder.writer c.convert_next.new.writer (g.E.Encoder.puts r.0) (g.E.Encoder.puts s) r.4 (put.wrote r.0 r.3) in (
-      s,
-      rw c.in-Ended.is at (c.in_ok-place.ensures.gives _ _ _ r.0 r.1),
-      length_more r.0 value c.loop-encoder.values c.in_ok-values.values r.2 put.count,
-      took_whole g.W.Outlet c.args.writer.now c.convert_next.new.writer c.finish.new.out (g.E.Encoder.puts s) (g.E.Encoder.encoding.document s) wrote (c.in_ok-finish-in-Ended.ensures.wrote s (put.put r.0 r.3)),
-    )
-
-pub returns-in-Ended-clause-kept : goal.returns-in-Ended-clause-kept
-returns-in-Ended-clause-kept g c =
-    let r = c.loop-encoder.invariant.reads in
-    let value = option_to_list c.in_ok-place.value in
-    let s = r.0 ++ value in
-    let put = c.in_ok-values.ensures in
-    let wrote = took_whole g.W.Outlet c.args.writer.now c.loop-encoder.writer c.convert_next.new.writer (g.E.Encoder.puts r.0) (g.E.Encoder.puts s) r.4 (put.wrote r.0 r.3) in (
-      s,
-      rw c.in-Ended.is at (c.in_ok-place.ensures.gives _ _ _ r.0 r.1),
-      kept_both r.0 value r.5 put.kept,
-      took_whole g.W.Outlet c.args.writer.now c.convert_next.new.writer c.finish.new.out (g.E.Encoder.puts s) (g.E.Encoder.encoding.document s) wrote (c.in_ok-finish-in-Ended.ensures.wrote s (put.put r.0 r.3)),
-    )
-
-pub returns-in_err-finish-in-Refused-clause-so_far :
-    goal.returns-in_err-finish-in-Refused-clause-so_far
+pub returns-in_err-finish-in-Refused-clause-so_far : goal.returns-in_err-finish-in-Refused-clause-so_far
 returns-in_err-finish-in-Refused-clause-so_far g c =
     let r = c.loop-encoder.invariant.reads in
-    let s = r.0 ++ option_to_list c.in_ok-place.value in
-    let put = c.in_ok-values.ensures in
-    let wrote = took_whole g.W.Outlet c.args.writer.now c.loop-encoder.writer c.convert_next.new.writer (g.E.Encoder.puts r.0) (g.E.Encoder.puts s) r.4 (put.wrote r.0 r.3) in
+    let told = refused_plain g.R.Inlet g.I.Items _ _ _ _ c.in-Refused.refusal r.1.given r.0 r.1.values (rw c.in-Refused.is at (c.in_ok-value.ensures.gives _ _ _ r.1.given r.1.each)) in
     on_err c.from_residual-in_err-finish-in-Refused.result _
-    (so_far s (at_refusal c.in-Refused.refusal (rw c.in-Refused.is at (c.in_ok-place.ensures.gives _ _ _ r.0 r.1)))
-    (took_some g.W.Outlet c.args.writer.now c.convert_next.new.writer c.finish-in-Refused.new.out (g.E.Encoder.puts s) (g.E.Encoder.encoding.document s) wrote (c.in_err-finish-in-Refused.ensures.front s (put.put r.0 r.3))))
+    (so_far r.0 (at_refusal c.in-Refused.refusal told)
+    (took_some g.W.Outlet c.args.writer.now c.loop-encoder.writer c.finish.new.out (g.E.Encoder.puts r.0) (g.E.Encoder.encoding.document r.0) r.4 (c.in_err-finish-in-Refused.ensures.front r.0 r.3)))
 
 pub returns-in-Refused-clause-converted : goal.returns-in-Refused-clause-converted
 returns-in-Refused-clause-converted g c =
     let r = c.loop-encoder.invariant.reads in
-    let value = c.in_ok-place.value in
-    let s = r.0 ++ option_to_list value in
-    let put = c.in_ok-values.ensures in
-    let wrote = took_whole g.W.Outlet c.args.writer.now c.loop-encoder.writer c.convert_next.new.writer (g.E.Encoder.puts r.0) (g.E.Encoder.puts s) r.4 (put.wrote r.0 r.3) in (
-      s,
-      rw c.in-Refused.is at (c.in_ok-place.ensures.gives _ _ _ r.0 r.1),
-      took_whole g.W.Outlet c.args.writer.now c.convert_next.new.writer c.finish-in-Refused.new.out (g.E.Encoder.puts s) (g.E.Encoder.encoding.document s) wrote (c.in_ok-finish-in-Refused.ensures.wrote s (put.put r.0 r.3)),
-    )
+    let told = refused_plain g.R.Inlet g.I.Items _ _ _ _ c.in-Refused.refusal r.1.given r.0 r.1.values (rw c.in-Refused.is at (c.in_ok-value.ensures.gives _ _ _ r.1.given r.1.each)) in
+    (r.0, told, took_whole g.W.Outlet c.args.writer.now c.loop-encoder.writer c.finish.new.out (g.E.Encoder.puts r.0) (g.E.Encoder.encoding.document r.0) r.4 (c.in_ok-finish-in-Refused.ensures.wrote r.0 r.3))
 
 pub returns-in-Refused-clause-kept : goal.returns-in-Refused-clause-kept
 returns-in-Refused-clause-kept g c =
     let r = c.loop-encoder.invariant.reads in
-    let value = option_to_list c.in_ok-place.value in
-    let s = r.0 ++ value in
-    let put = c.in_ok-values.ensures in
-    let wrote = took_whole g.W.Outlet c.args.writer.now c.loop-encoder.writer c.convert_next.new.writer (g.E.Encoder.puts r.0) (g.E.Encoder.puts s) r.4 (put.wrote r.0 r.3) in (
-      s,
-      rw c.in-Refused.is at (c.in_ok-place.ensures.gives _ _ _ r.0 r.1),
-      kept_both r.0 value r.5 put.kept,
-      took_whole g.W.Outlet c.args.writer.now c.convert_next.new.writer c.finish-in-Refused.new.out (g.E.Encoder.puts s) (g.E.Encoder.encoding.document s) wrote (c.in_ok-finish-in-Refused.ensures.wrote s (put.put r.0 r.3)),
-    )
+    let told = refused_plain g.R.Inlet g.I.Items _ _ _ _ c.in-Refused.refusal r.1.given r.0 r.1.values (rw c.in-Refused.is at (c.in_ok-value.ensures.gives _ _ _ r.1.given r.1.each)) in
+    (r.0, told, r.5, took_whole g.W.Outlet c.args.writer.now c.loop-encoder.writer c.finish.new.out (g.E.Encoder.puts r.0) (g.E.Encoder.encoding.document r.0) r.4 (c.in_ok-finish-in-Refused.ensures.wrote r.0 r.3))
+
+pub returns-in_err-place-in-End-clause-so_far : goal.returns-in_err-place-in-End-clause-so_far
+returns-in_err-place-in-End-clause-so_far g c =
+    let r = c.loop-encoder.invariant.reads in
+    let source = c.read_on.new.self in
+    let each = rw c.in-End.is at (c.in_ok-value.ensures.gives _ _ _ r.1.given r.1.each) in
+    on_err c.from_residual-in_err-place-in-End.result _
+    (so_far r.0 (in_reading (gave_so_far g.R.Inlet g.I.Items _ _ _ _ source.items (left_of source) true r.1.given r.0 r.1.values each))
+    (took_front g.W.Outlet c.args.writer.now c.loop-encoder.writer (g.E.Encoder.puts r.0) (g.E.Encoder.encoding.document r.0) r.4 (g.met.E.Encoder.fronts r.0)))
+
+pub returns-in_err-values-in-End-clause-so_far : goal.returns-in_err-values-in-End-clause-so_far
+returns-in_err-values-in-End-clause-so_far g c =
+    let r = c.loop-encoder.invariant.reads in
+    let s = r.0 ++ option_to_list c.value_of.result in
+    let end = c.in_ok-place-in-End.ensures in
+    let place = c.in_ok-place-in-End.place in
+    let stood = stood_last g.R.Inlet g.I.Items _ _ _ _ c.read_on.new.self place c.in_ok-place-in-End.found c.value_of.result r.1.given r.0 (sym c.value_of.ensures) r.1.values (rw c.in-End.is at c.in_ok-value.ensures.ended).empty
+    end.ends (rw c.in-End.is at (c.in_ok-value.ensures.gives _ _ _ r.1.given r.1.each)) in
+    let front = took_some g.W.Outlet c.args.writer.now c.loop-encoder.writer c.convert_next-in-End.new.writer (g.E.Encoder.puts r.0) (g.E.Encoder.puts s) r.4 (c.in_err-values-in-End.ensures.front r.0 r.3) in
+    on_err c.from_residual-in_err-values-in-End.result _
+    (so_far s (was_read g.R.Inlet g.I.Items _ _ _ _ place s stood)
+    (front_of_front g.W.Outlet c.args.writer.now c.convert_next-in-End.new.writer (g.E.Encoder.puts s) (g.E.Encoder.encoding.document s) front (g.met.E.Encoder.fronts s)))
+
+pub returns-in_err-values-in-End-clause-cause : goal.returns-in_err-values-in-End-clause-cause
+returns-in_err-values-in-End-clause-cause g c =
+    let r = c.loop-encoder.invariant.reads in
+    let s = r.0 ++ option_to_list c.value_of.result in
+    let end = c.in_ok-place-in-End.ensures in
+    let place = c.in_ok-place-in-End.place in
+    let stood = stood_last g.R.Inlet g.I.Items _ _ _ _ c.read_on.new.self place c.in_ok-place-in-End.found c.value_of.result r.1.given r.0 (sym c.value_of.ensures) r.1.values (rw c.in-End.is at c.in_ok-value.ensures.ended).empty
+    end.ends (rw c.in-End.is at (c.in_ok-value.ensures.gives _ _ _ r.1.given r.1.each)) in
+    let p = err_from_is_err_and c.from_residual-in_err-values-in-End.result c.from_residual-in_err-values-in-End.ensures.1 in
+    rw (p.1, p.2) (inr (put_cause g.E.Encoder.encoding
+    (ReadSoFar g.R.Inlet g.I.Items (g.I.Items.catalog c.args.items) (g.I.Items.limits c.args.items) c.args.reader.now c.read_on.new.reader)
+    (g.W.Outlet.has_failed c.convert_next-in-End.new.writer) s _ (was_read g.R.Inlet g.I.Items _ _ _ _ place s stood) (c.in_err-values-in-End.ensures.cause r.0 r.3)))
+
+pub returns-in_err-finish-in-End-clause-so_far : goal.returns-in_err-finish-in-End-clause-so_far
+returns-in_err-finish-in-End-clause-so_far g c =
+    let r = c.loop-encoder.invariant.reads in
+    let s = r.0 ++ option_to_list c.value_of.result in
+    let end = c.in_ok-place-in-End.ensures in
+    let place = c.in_ok-place-in-End.place in
+    let put = c.in_ok-values-in-End.ensures in
+    let stood = stood_last g.R.Inlet g.I.Items _ _ _ _ c.read_on.new.self place c.in_ok-place-in-End.found c.value_of.result r.1.given r.0 (sym c.value_of.ensures) r.1.values (rw c.in-End.is at c.in_ok-value.ensures.ended).empty
+    end.ends (rw c.in-End.is at (c.in_ok-value.ensures.gives _ _ _ r.1.given r.1.each)) in
+    let wrote = took_whole g.W.Outlet c.args.writer.now c.loop-encoder.writer c.convert_next-in-End.new.writer (g.E.Encoder.puts r.0) (g.E.Encoder.puts s) r.4 (put.wrote r.0 r.3) in
+    on_err c.from_residual-in_err-finish-in-End.result _
+    (so_far s (was_read g.R.Inlet g.I.Items _ _ _ _ place s stood)
+    (took_some g.W.Outlet c.args.writer.now c.convert_next-in-End.new.writer c.finish-in-End.new.out (g.E.Encoder.puts s) (g.E.Encoder.encoding.document s) wrote (c.in_err-finish-in-End.ensures.front s (put.put r.0 r.3))))
+
+pub returns-in-End-clause-converted : goal.returns-in-End-clause-converted
+returns-in-End-clause-converted g c =
+    let r = c.loop-encoder.invariant.reads in
+    let value = c.value_of.result in
+    let s = r.0 ++ option_to_list value in
+    let end = c.in_ok-place-in-End.ensures in
+    let place = c.in_ok-place-in-End.place in
+    let put = c.in_ok-values-in-End.ensures in
+    let stood = stood_last g.R.Inlet g.I.Items _ _ _ _ c.read_on.new.self place c.in_ok-place-in-End.found value r.1.given r.0 (sym c.value_of.ensures) r.1.values (rw c.in-End.is at c.in_ok-value.ensures.ended).empty
+    end.ends (rw c.in-End.is at (c.in_ok-value.ensures.gives _ _ _ r.1.given r.1.each)) in
+    let wrote = took_whole g.W.Outlet c.args.writer.now c.loop-encoder.writer c.convert_next-in-End.new.writer (g.E.Encoder.puts r.0) (g.E.Encoder.puts s) r.4 (put.wrote r.0 r.3) in
+    let all = took_whole g.W.Outlet c.args.writer.now c.convert_next-in-End.new.writer c.finish-in-End.new.out (g.E.Encoder.puts s) (g.E.Encoder.encoding.document s) wrote (c.in_ok-finish-in-End.ensures.wrote s (put.put r.0 r.3)) in
+    rw c.counted.ensures
+    (converted_at g.R.Inlet g.I.Items g.W.Outlet g.E.Encoder.encoding _ _ _ _ c.args.writer.now c.finish-in-End.new.out place s c.in_ok-values-in-End.values end.closed
+    (length_more r.0 value c.loop-encoder.values c.in_ok-values-in-End.values r.2 put.count) stood all)
+
+pub returns-in-End-clause-kept : goal.returns-in-End-clause-kept
+returns-in-End-clause-kept g c =
+    let r = c.loop-encoder.invariant.reads in
+    let value = c.value_of.result in
+    let s = r.0 ++ option_to_list value in
+    let end = c.in_ok-place-in-End.ensures in
+    let place = c.in_ok-place-in-End.place in
+    let put = c.in_ok-values-in-End.ensures in
+    let stood = stood_last g.R.Inlet g.I.Items _ _ _ _ c.read_on.new.self place c.in_ok-place-in-End.found value r.1.given r.0 (sym c.value_of.ensures) r.1.values (rw c.in-End.is at c.in_ok-value.ensures.ended).empty
+    end.ends (rw c.in-End.is at (c.in_ok-value.ensures.gives _ _ _ r.1.given r.1.each)) in
+    let wrote = took_whole g.W.Outlet c.args.writer.now c.loop-encoder.writer c.convert_next-in-End.new.writer (g.E.Encoder.puts r.0) (g.E.Encoder.puts s) r.4 (put.wrote r.0 r.3) in
+    let all = took_whole g.W.Outlet c.args.writer.now c.convert_next-in-End.new.writer c.finish-in-End.new.out (g.E.Encoder.puts s) (g.E.Encoder.encoding.document s) wrote (c.in_ok-finish-in-End.ensures.wrote s (put.put r.0 r.3)) in
+    rw c.counted.ensures
+    (kept_at g.R.Inlet g.I.Items g.W.Outlet g.E.Encoder.encoding _ _ _ _ c.args.writer.now c.finish-in-End.new.out place s c.in_ok-values-in-End.values end.closed
+    (kept_both r.0 (option_to_list value) r.5 put.kept) stood all)

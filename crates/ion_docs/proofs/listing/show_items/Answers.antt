@@ -1,4 +1,5 @@
 use Rattle.std.proofs.Common.{◌≡◌, ◌+◌, ◌++◌, ◌∷◌, [], length-append, true, false, inl, arith, refl, ap, sym, subst, ◌∙◌, ℕ, option_to_list}
+use Rattle.ion_model.specs.Outlines.{outline_of}
 use Rattle.ion_symtab.specs.Took.{Took, TookFront}
 use Rattle.ion_symtab.specs.laws.Took.{Took-nil, Took-trans, Took-kept, Front-all, Front-behind}
 use Rattle.ion_docs.specs.reading.Read.{left_of}
@@ -42,7 +43,7 @@ returns-in_err-outline-clause-cause g c =
 pub returns-in_err-write_line-in-Value-clause-so_far : goal.returns-in_err-write_line-in-Value-clause-so_far
 returns-in_err-write_line-in-Value-clause-so_far g c =
     let r = c.loop-text.invariant.reads in
-    let on = reads_more g.R.Inlet g.I.Items _ _ _ _ _ c.loop-text.source c.pass_on.new.self r.0 c.in-Value.outline r.1 (rw c.in-Value.is at (c.in_ok-outline.ensures.gives _ _ _ r.1.given r.1.each)) in
+    let on = reads_more g.R.Inlet g.I.Items _ _ outline_of _ _ _ c.loop-text.source c.pass_on.new.self r.0 c.in-Value.outline r.1 (rw c.in-Value.is at (c.in_ok-outline.ensures.gives _ _ _ r.1.given r.1.each)) in
     let front = subst (TookFront g.W.Outlet.took g.W.Outlet.written c.loop-text.writer c.write_line.new.writer) (line_alone (c.loop-text.values + 1) on.0 c.in-Value.outline on.1) c.in_err-write_line-in-Value.ensures.front in
     on_err c.from_residual-in_err-write_line-in-Value.result _
     (in_reading (r.0 ++ on.0 ∷ []) (record { items = c.pass_on.new.self.items; left = left_of c.pass_on.new.self; ended = false; gave = on.2 })
@@ -55,7 +56,7 @@ loop-text-preserved g c =
     let bound = i.bound in
     let next = c.in_ok-outline.ensures in
     let less = rw c.in-Value.is at next.less in
-    let on = reads_more g.R.Inlet g.I.Items _ _ _ _ _ c.loop-text.source c.pass_on.new.self r.0 c.in-Value.outline r.1 (rw c.in-Value.is at (next.gives _ _ _ r.1.given r.1.each)) in
+    let on = reads_more g.R.Inlet g.I.Items _ _ outline_of _ _ _ c.loop-text.source c.pass_on.new.self r.0 c.in-Value.outline r.1 (rw c.in-Value.is at (next.gives _ _ _ r.1.given r.1.each)) in
     let wrote = subst (Took g.W.Outlet.took g.W.Outlet.written c.loop-text.writer c.write_line.new.writer) (line_alone (c.loop-text.values + 1) on.0 c.in-Value.outline on.1) c.in_ok-write_line-in-Value.ensures.wrote in
     record {
       ready = rw c.in-Value.is at next.ready;

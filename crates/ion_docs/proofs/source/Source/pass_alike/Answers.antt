@@ -1,4 +1,4 @@
-use Rattle.std.proofs.Common.{rules, ◌≡◌, refl}
+use Rattle.std.proofs.Common.{rules, refl}
 use Rattle.ion_docs.proofs.Alongside.{past}
 use Rattle.ion_docs.proofs.source.Source.pass_alike.Goals as goal
 

@@ -1,9 +1,8 @@
-use Rattle.std.proofs.Common.{rules, ◌≡◌, ◌≢◌, ◌∙◌, ℕ, ◌+◌, true, false, [], length, arith, ap, refl, subst}
+use Rattle.std.proofs.Common.{rules, ◌≢◌, false, arith}
 use Rattle.ion_model.specs.declared.refusal.Reason.TheVariants as reasons
-use Rattle.ion_symtab.specs.Cause.{WereMade}
+use Rattle.std.proofs.lemmas.Result.{err_from_is_err_and}
 use Rattle.ion_docs.specs.reading.Read.{left_of}
-use Rattle.ion_docs.proofs.Pieces.{between_nil, begins_any, none_awaited}
-use Rattle.ion_docs.proofs.Steps.{gave_so_far, reads_kept, reads_failed, reads_on, on_err}
+use Rattle.ion_docs.proofs.Steps.{gave_so_far, reads_none, reads_failed, within_kept, on_err}
 use Rattle.ion_docs.proofs.Passes.{none_went, passes_on}
 use Rattle.ion_docs.proofs.source.Source.pass_on.Goals as goal
 
@@ -26,99 +25,50 @@ returns-in-Ok-Some-clause-gives g c =
     passes_on g.R.Inlet g.I.Items catalog limits first c.loop-refusal.reader c.loop-refusal.self c.pass.new.self given c.in-Ok-Some.outline
     (c.loop-refusal.invariant.reads catalog limits first given h) (rw c.in-Ok-Some.field-0-is at t.gives) t.catalog t.limits
 
-pub returns-in-Ok-Some-clause-ready : goal.returns-in-Ok-Some-clause-ready
-returns-in-Ok-Some-clause-ready g c =
-    let t = c.in-Ok-Some.ensures in
-    let ready = c.loop-refusal.invariant.ready in
-    record {
-      within = t.within.1;
-      fits = omega (arith, ready.fits, t.end);
-      piece = ap length t.piece ∙ ready.piece;
-      room = omega (arith, ready.room, t.within.0, t.within.1, t.reads, t.taken, t.end);
-      begins = t.begins;
-      counted = t.counted;
-    }
-
 pub returns-in-Ok-Some-clause-within : goal.returns-in-Ok-Some-clause-within
 returns-in-Ok-Some-clause-within g c = λ first reads h.
-    let w = c.loop-refusal.invariant.within first reads h in
-    let rest = w.rest in
-    record { made = w.made; were = w.were; rest = omega (arith, rest, c.in-Ok-Some.ensures.reads) }
+    within_kept g.R.Inlet reads first c.loop-refusal.reader c.loop-refusal.self c.pass.new.self c.in-Ok-Some.ensures.reads (c.loop-refusal.invariant.within first reads h)
 
-pub returns-then-self-eq0-clause-cause : goal.returns-then-self-eq0-clause-cause
-returns-then-self-eq0-clause-cause g c = λ first reads h.
-    let w = c.loop-refusal.invariant.within first reads h in
-    let rest = w.rest in
-    let e : w.made ≡ reads = omega (arith, rest, c.in-Ok-None.ensures.reads) in
-    subst (λ (n : ℕ). WereMade g.R.Inlet n first c.loop-refusal.reader) e w.were
+pub returns-in_err-refill-clause-cause : goal.returns-in_err-refill-clause-cause
+returns-in_err-refill-clause-cause g c =
+    let p = err_from_is_err_and c.from_residual.result c.from_residual.ensures.1 in
+    rw (p.1, p.2) (λ first reads h.
+    c.in_err-refill.ensures.cause first reads (within_kept g.R.Inlet reads first c.loop-refusal.reader c.loop-refusal.self c.pass.new.self c.in-Ok-None.ensures.reads (c.loop-refusal.invariant.within first reads h)))
 
-pub returns-then-self-eq0-clause-kept : goal.returns-then-self-eq0-clause-kept
-returns-then-self-eq0-clause-kept g c = λ catalog limits first s h.
-    gave_so_far g.R.Inlet g.I.Items catalog limits first c.loop-refusal.reader c.loop-refusal.self.items (left_of c.loop-refusal.self) false h.given s h.values (c.loop-refusal.invariant.reads catalog limits first h.given h.each)
-
-pub returns-in_err-fill-clause-kept : goal.returns-in_err-fill-clause-kept
-returns-in_err-fill-clause-kept g c =
+pub returns-in_err-refill-clause-kept : goal.returns-in_err-refill-clause-kept
+returns-in_err-refill-clause-kept g c =
+    let i = c.loop-refusal.invariant in
+    let from = c.loop-refusal.self in
+    let mid = c.pass.new.self in
+    let t = c.in-Ok-None.ensures in
+    let gives = none_went g.I.Items from mid _ c.in-Ok-None.field-0-is t.gives in
     on_err c.from_residual.result _ (λ catalog limits first s h.
-    gave_so_far g.R.Inlet g.I.Items catalog limits first c.fill.new.reader c.loop-refusal.self.items (left_of c.loop-refusal.self) false h.given s h.values
-    (reads_kept g.R.Inlet g.I.Items catalog limits first c.loop-refusal.reader c.fill.new.reader c.loop-refusal.self h.given
-    (c.loop-refusal.invariant.reads catalog limits first h.given h.each) c.in_err-fill.ensures.kept))
+    c.in_err-refill.ensures.kept catalog limits first s
+    (record { given = h.given; each = reads_none g.R.Inlet g.I.Items catalog limits first c.loop-refusal.reader from mid h.given (i.reads catalog limits first h.given h.each) gives t.catalog t.limits; values = h.values }))
 
 pub loop-refusal-preserved : goal.loop-refusal-preserved
 loop-refusal-preserved g c =
     let i = c.loop-refusal.invariant in
     let from = c.loop-refusal.self in
     let mid = c.pass.new.self in
-    let to = c.fill.new.self in
     let t = c.in-Ok-None.ensures in
-    let f = c.in_ok-fill.ensures in
-    let all : mid.at ≡ mid.end = t.all c.in-Ok-None.field-0-is in
-    let empty = between_nil mid.piece.items mid.at mid.end (omega arith) in
+    let f = c.in_ok-refill.ensures in
     let gives = none_went g.I.Items from mid _ c.in-Ok-None.field-0-is t.gives in
-    let ready = i.ready in
     let less = i.less in
     record {
-      ready = record {
-        within = omega (arith, f.within.0, f.within.1);
-        fits = f.within.1;
-        piece = f.piece;
-        room = rw f.items (omega (arith, ready.room, f.within.0, f.within.1, f.reads, t.reads, t.taken, t.end, t.within.0, t.within.1));
-        begins = begins_any (g.I.Items.awaits mid.items) (g.I.Items.awaits to.items) (left_of mid) (left_of to) (ap (λ x. g.I.Items.awaits x) f.items) empty t.begins;
-        counted = rw (f.items, f.used) t.counted;
-      };
-      less = rw f.items (omega (arith, less, f.within.0, f.within.1, f.reads, t.reads, t.pending, t.end));
-      within = λ first reads h.
-          let w = i.within first reads h in
-          let rest = w.rest in
-          record { made = w.made + 1; were = f.asked (search rules) first w.made w.were; rest = omega (arith, rest, f.reads, t.reads) };
+      ready = f.ready (search rules);
+      less = omega (arith, less, t.pending, f.less (search rules));
+      within = λ first reads h. f.within (search rules) first reads (within_kept g.R.Inlet reads first c.loop-refusal.reader from mid t.reads (i.within first reads h));
       reads = λ catalog limits first given h.
-          reads_on g.R.Inlet g.I.Items catalog limits first c.loop-refusal.reader c.fill.new.reader from mid to (left_of to) false given
-          (i.reads catalog limits first given h) gives t.catalog t.limits empty (f.heard (search rules)) refl f.items;
+          f.goes_on (search rules) catalog limits first given (reads_none g.R.Inlet g.I.Items catalog limits first c.loop-refusal.reader from mid given (i.reads catalog limits first given h) gives t.catalog t.limits);
     }
 
 pub returns-then-not-branch-clause-gives : goal.returns-then-not-branch-clause-gives
 returns-then-not-branch-clause-gives g c =
+    let i = c.loop-refusal.invariant in
     let from = c.loop-refusal.self in
     let mid = c.pass.new.self in
-    let to = c.fill.new.self in
     let t = c.in-Ok-None.ensures in
-    let f = c.in_ok-fill.ensures in
-    let done = f.ends (search rules) in
-    let nothing = between_nil to.piece.items to.at to.end (omega (arith, f.within.0, done.1)) in
-    let all : mid.at ≡ mid.end = t.all c.in-Ok-None.field-0-is in
-    let empty = between_nil mid.piece.items mid.at mid.end (omega arith) in
     let gives = none_went g.I.Items from mid _ c.in-Ok-None.field-0-is t.gives in
     λ catalog limits first given h.
-    reads_on g.R.Inlet g.I.Items catalog limits first c.loop-refusal.reader c.fill.new.reader from mid to [] true given
-    (c.loop-refusal.invariant.reads catalog limits first given h) gives t.catalog t.limits empty done.0 nothing f.items
-
-pub returns-then-not-branch-clause-ended : goal.returns-then-not-branch-clause-ended
-returns-then-not-branch-clause-ended g c =
-    let mid = c.pass.new.self in
-    let to = c.fill.new.self in
-    let t = c.in-Ok-None.ensures in
-    let f = c.in_ok-fill.ensures in
-    let done = f.ends (search rules) in
-    let nothing = between_nil to.piece.items to.at to.end (omega (arith, f.within.0, done.1)) in
-    let all : mid.at ≡ mid.end = t.all c.in-Ok-None.field-0-is in
-    let empty = between_nil mid.piece.items mid.at mid.end (omega arith) in
-    record { empty = nothing; awaited = rw f.items (none_awaited (g.I.Items.awaits mid.items) (left_of mid) empty t.begins); counted = rw (f.items, f.used) t.counted }
+    c.in_ok-refill.ensures.ends (search rules) catalog limits first given (reads_none g.R.Inlet g.I.Items catalog limits first c.loop-refusal.reader from mid given (i.reads catalog limits first given h) gives t.catalog t.limits)

@@ -5,7 +5,7 @@ use Rattle.ion_symtab.specs.declared.limits.Limits.{Limits}
 use Rattle.ion_docs.specs.reading.Read.{IsReady, IsWithin, work, ReadsEach}
 use Rattle.ion_docs.proofs.source.Source.pass_on.Given as goal
 
--- nothing was told yet
+-- nothing was given yet
 abbrev pub invariant-loop-refusal : goal.invariant-loop-refusal
 invariant-loop-refusal g l = record {
   ready : IsReady g.I.Items l.self;

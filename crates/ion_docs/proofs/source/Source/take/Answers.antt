@@ -22,8 +22,17 @@ returns-in-Ok-clause-gives g c = λ u given h.
     went g.I.Items u given c.args.self.now.piece.items c.args.self.now.at c.args.self.now.end c.in-Ok.field-0.used (length u + c.in-Ok.field-0.used) _ c.in-Ok.field-0.value fits refl (omega (arith, total, counted))
     (rw c.deref.ensures.value at (c.in-Ok.ensures.stands u given h))
 
-pub returns-in-Ok-clause-begins : goal.returns-in-Ok-clause-begins
-returns-in-Ok-clause-begins g c =
+pub returns-in-Ok-clause-ready : goal.returns-in-Ok-clause-ready
+returns-in-Ok-clause-ready g c =
+    let ready = c.requires in
     let used = c.in-Ok.ensures.used in
+    let taken = c.in-Ok.ensures.counts in
     let fits : c.in-Ok.field-0.used ≤ c.args.self.now.end - c.args.self.now.at = omega (arith, used, length-take {A = ℕ}, length-drop {A = ℕ}) in
-    begins_drop (g.I.Items.awaits c.step.new.self) c.args.self.now.piece.items c.args.self.now.at c.args.self.now.end c.in-Ok.field-0.used fits (rw c.deref.ensures.value at c.in-Ok.ensures.awaited)
+    record {
+      within = omega (arith, fits, ready.within);
+      fits = ready.fits;
+      piece = ready.piece;
+      room = omega (arith, ready.room, ready.within, fits, taken);
+      begins = begins_drop (g.I.Items.awaits c.step.new.self) c.args.self.now.piece.items c.args.self.now.at c.args.self.now.end c.in-Ok.field-0.used fits (rw c.deref.ensures.value at c.in-Ok.ensures.awaited);
+      counted = omega (arith, ready.counted, taken);
+    }
