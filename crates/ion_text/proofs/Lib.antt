@@ -17,3 +17,6 @@ pub mod Arms
 pub mod Nested
 pub mod Symbols
 pub mod Innermost
+pub mod Walks
+pub mod Walking
+pub mod Tops

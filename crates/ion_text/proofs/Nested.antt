@@ -40,7 +40,7 @@ abbrev pub is_left : Mark → Bool
 is_left marks.FieldsOpen = true
 is_left _ = false
 
-open_found : (m : Mark) (p : Place) (r : Rest) (octets : List ℕ) → Opens octets m → 1 < length octets → is_name p ≡ false → IsFound p r octets (kinds.Mark m) [] 1 (is_left m)
+pub open_found : (m : Mark) (p : Place) (r : Rest) (octets : List ℕ) → Opens octets m → 1 < length octets → is_name p ≡ false → IsFound p r octets (kinds.Mark m) [] 1 (is_left m)
 open_found marks.ListOpen p r octets opens more name = list_open_found p r octets name (omega arith) opens
 open_found marks.SexpOpen p r octets opens more name = sexp_open_found p r octets name (omega arith) opens
 open_found marks.FieldsOpen p r octets opens more name = fields_open_found p r octets name more opens.0 opens.1
@@ -138,7 +138,7 @@ module _ (old new : TextReader) (moved : Scanner) (rest behind : Rest) (octets :
 
 -- A close.
 
-close_found : (m : Mark) (fs : List Frame) (now : Now) (r : Rest) (octets : List ℕ) → closes m fs now ≡ true → 0 < length octets → slice_index octets 0 ≡ close_octet m → IsFound (place_in fs now) r octets (kinds.Mark m) [] 1 false
+pub close_found : (m : Mark) (fs : List Frame) (now : Now) (r : Rest) (octets : List ℕ) → closes m fs now ≡ true → 0 < length octets → slice_index octets 0 ≡ close_octet m → IsFound (place_in fs now) r octets (kinds.Mark m) [] 1 false
 close_found marks.ListClose [] now r octets h some first = absurd cc
 close_found marks.ListClose (frames.List ss vs ∷ fs) now r octets h some first = list_close_found (place_in (frames.List ss vs ∷ fs) now) r octets refl some first
 close_found marks.ListClose (frames.Sexp ss vs ∷ fs) now r octets h some first = absurd cc
@@ -159,10 +159,10 @@ close_found marks.Colons fs now r octets h some first = absurd cc
 
 module _ (g : Catalog) (l : Limits) (begin end start : ℕ) (c : List Slot) where
   -- in such a state the mark closes, and nothing waits
-  abbrev Closing : Mark → List Frame → Now → Type 0
+  abbrev pub Closing : Mark → List Frame → Now → Type 0
   Closing m fs now = (turn_now g l begin end start c fs [] (Mark' m) now ≡ closed m g l.item end start c fs) × IsStill now
 
-  closing : (m : Mark) (fs : List Frame) (now : Now) → closes m fs now ≡ true → Closing m fs now
+  pub closing : (m : Mark) (fs : List Frame) (now : Now) → closes m fs now ≡ true → Closing m fs now
   closing marks.ListClose [] now h = absurd cc
   closing marks.ListClose (frames.List ss vs ∷ fs) nows.Ready h = (refl, tt)
   closing marks.ListClose (frames.List ss vs ∷ fs) (nows.Pending held e) h = absurd cc

@@ -46,7 +46,7 @@ use Rattle.ion_text.specs.machine.EachToken.{Reading, Symbols, goes, late, at, p
 use Rattle.ion_text.specs.machine.AtOnce.{Passes, IsStill, Inside, Strides}
 use Rattle.ion_text.specs.machine.Run.{is_top, with_scan, token_of}
 use Rattle.ion_text.specs.machine.Pieces.{Quiet}
-use Rattle.ion_text.specs.machine.Views.{reading_of, open_frames, IsCalm, SameSetting}
+use Rattle.ion_text.specs.machine.Views.{reading_of, open_frames, with_beside, IsCalm, SameSetting}
 use Rattle.ion_text.proofs.Arms.{Moved, StaysIn, with_scanner, spelled_utf8, short_says, word_says, first_of, moved_strides, room, ready_turns, left_passes, given_leads, ended_stays, ended_place, named_stays, released_inner, same_place, name_place, value_strides, mark_says, blank_used, blank_colon, at_drop}
 use Rattle.ion_text.proofs.Passing.{passes_on, passes_blank, passes_waiting, passes_settled, passes_colons, calm_quiet, blank_quiet}
 use Rattle.ion_text.proofs.Striding.{still_settles}
@@ -382,7 +382,7 @@ module _ (g : Catalog) (l : Limits) (r : Reading) (inner : is_top r.frames ≡ f
 
 -- Tokens that are found whole, and what they are.
 
-quoted_says : (w : List ℕ) → IsUtf8 w → said kinds.QuotedSymbol w ≡ Ok (Quoted w)
+pub quoted_says : (w : List ℕ) → IsUtf8 w → said kinds.QuotedSymbol w ≡ Ok (Quoted w)
 unfolding said
 quoted_says w h = spelled_utf8 (Quoted w) w h
 
@@ -396,7 +396,7 @@ module _ (p : Place) (r : Rest) (octets : List ℕ) (n : ℕ) where
   abbrev short_token : FoundToken
   short_token = record { kind = kinds.ShortString; count = n; left = false }
 
-  word_said : IsFound p r octets kinds.Word (take n octets) n true → IsUtf8 (take n octets) → get_or octets 0 0 ≢ 36 → said kinds.Word (take n octets) ≡ Ok (Word (take n octets))
+  pub word_said : IsFound p r octets kinds.Word (take n octets) n true → IsUtf8 (take n octets) → get_or octets 0 0 ≢ 36 → said kinds.Word (take n octets) ≡ Ok (Word (take n octets))
   word_said found text first = let some = found.some in word_says (take n octets) text (λ e. first (sym (first_of n octets some) ∙ e))
 
   pub word_symbol : (payload : Payload) → IsFound p r octets kinds.Word (take n octets) n true → IsUtf8 (take n octets) → get_or octets 0 0 ≢ 36 → held_payload (held_word (take n octets)) ≡ Ok payload → BeginsSymbol p r octets word_token payload
@@ -449,7 +449,7 @@ symbol_held (helds.Null k) s e = absurd cc
 symbol_held (helds.Truth b) s e = absurd cc
 symbol_held helds.Nan s e = absurd cc
 
-held_in : (o : Option Held) (v : Payload) → Pays o v → (h : Held) × (o ≡ Some h) × (held_payload h ≡ Ok v)
+pub held_in : (o : Option Held) (v : Payload) → Pays o v → (h : Held) × (o ≡ Some h) × (held_payload h ≡ Ok v)
 held_in None v p = absurd p
 held_in (Some h) v p = (h, refl, p)
 
@@ -501,10 +501,6 @@ module _ (old new : TextReader) (moved : Scanner) (rest behind : Rest) (octets :
   whole_strides payload within there now b does =
       value_strides old new moved rest behind octets token.kind b.kept n token.left b.content (annotated old.notes payload) inside rests move setting within there now b.found b.says
       (ends_so old.catalog.now old.limits.depth old.limits.item (rest.used + n) old.start old.context (open_frames old) old.notes b.content payload b.is) does
-
--- beside the scanner nothing counts
-abbrev pub with_beside : TextReader → TokenReader → TextReader
-with_beside r b = record { alloc = r.alloc; catalog = r.catalog; limits = r.limits; scanner = r.scanner; beside = b; start = r.start; context = r.context; frames = r.frames; notes = r.notes; stage = r.stage; given = r.given; awaited = r.awaited; failed = r.failed }
 
 pub inside_beside : (r : TextReader) (b : TokenReader) (octets : List ℕ) → Inside r octets → Inside (with_beside r b) octets
 inside_beside r b octets h = record { some = h.some; inner = h.inner; fits = h.fits; room = h.room; fine = h.fine }

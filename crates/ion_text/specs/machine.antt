@@ -8,3 +8,4 @@ pub mod Passed
 pub mod Progress
 pub mod AtOnce
 pub mod Nested
+pub mod Walked

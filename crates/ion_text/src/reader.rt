@@ -19,12 +19,14 @@ mod items;
 mod lulls;
 mod nested;
 mod octets;
+mod passing;
 mod steps;
 mod stretches;
 mod structs;
 mod symbols;
 mod turns;
 mod waiting;
+mod walks;
 mod whole;
 
 /// A reader of a text document that comes in pieces (Ion 1.0, "Ion Text Encoding").

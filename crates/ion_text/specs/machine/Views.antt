@@ -14,6 +14,7 @@ use Rattle.ion_text.specs.declared.state.Taken.{Taken}
 use Rattle.ion_text.specs.declared.state.Taken.TheVariants.{Uses, Tells, Leaves}
 use Rattle.ion_text.specs.declared.state.Met.{Met}
 use Rattle.ion_text.specs.declared.state.Met.TheVariants as met
+use Rattle.ion_tokens.specs.declared.beside.TokenReader.{TokenReader}
 use Rattle.ion_tokens.specs.declared.token.Foresight.{Foresight}
 use Rattle.ion_tokens.specs.declared.token.Foresight.TheVariants as foresights
 use Rattle.ion_tokens.specs.declared.mode.Mode.{Mode}
@@ -210,3 +211,7 @@ pub record IsLull (l : Limits) (r : Reading) (s : Known) (count : ℕ) : Type 0 
   pub waits : lulls r.now s.mode ≡ true
   pub ended : ended_so_far r.now ≤ r.start + l.item
   pub room : s.used + count ≤ r.start + l.item
+
+-- beside the scanner nothing counts
+abbrev pub with_beside : TextReader → TokenReader → TextReader
+with_beside r b = record { alloc = r.alloc; catalog = r.catalog; limits = r.limits; scanner = r.scanner; beside = b; start = r.start; context = r.context; frames = r.frames; notes = r.notes; stage = r.stage; given = r.given; awaited = r.awaited; failed = r.failed }

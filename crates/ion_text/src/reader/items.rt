@@ -6,7 +6,7 @@ ghost use Rattle.ion_text.specs.machine.Progress.{failed};
 use super::TextReader;
 use crate::state::Now;
 use ion_model::{Reason, Refusal, Sequence, Value};
-use ion_symtab::{Catalog, Context, Items, Limits, Step};
+use ion_symtab::{Catalog, Context, Items, Limits, Passed, Step};
 use ion_tokens::{Scanner, TokenReader};
 use std::alloc::Global;
 
@@ -137,6 +137,22 @@ impl Items for TextReader<'_> {
             self.failed = Some(*refusal);
         }
         result
+    }
+
+    fn pass(&mut self, piece: &[u8]) -> Result<Passed, Refusal> {
+        if let Some(refusal) = self.failure() {
+            return Err(refusal);
+        }
+        if let Some((used, outline)) = self.walk(piece) {
+            return Ok(Passed {
+                used,
+                outline: Some(outline),
+            });
+        }
+        match self.step(piece) {
+            Err(refusal) => Err(refusal),
+            Ok(step) => Ok(step.passed()),
+        }
     }
 
     fn finish(self) -> Result<Option<Value>, Refusal> {

@@ -17,7 +17,7 @@ use ion_model::Reason;
 use ion_tokens::{Mark, Place, Rest, TokenKind};
 
 // The mark of an open at the front of octets. Behind `{` an octet shows that it begins no lob.
-fn open_mark(octets: &[u8]) -> Option<Mark>
+pub(super) fn open_mark(octets: &[u8]) -> Option<Mark>
     requires more { 1 < length octets.now }
     ensures { IfSome result (λ mark. Opens octets.now mark) }
 {

@@ -28,7 +28,7 @@ fn ends_symbol(octet: u8) -> bool
 }
 
 // How many octets of a blank stand behind a symbol of so many, if the octet behind them shows that no `::` follows.
-fn behind_symbol(octets: &[u8], count: usize) -> Option<usize>
+pub(super) fn behind_symbol(octets: &[u8], count: usize) -> Option<usize>
     ensures passed { IfSome result (λ between. IsPassed (drop count octets.now) between) }
     ensures within { IfSome result (λ between. count + between < length octets.now) }
     ensures ends { IfSome result (λ between. ends_symbol (get_or octets.now (count + between) 0) ≡ true) }
@@ -45,7 +45,7 @@ fn behind_symbol(octets: &[u8], count: usize) -> Option<usize>
 }
 
 // How many octets of a blank stand behind a field's name of so many, if one colon alone stands behind them.
-fn behind_name(octets: &[u8], count: usize) -> Option<usize>
+pub(super) fn behind_name(octets: &[u8], count: usize) -> Option<usize>
     ensures passed { IfSome result (λ between. IsPassed (drop count octets.now) between) }
     ensures within { IfSome result (λ between. count + between + 1 < length octets.now) }
     ensures colon { IfSome result (λ between. get_or octets.now (count + between) 0 ≡ 58) }
@@ -81,7 +81,7 @@ fn behind_annotation(octets: &[u8], count: usize) -> Option<usize>
 }
 
 // A text in quotes that may be a field's name, if its characters are ASCII and stand as they are.
-fn plain_text(octets: &[u8]) -> Option<FoundToken>
+pub(super) fn plain_text(octets: &[u8]) -> Option<FoundToken>
     ensures name { IfSome result (λ token. (place : Place) (rest : Rest) →
         BeginsName place rest octets.now token (Some (take (token.count - 2) (drop 1 octets.now)))) }
     ensures text { IfSome result (λ token. IsUtf8 (take (token.count - 2) (drop 1 octets.now))) }

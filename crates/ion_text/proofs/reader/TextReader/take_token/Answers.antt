@@ -1,4 +1,4 @@
-use Rattle.std.proofs.Common.{◌≡◌, ℕ, List, ◌-◌, ◌≤◌, length, take, take-take, length-take, subst, arith}
+use Rattle.std.proofs.Common.{◌≡◌, ℕ, List, ◌-◌, ◌≤◌, length, take-take, length-take, subst, arith}
 use Rattle.ion_tokens.specs.machine.Scanning.{Next, run}
 use Rattle.ion_tokens.specs.machine.Rests.{resting, past_blank}
 use Rattle.ion_text.proofs.reader.TextReader.take_token.Goals as goal

@@ -1,0 +1,550 @@
+-- The machine over octets of values that are gone over.
+use Rattle.std.proofs.Common.{◌≡◌, ◌≢◌, ℕ, suc, min, max, map, sum, ◌^◌, ◌+◌, ◌-◌, ◌<◌, ◌≤◌, Bool, true, false, List, [], ◌∷◌, ◌++◌, length, take, drop, get_or, Option, Some, None, Ok, refl, ap, sym, ◌∙◌, subst, arith, length-drop, ◌⊎◌, inl, inr}
+use Rattle.std.specs.Prelude.{if◌then◌else◌, nat_lt, IfSome}
+use Rattle.std.specs.List.{sum_by}
+use Rattle.std.proofs.lemmas.List.Sums.{sum-map, sum_by-append, sum_by-cons}
+use Rattle.std.proofs.lemmas.Bool.Decides.{nat_tests}
+use Rattle.ion_model.specs.declared.value.Field.{Field}
+use Rattle.ion_model.specs.declared.value.Value.{Value}
+use Rattle.ion_model.specs.declared.value.Payload.TheVariants as payloads
+use Rattle.ion_model.specs.declared.value.Payload.TheViews as views
+use Rattle.ion_model.specs.Kinds.{layer_kind}
+use Rattle.ion_model.specs.Measures.{depth, nodes, bare, annotated, field_of}
+use Rattle.ion_model.specs.laws.Measures.{deepest-more, nodes-more, nodes-bare}
+use Rattle.ion_symtab.specs.declared.limits.Limits.{Limits}
+use Rattle.ion_symtab.specs.declared.catalog.Catalog.{Catalog}
+use Rattle.ion_symtab.specs.Slots.{Slot}
+use Rattle.ion_tokens.specs.declared.beside.FoundToken.{FoundToken}
+use Rattle.ion_tokens.specs.declared.mode.Place.{Place}
+use Rattle.ion_tokens.specs.declared.mode.Place.TheVariants as places
+use Rattle.ion_tokens.specs.declared.mode.Mark.{Mark}
+use Rattle.ion_tokens.specs.declared.mode.Mark.TheVariants as marks
+use Rattle.ion_tokens.specs.declared.mode.TokenKind.{TokenKind}
+use Rattle.ion_tokens.specs.declared.mode.TokenKind.TheVariants as kinds
+use Rattle.ion_tokens.specs.declared.whole.Rest.{Rest}
+use Rattle.ion_tokens.specs.Bodies.{Content, Mark'}
+use Rattle.ion_tokens.specs.Places.{is_name}
+use Rattle.ion_tokens.specs.machine.Rests.{resting, past_blank, past_token, lexeme_at, before_end, IsPassed, IsFound}
+use Rattle.ion_tokens.specs.machine.Said.{said}
+use Rattle.ion_tokens.proofs.WholeTokens.{comma_found}
+use Rattle.ion_text.specs.declared.reader.walks.Scalar.{Scalar}
+use Rattle.ion_text.specs.declared.reader.walks.Tally.{Tally}
+use Rattle.ion_text.specs.declared.state.Frame.{Frame}
+use Rattle.ion_text.specs.declared.state.Frame.TheVariants as frames
+use Rattle.ion_text.specs.declared.state.Now.{Now}
+use Rattle.ion_text.specs.declared.state.Now.TheVariants as nows
+use Rattle.ion_text.specs.laws.reading.FrontTokens.{ends_symbol, held_of}
+use Rattle.ion_text.specs.laws.reading.Complete.{depths, field_depths, depth-list, depth-sexp, depth-struct, field_deepest-more}
+use Rattle.ion_text.specs.machine.EachToken.{Reading, Turn, Symbols, goes, at, place, place_in, turn, on_ready, ended}
+use Rattle.ion_text.specs.machine.Run.{is_top, with_scan, token_of}
+use Rattle.ion_text.specs.machine.Pieces.{Quiet}
+use Rattle.ion_text.specs.machine.Nested.{Opens, closes}
+use Rattle.ion_text.specs.machine.Views.{IsCalm}
+use Rattle.ion_text.specs.machine.AtOnce.{Passes, IsStill}
+use Rattle.ion_text.specs.machine.Walked.{Ends, IsValue, most, FoundScalar, FoundName, rested, Leads, LeadsBehind, Noted, Walked, WalkedContainer, WalkedInside, WalkedName, close_of, opened, first_now}
+use Rattle.ion_text.proofs.Arms.{StaysIn, ready_turns, ended_stays, left_passes, given_passes, mark_says, at_drop, blank_used}
+use Rattle.ion_text.proofs.Nested.{is_left, open_found, close_found, closing}
+use Rattle.ion_text.proofs.Passing.{passes_none, passes_on, passes_blank, calm_quiet}
+use Rattle.ion_text.proofs.Striding.{still_settles}
+use Rattle.ion_text.proofs.Symbols.{held_in, symbol_passes, name_passes}
+
+-- a token where the scanner rests and a container is open
+module _ (g : Catalog) (l : Limits) (r : Reading) (inner : is_top r.frames ≡ false) (still : IsStill r.now) (rest : Rest) (octets : List ℕ) (kind : TokenKind) (kept : List ℕ) (n : ℕ) (c : Content) (q : Reading)
+    (says : said kind kept ≡ Ok c) (turns : turn g l r (token_of (lexeme_at rest kind kept n) c) ≡ goes q) (room : rest.used + length octets ≤ l.item + r.start) (stays : StaysIn r.start q) where
+  quiet : (k : ℕ) → k ≤ length octets → IsCalm r.now ⊎ (k ≡ 0) → Quiet g l r (place r) (resting rest) (take k octets)
+  quiet k few (inl calm) = calm_quiet g l r inner calm (resting rest) refl octets k few (omega arith)
+  quiet k few (inr none) = subst (λ j. Quiet g l r (place r) (resting rest) (take j octets)) (sym none) tt
+
+  pub token_passes : (left : Bool) → IsFound (place r) rest octets kind kept n left → IsCalm r.now ⊎ (before_end left n ≡ 0) → Passes g l (with_scan (resting rest) r) octets n (with_scan (resting (past_token (place r) rest kind n)) q)
+  token_passes true f m = let shown = f.shown in left_passes g l r inner (still_settles g l r still) rest octets kind kept n c q says turns room f (quiet n (omega arith) m)
+  token_passes false f m = let shown = f.shown in given_passes g l r inner (still_settles g l r still) rest octets kind kept n c q says turns room f (quiet (n - 1) (omega arith) m) stays
+
+-- a token that is found lies whole in the octets
+pub found_within : (p : Place) (r : Rest) (octets : List ℕ) (kind : TokenKind) (kept : List ℕ) (n : ℕ) (left : Bool) → IsFound p r octets kind kept n left → n ≤ length octets
+found_within p r octets kind kept n true f = let shown = f.shown in omega arith
+found_within p r octets kind kept n false f = let shown = f.shown in omega arith
+
+-- values without others in them
+
+module _ (p : Place) (level : ℕ) (rest : Rest) (octets : List ℕ) (s : Scalar) (f : FoundScalar p rest octets s) where
+  abbrev count : ℕ
+  count = s.token.count
+
+  pub scalar_leads : s.waits ≡ false → LeadsBehind p level rest octets count (past_token p rest s.token.kind count) f.payload
+  scalar_leads e = λ g l start c ss fs those n inner here deep room puts.
+      let r = at start c fs ss nows.Ready in
+      let q = at start c those [] n in
+      let is : Ends f.content f.payload = subst (λ b. IsValue b f.content f.payload) e f.is in
+      let does : ended g l.item (rest.used + count) start c fs (annotated ss f.payload) ≡ goes q = puts g l.item (rest.used + count) start c in
+      subst (λ p. Passes g l (rested rest start c fs ss nows.Ready) octets count (rested (past_token p rest s.token.kind count) start c those [] n)) here
+      (token_passes g l r inner tt rest octets s.token.kind f.kept count f.content q f.says
+      (ready_turns g l r (lexeme_at rest s.token.kind f.kept count) f.content refl inner ∙ (is g l.depth l.item (rest.used + count) start c fs ss ∙ does)) room
+      (ended_stays g l.item (rest.used + count) start c q fs (annotated ss f.payload) inner does)
+      s.token.left (subst (λ p. IsFound p rest octets s.token.kind f.kept count s.token.left) (sym here) f.found) (inl tt))
+
+  pub symbol_leads : (m : ℕ) → s.waits ≡ true → count + m < length octets → IsPassed (drop count octets) m → ends_symbol (get_or octets (count + m) 0) ≡ true
+      → LeadsBehind p level rest octets (count + m) (past_blank (past_token p rest s.token.kind count) m) f.payload
+  symbol_leads m e within passed ends = λ g l start c ss fs those n inner here deep room puts.
+      let r = at start c fs ss nows.Ready in
+      let q = at start c those [] n in
+      let pays = held_in (held_of f.content) f.payload (subst (λ b. IsValue b f.content f.payload) e f.is) in
+      let does : ended g l.item (rest.used + count) start c fs (annotated ss f.payload) ≡ goes q = puts g l.item (rest.used + count) start c in
+      subst (λ p. Passes g l (rested rest start c fs ss nows.Ready) octets (count + m) (rested (past_blank (past_token p rest s.token.kind count) m) start c those [] n)) here
+      (symbol_passes g l r inner rest octets s.token.kind f.kept count m s.token.left f.content room within
+      (subst (λ p. IsFound p rest octets s.token.kind f.kept count s.token.left) (sym here) f.found) f.says passed tt tt refl pays.0 pays.1 q f.payload pays.2 does ends)
+
+  -- with what is noted
+  pub walked_scalar : (before after : Tally) (m : ℕ) → before.level ≤ level → before.rest ≡ rest → count + m ≤ length octets → LeadsBehind p level rest octets (count + m) (past_blank (past_token p rest s.token.kind count) m) f.payload
+      → after ≡ record { kind = s.kind; level = before.level; nodes = min (before.nodes + 1) most; rest = past_blank (past_token p rest s.token.kind count) m } → Walked p level octets (count + m) before after
+  walked_scalar before after m low same within leads e =
+      let flat = f.flat in
+      let deep = flat.deep in
+      let one = flat.counted in
+      let total : (past_blank (past_token p rest s.token.kind count) m).used ≡ rest.used + count + m = blank_used (past_token p rest s.token.kind count) m in
+      let begun : before.rest.used ≡ rest.used = ap (λ (r : Rest). r.used) same in
+      rw e (record {
+        payload = f.payload;
+        leads = subst (λ r. LeadsBehind p level r octets (count + m) (past_blank (past_token p rest s.token.kind count) m) f.payload) (sym same) leads;
+        within = within;
+        used = omega arith;
+        deep = omega arith;
+        noted = record { kind = sym flat.sort; left = omega arith; counted = omega arith };
+      })
+
+-- one behind the other, in a container
+pub leads_on : (level : ℕ) (a b d : Rest) (octets : List ℕ) (i j : ℕ) (f h k : Symbols → Frame) (m n o : Now) → i ≤ length octets → b.used ≡ a.used + i
+    → Leads level a octets i b f m h n → Leads level b (drop i octets) j d h n k o → Leads level a octets (i + j) d f m k o
+leads_on level a b d octets i j f h k m n o within used x y = λ g l start c ss fs deep room.
+    let size : length (drop i octets) ≡ length octets - i = length-drop i octets in
+    passes_on g l (rested a start c (f ss ∷ fs) [] m) (rested b start c (h ss ∷ fs) [] n) (rested d start c (k ss ∷ fs) [] o) octets i j
+    (x g l start c ss fs deep room) (y g l start c ss fs deep (omega arith))
+
+-- a blank
+pub blank_leads : (level : ℕ) (r : Rest) (octets : List ℕ) (n : ℕ) (f : Symbols → Frame) (now : Now) → IsPassed octets n → n ≤ length octets → IsStill now → Leads level r octets n (past_blank r n) f now f now
+blank_leads level r octets n f now passed within still = λ g l start c ss fs deep room.
+    let q = at start c (f ss ∷ fs) [] now in
+    passes_blank g l q refl (resting r) (resting (past_blank r n)) octets n within refl refl (passed (place q) r) (omega arith) (still_settles g l q still)
+
+-- a field's name and its colon
+module _ (rest : Rest) (octets : List ℕ) (token : FoundToken) (f : FoundName rest octets token) (m : ℕ) (within : token.count + m + 1 < length octets) (passed : IsPassed (drop token.count octets) m)
+    (colon : get_or octets (token.count + m) 0 ≡ 58) (one : get_or octets (token.count + m + 1) 0 ≢ 58) where
+  abbrev pub behind_key : Rest
+  behind_key = past_token places.Name (past_blank (past_token places.Name rest token.kind token.count) m) (kinds.Mark marks.Colon) 1
+
+  key_leads : (level : ℕ) (ms : List Field) → Leads level rest octets (token.count + m + 1) behind_key (λ ss. frames.Fields ss ms) nows.Name (λ ss. frames.Named ss ms f.name) nows.Ready
+  key_leads level ms = λ g l start c ss fs deep room.
+      name_passes g l (at start c (frames.Fields ss ms ∷ fs) [] nows.Name) refl rest octets token.kind f.begins.kept token.count m token.left f.begins.content room (omega arith) f.begins.found f.begins.says passed tt tt refl
+      (at start c (frames.Named ss ms f.name ∷ fs) [] nows.Ready) within f.name f.begins.names colon one refl
+
+  key_used : behind_key.used ≡ rest.used + (token.count + m + 1)
+  key_used = let used = blank_used (past_token places.Name rest token.kind token.count) m in omega arith
+
+  -- with a blank behind it, and what is noted
+  pub walked_name : (before mid after : Tally) (n : ℕ) (behind : List ℕ) → before.rest ≡ rest → behind ≡ drop (token.count + m + 1) octets → n ≤ length behind → IsPassed behind n
+      → mid ≡ record { kind = before.kind; level = before.level; nodes = min (before.nodes + 1) most; rest = behind_key } → after ≡ record { kind = mid.kind; level = mid.level; nodes = mid.nodes; rest = past_blank mid.rest n }
+      → WalkedName octets (token.count + m + 1 + n) before after
+  walked_name before mid after n behind same is few blank em ea =
+      let size : length behind ≡ length octets - (token.count + m + 1) = ap (λ (w : List ℕ). length w) is ∙ length-drop (token.count + m + 1) octets in
+      let begun : before.rest.used ≡ rest.used = ap (λ (r : Rest). r.used) same in
+      let counted = key_used in
+      let last = blank_used behind_key n in
+      rw (ea, em) (record {
+        name = f.name;
+        leads = λ level ms.
+            subst (λ r. Leads level r octets (token.count + m + 1 + n) (past_blank behind_key n) (λ ss. frames.Fields ss ms) nows.Name (λ ss. frames.Named ss ms f.name) nows.Ready) (sym same)
+            (leads_on level rest behind_key (past_blank behind_key n) octets (token.count + m + 1) n (λ ss. frames.Fields ss ms) (λ ss. frames.Named ss ms f.name) (λ ss. frames.Named ss ms f.name) nows.Name nows.Ready nows.Ready (omega arith) counted
+            (key_leads level ms)
+            (subst (λ w. Leads level behind_key w n (past_blank behind_key n) (λ ss. frames.Named ss ms f.name) nows.Ready (λ ss. frames.Named ss ms f.name) nows.Ready) is
+            (blank_leads level behind_key behind n (λ ss. frames.Named ss ms f.name) nows.Ready blank few tt)));
+        within = omega arith;
+        used = omega arith;
+        left = refl;
+        counted = omega arith;
+      })
+
+-- commas
+
+pub list_comma : (level : ℕ) (r : Rest) (octets : List ℕ) (vs : List Value) → 0 < length octets → get_or octets 0 0 ≡ 44
+    → Leads level r octets 1 (past_token places.List r (kinds.Mark marks.Comma) 1) (λ ss. frames.List ss vs) nows.After (λ ss. frames.List ss vs) nows.Ready
+list_comma level r octets vs some first = λ g l start c ss fs deep room.
+    token_passes g l (at start c (frames.List ss vs ∷ fs) [] nows.After) refl tt r octets (kinds.Mark marks.Comma) [] 1 (Mark' marks.Comma) (at start c (frames.List ss vs ∷ fs) [] nows.Ready) (mark_says marks.Comma) refl room (refl, refl, tt)
+    false (comma_found places.List r octets some first) (inr refl)
+
+pub field_comma : (level : ℕ) (r : Rest) (octets : List ℕ) (ms : List Field) → 0 < length octets → get_or octets 0 0 ≡ 44
+    → Leads level r octets 1 (past_token places.FieldValue r (kinds.Mark marks.Comma) 1) (λ ss. frames.Fields ss ms) nows.After (λ ss. frames.Fields ss ms) nows.Name
+field_comma level r octets ms some first = λ g l start c ss fs deep room.
+    token_passes g l (at start c (frames.Fields ss ms ∷ fs) [] nows.After) refl tt r octets (kinds.Mark marks.Comma) [] 1 (Mark' marks.Comma) (at start c (frames.Fields ss ms ∷ fs) [] nows.Name) (mark_says marks.Comma) refl room (refl, refl, tt)
+    false (comma_found places.FieldValue r octets some first) (inr refl)
+
+-- values in containers
+
+module _ (level : ℕ) (octets : List ℕ) (count : ℕ) (before after : Tally) where
+  pub list_value : (w : Walked places.List level octets count before after) (vs : List Value)
+      → Leads level before.rest octets count after.rest (λ ss. frames.List ss vs) nows.Ready (λ ss. frames.List ss (vs ++ bare w.payload ∷ [])) nows.After
+  list_value w vs = λ g l start c ss fs deep room.
+      w.leads g l start c [] (frames.List ss vs ∷ fs) (frames.List ss (vs ++ bare w.payload ∷ []) ∷ fs) nows.After refl refl (omega arith) room (λ g item end start c. refl)
+
+  pub sexp_value : (w : Walked places.Sexp level octets count before after) (vs : List Value)
+      → Leads level before.rest octets count after.rest (λ ss. frames.Sexp ss vs) nows.Ready (λ ss. frames.Sexp ss (vs ++ bare w.payload ∷ [])) nows.Ready
+  sexp_value w vs = λ g l start c ss fs deep room.
+      w.leads g l start c [] (frames.Sexp ss vs ∷ fs) (frames.Sexp ss (vs ++ bare w.payload ∷ []) ∷ fs) nows.Ready refl refl (omega arith) room (λ g item end start c. refl)
+
+  pub field_value : (w : Walked places.FieldValue level octets count before after) (ms : List Field) (name : Option (List ℕ))
+      → Leads level before.rest octets count after.rest (λ ss. frames.Named ss ms name) nows.Ready (λ ss. frames.Fields ss (ms ++ field_of name (bare w.payload) ∷ [])) nows.After
+  field_value w ms name = λ g l start c ss fs deep room.
+      w.leads g l start c [] (frames.Named ss ms name ∷ fs) (frames.Fields ss (ms ++ field_of name (bare w.payload) ∷ []) ∷ fs) nows.After refl refl (omega arith) room (λ g item end start c. refl)
+
+-- containers
+
+pub open_turns : (g : Catalog) (depth item end start : ℕ) (c : List Slot) (fs : List Frame) (ss : Symbols) (octets : List ℕ) (m : Mark) → Opens octets m → length fs < depth
+    → on_ready g depth item end start c fs ss (Mark' m) ≡ goes (at start c (opened m ss ∷ fs) [] (first_now m))
+open_turns g depth item end start c fs ss octets m opens deep = by m opens
+  where
+    admits : nat_lt (length fs) depth ≡ true
+    admits = grind (arith, nat_tests)
+
+    deepens : (a : Reading) (t : Turn) → (if nat_lt (length fs) depth then goes a else t) ≡ goes a
+    deepens a t = ap (λ b. if b then goes a else t) admits
+
+    by : (m : Mark) → Opens octets m → on_ready g depth item end start c fs ss (Mark' m) ≡ goes (at start c (opened m ss ∷ fs) [] (first_now m))
+    by marks.ListOpen h = deepens _ _
+    by marks.SexpOpen h = deepens _ _
+    by marks.FieldsOpen h = deepens _ _
+    by marks.ListClose h = absurd h
+    by marks.SexpClose h = absurd h
+    by marks.FieldsClose h = absurd h
+    by marks.Comma h = absurd h
+    by marks.Colon h = absurd h
+    by marks.Colons h = absurd h
+
+opened_stays : (start : ℕ) (c : List Slot) (fs : List Frame) (ss : Symbols) (m : Mark) → StaysIn start (at start c (opened m ss ∷ fs) [] (first_now m))
+opened_stays start c fs ss marks.ListOpen = (refl, refl, tt)
+opened_stays start c fs ss marks.SexpOpen = (refl, refl, tt)
+opened_stays start c fs ss marks.FieldsOpen = (refl, refl, tt)
+opened_stays start c fs ss marks.ListClose = (refl, refl, tt)
+opened_stays start c fs ss marks.SexpClose = (refl, refl, tt)
+opened_stays start c fs ss marks.FieldsClose = (refl, refl, tt)
+opened_stays start c fs ss marks.Comma = (refl, refl, tt)
+opened_stays start c fs ss marks.Colon = (refl, refl, tt)
+opened_stays start c fs ss marks.Colons = (refl, refl, tt)
+
+-- behind the open, and up to the close
+module _ (p : Place) (m : Mark) (level : ℕ) (octets : List ℕ) (count : ℕ) (before after : Tally) (w : WalkedContainer p m level octets count before after) (more : 1 < length octets) (opens : Opens octets m) where
+  abbrev first : Rest
+  first = past_token p before.rest (kinds.Mark m) 1
+
+  first_is : w.first.rest ≡ first
+  first_is = ap (λ (t : Tally). t.rest) w.opens
+
+  size : length (drop 1 octets) ≡ length octets - 1
+  size = length-drop 1 octets
+
+  pub up_to_close : (g : Catalog) (l : Limits) (start : ℕ) (c : List Slot) (ss : Symbols) (fs : List Frame) → length fs + level ≤ l.depth → before.rest.used + length octets ≤ l.item + start
+      → Passes g l (rested first start c (opened m ss ∷ fs) [] (first_now m)) (drop 1 octets) w.behind (rested w.last.rest start c (w.inside.whole ss ∷ fs) [] w.inside.now)
+  up_to_close g l start c ss fs deep room =
+      let some = w.some in
+      let long = size in
+      let used : w.first.rest.used ≡ before.rest.used + 1 = ap (λ (r : Rest). r.used) first_is in
+      subst (λ r. Passes g l (rested r start c (opened m ss ∷ fs) [] (first_now m)) (drop 1 octets) w.behind (rested w.last.rest start c (w.inside.whole ss ∷ fs) [] w.inside.now)) first_is
+      (w.inside.leads g l start c ss fs (omega arith) (omega arith))
+
+  pub container_leads : is_name p ≡ false → LeadsBehind p level before.rest octets count after.rest w.inside.payload
+  container_leads value = λ g l start c ss fs those n inner here deep room puts.
+      let some = w.some in
+      let long = size in
+      let within = w.inside.within in
+      let counted = w.inside.used in
+      let used : w.first.rest.used ≡ before.rest.used + 1 = ap (λ (r : Rest). r.used) first_is in
+      let behind = drop w.behind (drop 1 octets) in
+      let left : length behind ≡ length (drop 1 octets) - w.behind = length-drop w.behind (drop 1 octets) in
+      let r = at start c fs ss nows.Ready in
+      let q = at start c (opened m ss ∷ fs) [] (first_now m) in
+      let k = at start c (w.inside.whole ss ∷ fs) [] w.inside.now in
+      let e = at start c those [] n in
+      let close = close_of m in
+      let shut = closing g l w.last.rest.used (w.last.rest.used + 1) start c close (w.inside.whole ss ∷ fs) w.inside.now (w.inside.closes ss fs) in
+      let does : ended g l.item (w.last.rest.used + 1) start c fs (annotated ss w.inside.payload) ≡ goes e = puts g l.item (w.last.rest.used + 1) start c in
+      let found = close_found close (w.inside.whole ss ∷ fs) w.inside.now w.last.rest behind (w.inside.closes ss fs) (omega arith) (at_drop w.behind (drop 1 octets) ∙ w.inside.close) in
+      let one : Passes g l (rested before.rest start c fs ss nows.Ready) octets 1 (rested first start c (opened m ss ∷ fs) [] (first_now m)) =
+      subst (λ p. Passes g l (rested before.rest start c fs ss nows.Ready) octets 1 (rested (past_token p before.rest (kinds.Mark m) 1) start c (opened m ss ∷ fs) [] (first_now m))) here
+      (token_passes g l r inner tt before.rest octets (kinds.Mark m) [] 1 (Mark' m) q (mark_says m)
+      (ready_turns g l r (lexeme_at before.rest (kinds.Mark m) [] 1) (Mark' m) refl inner ∙ open_turns g l.depth l.item (before.rest.used + 1) start c fs ss octets m opens (omega arith)) room
+      (opened_stays start c fs ss m) (is_left m) (open_found m (place_in fs nows.Ready) before.rest octets opens more (ap is_name here ∙ value)) (inl tt)) in
+      let last : Passes g l (rested w.last.rest start c (w.inside.whole ss ∷ fs) [] w.inside.now) behind 1 (rested (past_token (place k) w.last.rest (kinds.Mark close) 1) start c those [] n) =
+      token_passes g l k refl shut.1 w.last.rest behind (kinds.Mark close) [] 1 (Mark' close) e (mark_says close)
+      (shut.0 ∙ (w.inside.closed g l.item (w.last.rest.used + 1) start c ss fs ∙ does)) (omega arith)
+      (ended_stays g l.item (w.last.rest.used + 1) start c e fs (annotated ss w.inside.payload) inner does) false found (inr refl) in
+      let there : after.rest ≡ past_token (place k) w.last.rest (kinds.Mark close) 1 = ap (λ (t : Tally). t.rest) w.shuts in
+      let total : 1 + (w.behind + 1) ≡ count = let t = w.total in omega arith in
+      subst (λ j. Passes g l (rested before.rest start c fs ss nows.Ready) octets j (rested after.rest start c those [] n)) total
+      (subst (λ x. Passes g l (rested before.rest start c fs ss nows.Ready) octets (1 + (w.behind + 1)) (rested x start c those [] n)) (sym there)
+      (passes_on g l (rested before.rest start c fs ss nows.Ready) (rested first start c (opened m ss ∷ fs) [] (first_now m)) (rested (past_token (place k) w.last.rest (kinds.Mark close) 1) start c those [] n) octets 1 (w.behind + 1) one
+      (passes_on g l (rested first start c (opened m ss ∷ fs) [] (first_now m)) (rested w.last.rest start c (w.inside.whole ss ∷ fs) [] w.inside.now) (rested (past_token (place k) w.last.rest (kinds.Mark close) 1) start c those [] n) (drop 1 octets) w.behind 1
+      (up_to_close g l start c ss fs deep room) last)))
+
+  -- what is noted of it
+  pub container_noted : before.level ≤ level → Noted level w.inside.payload before after
+  container_noted low =
+      let x = w.inside in
+      let some = w.some in
+      let deepest = x.deep in
+      let least = x.some in
+      let left = x.left in
+      let many = x.counted in
+      let first_level : w.first.level ≡ min before.level (level - 1) = ap (λ (t : Tally). t.level) w.opens in
+      let first_nodes : w.first.nodes ≡ before.nodes = ap (λ (t : Tally). t.nodes) w.opens in
+      let last_level : after.level ≡ w.last.level = ap (λ (t : Tally). t.level) w.shuts in
+      let last_nodes : after.nodes ≡ min (w.last.nodes + 1) most = ap (λ (t : Tally). t.nodes) w.shuts in
+      record { kind = ap (λ (t : Tally). t.kind) w.shuts ∙ sym x.kind; left = omega arith; counted = omega arith }
+
+  pub walked_container : is_name p ≡ false → before.level ≤ level → Walked p level octets count before after
+  walked_container value low =
+      let x = w.inside in
+      let some = w.some in
+      let long = size in
+      let within = x.within in
+      let counted = x.used in
+      let total = w.total in
+      let deepest = x.deep in
+      let used : w.first.rest.used ≡ before.rest.used + 1 = ap (λ (r : Rest). r.used) first_is in
+      let last : after.rest.used ≡ w.last.rest.used + 1 = ap (λ (t : Tally). t.rest.used) w.shuts in
+      record {
+        payload = x.payload;
+        leads = container_leads value;
+        within = omega arith;
+        used = omega arith;
+        deep = omega arith;
+        noted = container_noted low;
+      }
+
+pub walked_containers : (p : Place) (m : Mark) (level : ℕ) (octets : List ℕ) (before after : Tally) (r : Option ℕ) → IfSome r (λ n. WalkedContainer p m level octets n before after) → 1 < length octets → Opens octets m → is_name p ≡ false → before.level ≤ level
+    → IfSome r (λ n. Walked p level octets n before after)
+walked_containers p m level octets before after None w more opens value low = w
+walked_containers p m level octets before after (Some n) w more opens value low = walked_container p m level octets n before after w more opens value low
+
+-- So many octets behind the open of a container were gone over: it stands so now, and what is in it is so deep and of so many nodes.
+pub record Gone (m : Mark) (level : ℕ) (octets : List ℕ) (at : ℕ) (before now : Tally) (h : Symbols → Frame) (n : Now) (deepest many : ℕ) : Type 0 where
+  pub leads : Leads level before.rest octets at now.rest (opened m) (first_now m) h n
+  pub within : at ≤ length octets
+  pub used : now.rest.used ≡ before.rest.used + at
+  pub few : deepest ≤ level
+  pub left : now.level ≡ min before.level (level - deepest)
+  pub counted : min now.nodes most ≡ min (before.nodes + many) most
+
+pub gone_none : (m : Mark) (level : ℕ) (octets : List ℕ) (before : Tally) → before.level ≤ level → Gone m level octets 0 before before (opened m) (first_now m) 0 0
+gone_none m level octets before low = record {
+  leads = λ g l start c ss fs deep room. passes_none g l (rested before.rest start c (opened m ss ∷ fs) [] (first_now m)) octets;
+  within = omega arith;
+  used = omega arith;
+  few = omega arith;
+  left = omega arith;
+  counted = omega arith;
+}
+
+module _ (m : Mark) (level : ℕ) (octets rest : List ℕ) (at : ℕ) (before now : Tally) (h : Symbols → Frame) (n : Now) (deepest many : ℕ) (x : Gone m level octets at before now h n deepest many) (is : rest ≡ drop at octets) where
+  pub gone_length : length rest ≡ length octets - at
+  gone_length = ap (λ (w : List ℕ). length w) is ∙ length-drop at octets
+
+  pub gone_low : now.level ≤ level
+  gone_low = let left = x.left in omega arith
+
+  pub gone_room : before.rest.used + length octets < 2 ^ 63 → now.rest.used + length rest < 2 ^ 63
+  gone_room room = let size = gone_length in let within = x.within in let used = x.used in omega arith
+
+  pub gone_on : (next : Tally) (k : Symbols → Frame) (o : Now) (j deeper more d e : ℕ) → Leads level now.rest rest j next.rest h n k o → j ≤ length rest → next.rest.used ≡ now.rest.used + j → deeper ≤ level → next.level ≡ min now.level (level - deeper)
+      → min next.nodes most ≡ min (now.nodes + more) most → d ≡ max deepest deeper → e ≡ many + more → Gone m level octets (at + j) before next k o d e
+  gone_on next k o j deeper more d e leads within used few left counted ed ee =
+      let size = gone_length in
+      let a = x.within in
+      let b = x.used in
+      let c = x.few in
+      let f = x.left in
+      let y = x.counted in
+      record {
+        leads =
+            leads_on level before.rest now.rest next.rest octets at j (opened m) h k (first_now m) n o a b x.leads
+            (subst (λ w. Leads level now.rest w j next.rest h n k o) is leads);
+        within = omega arith;
+        used = omega arith;
+        few = omega arith;
+        left = omega arith;
+        counted = omega arith;
+      }
+
+  -- over a blank
+  pub gone_blank : (next : Tally) (j : ℕ) → IsPassed rest j → j ≤ length rest → IsStill n → next ≡ record { kind = now.kind; level = now.level; nodes = now.nodes; rest = past_blank now.rest j } → Gone m level octets (at + j) before next h n deepest many
+  gone_blank next j passed within still e =
+      let low = gone_low in
+      let used = blank_used now.rest j in
+      rw e (gone_on (record { kind = now.kind; level = now.level; nodes = now.nodes; rest = past_blank now.rest j }) h n j 0 0 deepest many (blank_leads level now.rest rest j h n passed within still) within used (omega arith) (omega arith) (omega arith) (omega arith) (omega arith))
+
+-- Elements of a list, and fields of a struct.
+
+abbrev pub element_now : Bool → Now
+element_now true = nows.After
+element_now false = nows.Ready
+
+abbrev pub field_now : Bool → Now
+field_now true = nows.After
+field_now false = nows.Name
+
+pub element_still : (b : Bool) → IsStill (element_now b)
+element_still true = tt
+element_still false = tt
+
+pub field_still : (b : Bool) → IsStill (field_now b)
+field_still true = tt
+field_still false = tt
+
+element_closes : (b : Bool) (ss : Symbols) (vs : List Value) (fs : List Frame) → closes marks.ListClose (frames.List ss vs ∷ fs) (element_now b) ≡ true
+element_closes true ss vs fs = refl
+element_closes false ss vs fs = refl
+
+field_closes : (b : Bool) (ss : Symbols) (ms : List Field) (fs : List Frame) → closes marks.FieldsClose (frames.Fields ss ms ∷ fs) (field_now b) ≡ true
+field_closes true ss ms fs = refl
+field_closes false ss ms fs = refl
+
+abbrev pub field_nodes : Field → ℕ
+field_nodes m = suc (nodes m.value)
+
+abbrev pub ListGone : ℕ → List ℕ → ℕ → Tally → Tally → List Value → Bool → Type 0
+ListGone level octets at before now vs b = Gone marks.ListOpen level octets at before now (λ ss. frames.List ss vs) (element_now b) (depths vs) (sum (map nodes vs))
+
+abbrev pub SexpGone : ℕ → List ℕ → ℕ → Tally → Tally → List Value → Type 0
+SexpGone level octets at before now vs = Gone marks.SexpOpen level octets at before now (λ ss. frames.Sexp ss vs) nows.Ready (depths vs) (sum (map nodes vs))
+
+abbrev pub FieldsGone : ℕ → List ℕ → ℕ → Tally → Tally → List Field → Bool → Type 0
+FieldsGone level octets at before now ms b = Gone marks.FieldsOpen level octets at before now (λ ss. frames.Fields ss ms) (field_now b) (field_depths ms) (sum (map field_nodes ms))
+
+fields-more : (ms : List Field) (m : Field) → sum (map field_nodes (ms ++ m ∷ [])) ≡ sum (map field_nodes ms) + field_nodes m
+fields-more ms m =
+    let all = sum-map field_nodes (ms ++ m ∷ []) in
+    let front = sum-map field_nodes ms in
+    let cut = sum_by-append field_nodes ms (m ∷ []) in
+    let one = sum_by-cons field_nodes m [] in
+    let none : sum_by field_nodes [] ≡ 0 = refl in
+    omega arith
+
+module _ (level : ℕ) (octets rest : List ℕ) (at : ℕ) (before now next : Tally) (is : rest ≡ drop at octets) where
+  pub list_value_on : (vs : List Value) (x : ListGone level octets at before now vs false) (j : ℕ) (w : Walked places.List level rest j now next) → ListGone level octets (at + j) before next (vs ++ bare w.payload ∷ []) true
+  list_value_on vs x j w =
+      gone_on marks.ListOpen level octets rest at before now (λ ss. frames.List ss vs) nows.Ready (depths vs) (sum (map nodes vs)) x is next (λ ss. frames.List ss (vs ++ bare w.payload ∷ [])) nows.After j (depth (bare w.payload)) (nodes (bare w.payload)) _ _
+      (list_value level rest j now next w vs) w.within w.used w.deep w.noted.left w.noted.counted (deepest-more vs (bare w.payload)) (nodes-more vs (bare w.payload))
+
+  pub sexp_value_on : (vs : List Value) (x : SexpGone level octets at before now vs) (j : ℕ) (w : Walked places.Sexp level rest j now next) → SexpGone level octets (at + j) before next (vs ++ bare w.payload ∷ [])
+  sexp_value_on vs x j w =
+      gone_on marks.SexpOpen level octets rest at before now (λ ss. frames.Sexp ss vs) nows.Ready (depths vs) (sum (map nodes vs)) x is next (λ ss. frames.Sexp ss (vs ++ bare w.payload ∷ [])) nows.Ready j (depth (bare w.payload)) (nodes (bare w.payload)) _ _
+      (sexp_value level rest j now next w vs) w.within w.used w.deep w.noted.left w.noted.counted (deepest-more vs (bare w.payload)) (nodes-more vs (bare w.payload))
+
+  pub list_comma_on : (vs : List Value) (x : ListGone level octets at before now vs true) → 0 < length rest → get_or rest 0 0 ≡ 44 → next ≡ record { kind = now.kind; level = now.level; nodes = now.nodes; rest = past_token places.List now.rest (kinds.Mark marks.Comma) 1 }
+      → ListGone level octets (at + 1) before next vs false
+  list_comma_on vs x some first e =
+      let low = gone_low marks.ListOpen level octets rest at before now (λ ss. frames.List ss vs) nows.After (depths vs) (sum (map nodes vs)) x is in
+      let mid : Tally = record { kind = now.kind; level = now.level; nodes = now.nodes; rest = past_token places.List now.rest (kinds.Mark marks.Comma) 1 } in
+      rw e (gone_on marks.ListOpen level octets rest at before now (λ ss. frames.List ss vs) nows.After (depths vs) (sum (map nodes vs)) x is mid (λ ss. frames.List ss vs) nows.Ready 1 0 0 (depths vs) (sum (map nodes vs))
+      (list_comma level now.rest rest vs some first) (omega arith) refl (omega arith) (omega arith) (omega arith) (omega arith) (omega arith))
+
+  pub field_comma_on : (ms : List Field) (x : FieldsGone level octets at before now ms true) → 0 < length rest → get_or rest 0 0 ≡ 44 → next ≡ record { kind = now.kind; level = now.level; nodes = now.nodes; rest = past_token places.FieldValue now.rest (kinds.Mark marks.Comma) 1 }
+      → FieldsGone level octets (at + 1) before next ms false
+  field_comma_on ms x some first e =
+      let low = gone_low marks.FieldsOpen level octets rest at before now (λ ss. frames.Fields ss ms) nows.After (field_depths ms) (sum (map field_nodes ms)) x is in
+      let mid : Tally = record { kind = now.kind; level = now.level; nodes = now.nodes; rest = past_token places.FieldValue now.rest (kinds.Mark marks.Comma) 1 } in
+      rw e (gone_on marks.FieldsOpen level octets rest at before now (λ ss. frames.Fields ss ms) nows.After (field_depths ms) (sum (map field_nodes ms)) x is mid (λ ss. frames.Fields ss ms) nows.Name 1 0 0 (field_depths ms) (sum (map field_nodes ms))
+      (field_comma level now.rest rest ms some first) (omega arith) refl (omega arith) (omega arith) (omega arith) (omega arith) (omega arith))
+
+  -- a field's name
+  pub name_on : (ms : List Field) (x : FieldsGone level octets at before now ms false) (j : ℕ) (w : WalkedName rest j now next)
+      → Gone marks.FieldsOpen level octets (at + j) before next (λ ss. frames.Named ss ms w.name) nows.Ready (field_depths ms) (sum (map field_nodes ms) + 1)
+  name_on ms x j w =
+      let low = gone_low marks.FieldsOpen level octets rest at before now (λ ss. frames.Fields ss ms) nows.Name (field_depths ms) (sum (map field_nodes ms)) x is in
+      let left = w.left in
+      gone_on marks.FieldsOpen level octets rest at before now (λ ss. frames.Fields ss ms) nows.Name (field_depths ms) (sum (map field_nodes ms)) x is next (λ ss. frames.Named ss ms w.name) nows.Ready j 0 1 (field_depths ms) (sum (map field_nodes ms) + 1)
+      (w.leads level ms) w.within w.used (omega arith) (omega arith) w.counted (omega arith) refl
+
+  -- and its value
+  pub field_value_on : (ms : List Field) (name : Option (List ℕ)) (x : Gone marks.FieldsOpen level octets at before now (λ ss. frames.Named ss ms name) nows.Ready (field_depths ms) (sum (map field_nodes ms) + 1)) (j : ℕ) (w : Walked places.FieldValue level rest j now next)
+      → FieldsGone level octets (at + j) before next (ms ++ field_of name (bare w.payload) ∷ []) true
+  field_value_on ms name x j w =
+      let more = fields-more ms (field_of name (bare w.payload)) in
+      gone_on marks.FieldsOpen level octets rest at before now (λ ss. frames.Named ss ms name) nows.Ready (field_depths ms) (sum (map field_nodes ms) + 1) x is next (λ ss. frames.Fields ss (ms ++ field_of name (bare w.payload) ∷ [])) nows.After j (depth (bare w.payload)) (nodes (bare w.payload)) _ _
+      (field_value level rest j now next w ms name) w.within w.used w.deep w.noted.left w.noted.counted (field_deepest-more ms (field_of name (bare w.payload))) (omega arith)
+
+-- up to the close
+module _ (level : ℕ) (octets rest : List ℕ) (at : ℕ) (before now : Tally) (is : rest ≡ drop at octets) (some : 0 < length rest) where
+  closer : (n : ℕ) → get_or rest 0 0 ≡ n → get_or octets at 0 ≡ n
+  closer n e = sym (at_drop at octets) ∙ (ap (λ w. get_or w 0 0) (sym is) ∙ e)
+
+  inside : at < length octets
+  inside = let size : length rest ≡ length octets - at = ap (λ (w : List ℕ). length w) is ∙ length-drop at octets in omega arith
+
+  pub list_inside : (vs : List Value) (b : Bool) → ListGone level octets at before now vs b → get_or rest 0 0 ≡ 93 → WalkedInside marks.ListOpen level octets at before now
+  list_inside vs b x e =
+      let deep = depth-list [] vs in
+      let many = nodes-bare (payloads.List vs) _ (views.outs-List vs) in
+      let few = x.few in
+      let left = x.left in
+      let counted = x.counted in
+      record {
+        payload = payloads.List vs;
+        whole = λ ss. frames.List ss vs;
+        now = element_now b;
+        leads = x.leads;
+        closes = λ ss fs. element_closes b ss vs fs;
+        closed = λ g item end start c ss fs. refl;
+        within = inside;
+        close = closer 93 e;
+        used = x.used;
+        some = omega arith;
+        deep = omega arith;
+        kind = ap layer_kind (views.outs-List vs);
+        left = omega arith;
+        counted = omega arith;
+      }
+
+  pub sexp_inside : (vs : List Value) → SexpGone level octets at before now vs → get_or rest 0 0 ≡ 41 → WalkedInside marks.SexpOpen level octets at before now
+  sexp_inside vs x e =
+      let deep = depth-sexp [] vs in
+      let many = nodes-bare (payloads.Sexp vs) _ (views.outs-Sexp vs) in
+      let few = x.few in
+      let left = x.left in
+      let counted = x.counted in
+      record {
+        payload = payloads.Sexp vs;
+        whole = λ ss. frames.Sexp ss vs;
+        now = nows.Ready;
+        leads = x.leads;
+        closes = λ ss fs. refl;
+        closed = λ g item end start c ss fs. refl;
+        within = inside;
+        close = closer 41 e;
+        used = x.used;
+        some = omega arith;
+        deep = omega arith;
+        kind = ap layer_kind (views.outs-Sexp vs);
+        left = omega arith;
+        counted = omega arith;
+      }
+
+  pub fields_inside : (ms : List Field) (b : Bool) → FieldsGone level octets at before now ms b → get_or rest 0 0 ≡ 125 → WalkedInside marks.FieldsOpen level octets at before now
+  fields_inside ms b x e =
+      let deep = depth-struct [] ms in
+      let many = nodes-bare (payloads.Fields ms) _ (views.outs-Fields ms) in
+      let few = x.few in
+      let left = x.left in
+      let counted = x.counted in
+      record {
+        payload = payloads.Fields ms;
+        whole = λ ss. frames.Fields ss ms;
+        now = field_now b;
+        leads = x.leads;
+        closes = λ ss fs. field_closes b ss ms fs;
+        closed = λ g item end start c ss fs. refl;
+        within = inside;
+        close = closer 125 e;
+        used = x.used;
+        some = omega arith;
+        deep = omega arith;
+        kind = ap layer_kind (views.outs-Fields ms);
+        left = omega arith;
+        counted = omega arith;
+      }

@@ -1,0 +1,75 @@
+-- Values that are gone over and not built.
+use Rattle.std.proofs.Common.{◌≡◌, ℕ, Bool, true, false, List, Option, Some, Ok, refl, ap, ◌∙◌}
+use Rattle.std.specs.Prelude.{if◌then◌else◌, codes}
+use Rattle.std.specs.Str.{bytes_eq}
+use Rattle.std.proofs.lemmas.Bool.{cond-true, cond-false}
+use Rattle.ion_model.specs.declared.kind.Kind.{Kind}
+use Rattle.ion_model.specs.declared.kind.Kind.TheVariants as sorts
+use Rattle.ion_model.specs.declared.value.Payload.{Payload}
+use Rattle.ion_model.specs.declared.value.Payload.TheVariants as payloads
+use Rattle.ion_model.specs.declared.value.Payload.TheViews as views
+use Rattle.ion_model.specs.Kinds.{layer_kind}
+use Rattle.ion_model.specs.Measures.{Layer, bare}
+use Rattle.ion_model.specs.laws.Measures.{depth-out, nodes-bare, layer_depth, layer_nodes}
+use Rattle.ion_scalar.specs.declared.number.Number.{Number}
+use Rattle.ion_scalar.specs.declared.number.Number.TheVariants as numbers
+use Rattle.ion_text.specs.Grammar.{is_version, the_marker}
+use Rattle.ion_text.specs.declared.state.Held.TheVariants as helds
+use Rattle.ion_text.specs.machine.EachToken.{held_word, held_payload, number_payload}
+use Rattle.ion_text.specs.machine.Walked.{IsFlat}
+
+-- values without others in them
+
+flat : (p : Payload) (d : Layer) (k : Kind) → views.out-Payload p ≡ d → layer_depth d ≡ 0 → layer_nodes d ≡ 1 → layer_kind d ≡ k → IsFlat p k
+flat p d k e deep one kind = record {
+  sort = ap layer_kind e ∙ kind;
+  deep = depth-out (bare p) ∙ (ap layer_depth e ∙ deep);
+  counted = nodes-bare p d e ∙ one;
+}
+
+pub flat_null : (k : Kind) → IsFlat (payloads.Null k) k
+flat_null k = flat (payloads.Null k) _ k (views.outs-Null k) refl refl refl
+
+pub flat_truth : (b : Bool) → IsFlat (payloads.Truth b) sorts.Bool
+flat_truth b = flat (payloads.Truth b) _ sorts.Bool (views.outs-Truth b) refl refl refl
+
+pub flat_symbol : (s : Option (List ℕ)) → IsFlat (payloads.Symbol s) sorts.Symbol
+flat_symbol s = flat (payloads.Symbol s) _ sorts.Symbol (views.outs-Symbol s) refl refl refl
+
+pub flat_text : (w : List ℕ) → IsFlat (payloads.Str w) sorts.Str
+flat_text w = flat (payloads.Str w) _ sorts.Str (views.outs-Str w) refl refl refl
+
+pub flat_clob : (w : List ℕ) → IsFlat (payloads.Clob w) sorts.Clob
+flat_clob w = flat (payloads.Clob w) _ sorts.Clob (views.outs-Clob w) refl refl refl
+
+pub flat_blob : (w : List ℕ) → IsFlat (payloads.Blob w) sorts.Blob
+flat_blob w = flat (payloads.Blob w) _ sorts.Blob (views.outs-Blob w) refl refl refl
+
+abbrev pub number_sort : Number → Kind
+number_sort (numbers.Int z) = sorts.Int
+number_sort (numbers.Decimal d) = sorts.Decimal
+number_sort (numbers.Timestamp t) = sorts.Timestamp
+
+pub flat_number : (n : Number) → IsFlat (number_payload n) (number_sort n)
+flat_number (numbers.Int z) = flat (payloads.Int z) _ sorts.Int (views.outs-Int z) refl refl refl
+flat_number (numbers.Decimal d) = flat (payloads.Decimal d) _ sorts.Decimal (views.outs-Decimal d) refl refl refl
+flat_number (numbers.Timestamp t) = flat (payloads.Timestamp t) _ sorts.Timestamp (views.outs-Timestamp t) refl refl refl
+
+-- words
+
+module _ (w : List ℕ) where
+  pub word_null : bytes_eq w (codes "null") ≡ true → held_payload (held_word w) ≡ Ok (payloads.Null sorts.Null)
+  word_null e = ap held_payload (cond-true _ _ _ e)
+
+  pub word_true : bytes_eq w (codes "null") ≡ false → bytes_eq w (codes "true") ≡ true → held_payload (held_word w) ≡ Ok (payloads.Truth true)
+  word_true n e = ap held_payload (cond-false _ _ _ n ∙ cond-true _ _ _ e)
+
+  pub word_false : bytes_eq w (codes "null") ≡ false → bytes_eq w (codes "true") ≡ false → bytes_eq w (codes "false") ≡ true → held_payload (held_word w) ≡ Ok (payloads.Truth false)
+  word_false n t e = ap held_payload (cond-false _ _ _ n ∙ (cond-false _ _ _ t ∙ cond-true _ _ _ e))
+
+  pub word_symbol : bytes_eq w (codes "null") ≡ false → bytes_eq w (codes "true") ≡ false → bytes_eq w (codes "false") ≡ false → bytes_eq w (codes "nan") ≡ false → held_payload (held_word w) ≡ Ok (payloads.Symbol (Some w))
+  word_symbol n t f a = ap held_payload (cond-false _ _ _ n ∙ (cond-false _ _ _ t ∙ (cond-false _ _ _ f ∙ cond-false _ _ _ a))) ∙ by (is_version w)
+    where
+      by : (b : Bool) → held_payload (if b then helds.Version (bytes_eq w the_marker) (Some w) else helds.Symbol (Some w)) ≡ Ok (payloads.Symbol (Some w))
+      by true = refl
+      by false = refl

@@ -1,0 +1,19 @@
+use Rattle.std.proofs.Common.{◌-◌, take, drop, refl, Some}
+use Rattle.ion_model.specs.declared.value.Payload.TheVariants as payloads
+use Rattle.ion_tokens.specs.Bodies.{Quoted}
+use Rattle.ion_text.proofs.Symbols.{quoted_says}
+use Rattle.ion_text.proofs.Walks.{flat_symbol}
+use Rattle.ion_text.proofs.reader.walks.quoted_at.Goals as goal
+
+pub returns : goal.returns
+returns c = λ here rest.
+    let kept = take (c.in_ok-count.count - 2) (drop 1 c.args.octets.now) in
+    record {
+      kept = kept;
+      content = Quoted kept;
+      payload = payloads.Symbol (Some kept);
+      found = c.in_ok-count.ensures.found here rest;
+      says = quoted_says kept c.in_ok-count.ensures.text;
+      is = refl;
+      flat = flat_symbol (Some kept);
+    }

@@ -1,0 +1,19 @@
+use Rattle.std.proofs.Common.{◌-◌, take, drop, refl}
+use Rattle.ion_model.specs.declared.value.Payload.TheVariants as payloads
+use Rattle.ion_tokens.specs.Bodies.{Short}
+use Rattle.ion_text.proofs.Arms.{short_says}
+use Rattle.ion_text.proofs.Walks.{flat_text}
+use Rattle.ion_text.proofs.reader.walks.string_at.Goals as goal
+
+pub returns : goal.returns
+returns c = λ here rest.
+    let kept = take (c.in_ok-count.count - 2) (drop 1 c.args.octets.now) in
+    record {
+      kept = kept;
+      content = Short kept;
+      payload = payloads.Str kept;
+      found = c.in_ok-count.ensures.found here rest;
+      says = short_says kept c.in_ok-count.ensures.text;
+      is = λ g depth item end start slots fs ss. refl;
+      flat = flat_text kept;
+    }

@@ -1,0 +1,34 @@
+use Rattle.std.proofs.Common.{rules, ◌≡◌, true, false, Some}
+use Rattle.std.specs.Prelude.{codes}
+use Rattle.std.specs.Str.{bytes_eq}
+use Rattle.ion_model.specs.declared.kind.Kind.TheVariants as kinds
+use Rattle.ion_model.specs.declared.value.Payload.TheVariants as payloads
+use Rattle.ion_text.proofs.Walks.{flat_null, flat_truth, flat_symbol, word_null, word_true, word_false, word_symbol}
+use Rattle.ion_text.proofs.reader.walks.word_kind.Goals as goal
+use Rattle.ion_text.proofs.reader.walks.word_kind.Goals.{then-eq-2-via-then-eq-2, then-eq-2-via-else-eq-2+then-eq-3}
+
+pub returns-then-eq : goal.returns-then-eq
+returns-then-eq c =
+    let null : bytes_eq c.args.word.now (codes "null") ≡ true = search rules in
+    (payloads.Null kinds.Null, word_null c.args.word.now null, flat_null kinds.Null)
+
+pub returns-then-eq-2 : goal.returns-then-eq-2
+returns-then-eq-2 c =
+    let null : bytes_eq c.args.word.now (codes "null") ≡ false = search rules in
+    elim c.then-eq-2.branch [
+      | then-eq-2-via-then-eq-2 w ↦
+          let is : bytes_eq c.args.word.now (codes "true") ≡ true = search rules in
+          (payloads.Truth true, word_true c.args.word.now null is, flat_truth true)
+      | then-eq-2-via-else-eq-2+then-eq-3 w ↦
+          let no : bytes_eq c.args.word.now (codes "true") ≡ false = search rules in
+          let is : bytes_eq c.args.word.now (codes "false") ≡ true = search rules in
+          (payloads.Truth false, word_false c.args.word.now null no is, flat_truth false)
+    ]
+
+pub returns : goal.returns
+returns c =
+    let null : bytes_eq c.args.word.now (codes "null") ≡ false = search rules in
+    let yes : bytes_eq c.args.word.now (codes "true") ≡ false = search rules in
+    let no : bytes_eq c.args.word.now (codes "false") ≡ false = search rules in
+    let nan : bytes_eq c.args.word.now (codes "nan") ≡ false = search rules in
+    (payloads.Symbol (Some c.args.word.now), word_symbol c.args.word.now null yes no nan, flat_symbol (Some c.args.word.now))

@@ -1,0 +1,16 @@
+use Rattle.std.proofs.Common.{◌≡◌, ◌≢◌, ◌∙◌, ap, sym, arith, take, get_or, Some, false, refl}
+use Rattle.ion_tokens.specs.declared.mode.Place.TheVariants as places
+use Rattle.ion_text.specs.Grammar.{is_keyword}
+use Rattle.ion_text.proofs.Symbols as symbols
+use Rattle.ion_text.proofs.reader.walks.word_name.Goals as goal
+
+pub returns : goal.returns
+returns c = λ rest.
+    let octets = c.args.octets.now in
+    let n = c.in_ok-count.count in
+    let first : get_or octets 0 0 ≢ 36 = λ e. omega (arith, e, c.if-octets-eq36.false) in
+    let free : is_keyword (take n octets) ≡ false = ap is_keyword (sym c.from_utf8_unchecked.ensures) ∙ (sym c.is_keyword.ensures ∙ c.if-is_keyword.false) in
+    record {
+      name = Some (take n octets);
+      begins = symbols.word_name places.Name rest octets n (Some (take n octets)) (c.in_ok-count.ensures.found places.Name rest) c.in_ok-count.ensures.text first free refl;
+    }

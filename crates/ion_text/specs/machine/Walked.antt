@@ -1,0 +1,170 @@
+-- What a walk over octets in memory finds of a value that it doesn't build.
+use Rattle.std.specs.Prelude.{◌≡◌, ◌+◌, ◌-◌, ◌^◌, ◌≤◌, ◌<◌, ℕ, suc, min, Bool, true, false, List, [], ◌∷◌, length, drop, get_or, Option, None, Ok}
+use Rattle.ion_model.specs.declared.kind.Kind.{Kind}
+use Rattle.ion_model.specs.declared.kind.Kind.TheVariants as kinds
+use Rattle.ion_model.specs.declared.value.Field.{Field}
+use Rattle.ion_model.specs.declared.value.Payload.{Payload}
+use Rattle.ion_model.specs.Kinds.{kind_of}
+use Rattle.ion_model.specs.Measures.{depth, nodes, bare, annotated}
+use Rattle.ion_symtab.specs.declared.limits.Limits.{Limits}
+use Rattle.ion_symtab.specs.declared.catalog.Catalog.{Catalog}
+use Rattle.ion_symtab.specs.Slots.{Slot}
+use Rattle.ion_tokens.specs.declared.beside.FoundToken.{FoundToken}
+use Rattle.ion_tokens.specs.declared.mode.Place.{Place}
+use Rattle.ion_tokens.specs.declared.mode.Place.TheVariants as places
+use Rattle.ion_tokens.specs.declared.mode.Mark.{Mark}
+use Rattle.ion_tokens.specs.declared.mode.Mark.TheVariants as marks
+use Rattle.ion_tokens.specs.declared.mode.TokenKind.TheVariants as tokens
+use Rattle.ion_tokens.specs.declared.whole.Rest.{Rest}
+use Rattle.ion_tokens.specs.Bodies.{Content}
+use Rattle.ion_tokens.specs.machine.Rests.{resting, past_token, IsFound}
+use Rattle.ion_tokens.specs.machine.Said.{said}
+use Rattle.ion_tokens.specs.machine.Views.{scanned}
+use Rattle.ion_text.specs.declared.reader.TextReader.{TextReader}
+use Rattle.ion_text.specs.declared.reader.walks.Scalar.{Scalar}
+use Rattle.ion_text.specs.declared.reader.walks.Tally.{Tally}
+use Rattle.ion_text.specs.declared.state.Frame.{Frame}
+use Rattle.ion_text.specs.declared.state.Frame.TheVariants as frames
+use Rattle.ion_text.specs.declared.state.Now.{Now}
+use Rattle.ion_text.specs.declared.state.Now.TheVariants as nows
+use Rattle.ion_text.specs.laws.reading.FrontTokens.{held_of, Pays, BeginsName}
+use Rattle.ion_text.specs.machine.EachToken.{Symbols, at, place_in, on_ready, ended}
+use Rattle.ion_text.specs.machine.AtOnce.{Passes}
+use Rattle.ion_text.specs.machine.Nested.{closes, closed, close_octet}
+use Rattle.ion_text.specs.machine.Run.{State, is_top, with_scan}
+use Rattle.ion_text.specs.machine.Views.{open_frames, Puts, IsFine}
+
+-- no item is open and no octet is awaited, and the scanner rests there
+pub record IsFresh (r : TextReader) (rest : Rest) : Type 0 where
+  pub rests : scanned r.scanner ≡ resting rest
+  pub fine : IsFine r
+  pub top : open_frames r ≡ []
+  pub bare : r.notes ≡ []
+  pub ready : r.stage ≡ nows.Ready
+  pub awaited : r.awaited ≡ None
+
+-- the most nodes that are counted
+abbrev pub most : ℕ
+most = 2 ^ 64 - 1
+
+-- a value of this kind without others in it
+pub record IsFlat (payload : Payload) (kind : Kind) : Type 0 where
+  pub sort : kind_of (bare payload) ≡ kind
+  pub deep : depth (bare payload) ≡ 0
+  pub counted : nodes (bare payload) ≡ 1
+
+-- what is said is this value at once
+abbrev pub Ends : Content → Payload → Type 0
+Ends c payload = (g : Catalog) (depth item end start : ℕ) (slots : List Slot) (fs : List Frame) (ss : Symbols)
+    → on_ready g depth item end start slots fs ss c ≡ ended g item end start slots fs (annotated ss payload)
+
+-- what is said is this value; where it waits, unless `::` follows
+abbrev pub IsValue : Bool → Content → Payload → Type 0
+IsValue true c payload = Pays (held_of c) payload
+IsValue false c payload = Ends c payload
+
+-- in this place octets begin with this token, which is such a value
+pub record FoundScalar (p : Place) (r : Rest) (octets : List ℕ) (s : Scalar) : Type 0 where
+  pub kept : List ℕ
+  pub content : Content
+  pub payload : Payload
+  pub found : IsFound p r octets s.token.kind kept s.token.count s.token.left
+  pub says : said s.token.kind kept ≡ Ok content
+  pub is : IsValue s.waits content payload
+  pub flat : IsFlat payload s.kind
+
+-- octets begin with this token, which is the name of a field
+pub record FoundName (r : Rest) (octets : List ℕ) (token : FoundToken) : Type 0 where
+  pub name : Option (List ℕ)
+  pub begins : BeginsName places.Name r octets token name
+
+-- a scanner that rests, and what the reader of tokens holds
+abbrev pub rested : Rest → ℕ → List Slot → List Frame → Symbols → Now → State
+rested r start c fs ss now = with_scan (resting r) (at start c fs ss now)
+
+-- Where so many levels are left behind the innermost container, so many octets lead from one state of it to another.
+abbrev pub Leads : ℕ → Rest → List ℕ → ℕ → Rest → (Symbols → Frame) → Now → (Symbols → Frame) → Now → Type 0
+Leads level before octets count after f m h n = (g : Catalog) (l : Limits) (start : ℕ) (c : List Slot) (ss : Symbols) (fs : List Frame)
+    → length fs + suc level ≤ l.depth → before.used + length octets ≤ l.item + start
+    → Passes g l (rested before start c (f ss ∷ fs) [] m) octets count (rested after start c (h ss ∷ fs) [] n)
+
+-- Where a value may come in such a place, and so many levels are left, so many octets lead behind the value.
+abbrev pub LeadsBehind : Place → ℕ → Rest → List ℕ → ℕ → Rest → Payload → Type 0
+LeadsBehind p level before octets count after payload = (g : Catalog) (l : Limits) (start : ℕ) (c : List Slot) (ss : Symbols) (fs those : List Frame) (n : Now)
+    → is_top fs ≡ false → place_in fs nows.Ready ≡ p → length fs + level ≤ l.depth → before.used + length octets ≤ l.item + start → Puts fs (annotated ss payload) (Ok n) those
+    → Passes g l (rested before start c fs ss nows.Ready) octets count (rested after start c those [] n)
+
+-- what is noted of a value, where there may be so many levels
+pub record Noted (level : ℕ) (payload : Payload) (before after : Tally) : Type 0 where
+  pub kind : after.kind ≡ kind_of (bare payload)
+  pub left : after.level ≡ min before.level (level - depth (bare payload))
+  pub counted : min after.nodes most ≡ min (before.nodes + nodes (bare payload)) most
+
+-- octets begin with a value of at most so many levels
+pub record Walked (p : Place) (level : ℕ) (octets : List ℕ) (count : ℕ) (before after : Tally) : Type 0 where
+  pub payload : Payload
+  pub leads : LeadsBehind p level before.rest octets count after.rest payload
+  pub within : count ≤ length octets
+  pub used : after.rest.used ≡ before.rest.used + count
+  pub deep : depth (bare payload) ≤ level
+  pub noted : Noted level payload before after
+
+-- what opens a container, what closes it, and of which kind it is
+abbrev pub close_of : Mark → Mark
+close_of marks.ListOpen = marks.ListClose
+close_of marks.SexpOpen = marks.SexpClose
+close_of _ = marks.FieldsClose
+
+abbrev pub kind_of_open : Mark → Kind
+kind_of_open marks.ListOpen = kinds.List
+kind_of_open marks.SexpOpen = kinds.Sexp
+kind_of_open _ = kinds.Fields
+
+-- the container behind its open, and what may come there
+abbrev pub opened : Mark → Symbols → Frame
+opened marks.ListOpen ss = frames.List ss []
+opened marks.SexpOpen ss = frames.Sexp ss []
+opened _ ss = frames.Fields ss []
+
+abbrev pub first_now : Mark → Now
+first_now marks.ListOpen = nows.Ready
+first_now marks.SexpOpen = nows.Ready
+first_now _ = nows.Name
+
+-- behind the open of a container octets lead up to its close, where it is this value of at most so many levels more
+pub record WalkedInside (m : Mark) (level : ℕ) (octets : List ℕ) (count : ℕ) (before after : Tally) : Type 0 where
+  pub payload : Payload
+  pub whole : Symbols → Frame
+  pub now : Now
+  pub leads : Leads level before.rest octets count after.rest (opened m) (first_now m) whole now
+  pub closes : (ss : Symbols) (fs : List Frame) → closes (close_of m) (whole ss ∷ fs) now ≡ true
+  pub closed : (g : Catalog) (item end start : ℕ) (c : List Slot) (ss : Symbols) (fs : List Frame)
+      → closed (close_of m) g item end start c (whole ss ∷ fs) ≡ ended g item end start c fs (annotated ss payload)
+  pub within : count < length octets
+  pub close : get_or octets count 0 ≡ close_octet (close_of m)
+  pub used : after.rest.used ≡ before.rest.used + count
+  pub some : 0 < depth (bare payload)
+  pub deep : depth (bare payload) ≤ suc level
+  pub kind : kind_of (bare payload) ≡ kind_of_open m
+  pub left : after.level ≡ min before.level (suc level - depth (bare payload))
+  pub counted : min (after.nodes + 1) most ≡ min (before.nodes + nodes (bare payload)) most
+
+-- octets begin with an open and end with its close, between which it is such a value
+pub record WalkedContainer (p : Place) (m : Mark) (level : ℕ) (octets : List ℕ) (count : ℕ) (before after : Tally) : Type 0 where
+  pub some : 0 < level
+  pub first : Tally
+  pub last : Tally
+  pub behind : ℕ
+  pub inside : WalkedInside m (level - 1) (drop 1 octets) behind first last
+  pub opens : first ≡ record { kind = before.kind; level = min before.level (level - 1); nodes = before.nodes; rest = past_token p before.rest (tokens.Mark m) 1 }
+  pub shuts : after ≡ record { kind = kind_of_open m; level = last.level; nodes = min (last.nodes + 1) most; rest = past_token p last.rest (tokens.Mark (close_of m)) 1 }
+  pub total : count ≡ behind + 2
+
+-- octets begin with the name of a field, the colon behind it, and a blank
+pub record WalkedName (octets : List ℕ) (count : ℕ) (before after : Tally) : Type 0 where
+  pub name : Option (List ℕ)
+  pub leads : (level : ℕ) (ms : List Field) → Leads level before.rest octets count after.rest (λ ss. frames.Fields ss ms) nows.Name (λ ss. frames.Named ss ms name) nows.Ready
+  pub within : count ≤ length octets
+  pub used : after.rest.used ≡ before.rest.used + count
+  pub left : after.level ≡ before.level
+  pub counted : min after.nodes most ≡ min (before.nodes + 1) most

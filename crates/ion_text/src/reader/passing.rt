@@ -1,0 +1,80 @@
+//! Values of the top level that lie whole in a piece and are passed over.
+ghost use Rattle.std.specs.Prelude.{◌≡◌, ◌+◌, ◌<◌, ◌^◌, [], length, take, min, IfSome, IsNone, Ok, Some};
+ghost use Rattle.std.specs.Option.{is_some};
+ghost use Rattle.ion_model.specs.declared.value.Value.{Value};
+ghost use Rattle.ion_model.specs.Outlines.{outline_of};
+ghost use Rattle.ion_tokens.specs.declared.beside.TokenReader.{TokenReader};
+ghost use Rattle.ion_tokens.specs.machine.Views.{scanned};
+ghost use Rattle.ion_text.specs.machine.Progress.{Advances, SameSettings, StaysSteady};
+ghost use Rattle.ion_text.specs.machine.Views.{state_of, with_beside, IsFine};
+ghost use Rattle.ion_text.specs.machine.Walked.{IsFresh};
+
+use super::TextReader;
+use super::walks::{Tally, walk_container};
+use crate::state::Now;
+use ion_model::Outline;
+use ion_tokens::{Mark, Place, Rest, blanks};
+
+// Octets up to so many.
+fn up_to(octets: &[u8], most: u64) -> &[u8]
+    ensures { result.now ≡ take (min (length octets.now) most) octets.now }
+{
+    if (octets.len() as u64) < most {
+        octets
+    } else {
+        &octets[..most as usize]
+    }
+}
+
+impl TextReader<'_> {
+    /// Where the scanner rests, if no item is open and no octet is awaited.
+    fn fresh_rest(&self) -> Option<Rest>
+        ensures { IfSome result (λ rest. IsFresh self.now rest) }
+    {
+        match (self.frames.last(), &self.stage, self.awaited) {
+            (None, Now::Ready, None) => {}
+            _ => return None,
+        }
+        if self.has_notes() {
+            return None;
+        }
+        self.scanner.rest()
+    }
+
+    /// Takes up a blank and the struct behind it at the front of a piece without building that: how many octets they
+    /// have, and its outline. `None`, with nothing taken up, where an item is open, or
+    /// the value isn't whole, may not stand here or is in any way unusual.
+    pub(super) fn walk(&mut self, piece: &[u8]) -> Option<(usize, Outline)>
+        requires room { (scanned self.old.scanner).used + length piece.now < 2 ^ 63 }
+        ensures gives { IfSome result (λ found. (v : Value) × (outline_of v ≡ found.1)
+            × Advances self.old.catalog.now self.old.limits (is_some self.old.awaited)
+            (scanned self.old.scanner).used (state_of self.old) piece.now
+            (Ok (record { used = found.0; value = Some v })) self.new.awaited (state_of self.new)) }
+        ensures used { IfSome result (λ found.
+            (scanned self.new.scanner).used ≡ (scanned self.old.scanner).used + found.0) }
+        ensures none { IsNone result → (b : TokenReader) × (self.new ≡ with_beside self.old b) }
+        ensures fine { IsFine self.old → IsFine self.new }
+        ensures steady { StaysSteady self.old self.new }
+        ensures setting { SameSettings self.old self.new }
+    {
+        let rest = self.fresh_rest()?;
+        let before = blanks(up_to(piece, self.limits.item));
+        let item = up_to(&piece[before..], self.limits.item);
+        if item.len() < 2 || item[0] != b'{' || item[1] == b'{' {
+            return None;
+        }
+        let depth = self.limits.depth;
+        let mut tally = Tally::new(depth, rest.past_blank(before));
+        let count = walk_container(
+            &mut self.beside,
+            Place::Top,
+            Mark::FieldsOpen,
+            item,
+            depth,
+            &mut tally,
+        )?;
+        self.scanner.move_to(tally.rest);
+        self.start = 0;
+        Some((before + count, tally.outline(depth)))
+    }
+}
