@@ -41,7 +41,7 @@ use Rattle.ion_text.specs.machine.Pieces.{Quiet}
 use Rattle.ion_text.specs.machine.Nested.{Opens, closes}
 use Rattle.ion_text.specs.machine.Views.{IsCalm}
 use Rattle.ion_text.specs.machine.AtOnce.{Passes, IsStill}
-use Rattle.ion_text.specs.machine.Walked.{Ends, IsValue, most, FoundScalar, FoundName, rested, Leads, LeadsBehind, Noted, Walked, WalkedContainer, WalkedInside, WalkedName, close_of, opened, first_now}
+use Rattle.ion_text.specs.machine.Walked.{behind_key, Ends, IsValue, most, FoundScalar, FoundName, rested, Leads, LeadsBehind, Noted, Walked, WalkedContainer, WalkedInside, WalkedName, close_of, opened, first_now}
 use Rattle.ion_text.proofs.Arms.{StaysIn, ready_turns, ended_stays, left_passes, given_passes, mark_says, at_drop, blank_used}
 use Rattle.ion_text.proofs.Nested.{is_left, open_found, close_found, closing}
 use Rattle.ion_text.proofs.Passing.{passes_none, passes_on, passes_blank, calm_quiet}
@@ -128,34 +128,31 @@ blank_leads level r octets n f now passed within still = λ g l start c ss fs de
 -- a field's name and its colon
 module _ (rest : Rest) (octets : List ℕ) (token : FoundToken) (f : FoundName rest octets token) (m : ℕ) (within : token.count + m + 1 < length octets) (passed : IsPassed (drop token.count octets) m)
     (colon : get_or octets (token.count + m) 0 ≡ 58) (one : get_or octets (token.count + m + 1) 0 ≢ 58) where
-  abbrev pub behind_key : Rest
-  behind_key = past_token places.Name (past_blank (past_token places.Name rest token.kind token.count) m) (kinds.Mark marks.Colon) 1
-
-  key_leads : (level : ℕ) (ms : List Field) → Leads level rest octets (token.count + m + 1) behind_key (λ ss. frames.Fields ss ms) nows.Name (λ ss. frames.Named ss ms f.name) nows.Ready
+  key_leads : (level : ℕ) (ms : List Field) → Leads level rest octets (token.count + m + 1) (behind_key rest token m) (λ ss. frames.Fields ss ms) nows.Name (λ ss. frames.Named ss ms f.name) nows.Ready
   key_leads level ms = λ g l start c ss fs deep room.
       name_passes g l (at start c (frames.Fields ss ms ∷ fs) [] nows.Name) refl rest octets token.kind f.begins.kept token.count m token.left f.begins.content room (omega arith) f.begins.found f.begins.says passed tt tt refl
       (at start c (frames.Named ss ms f.name ∷ fs) [] nows.Ready) within f.name f.begins.names colon one refl
 
-  key_used : behind_key.used ≡ rest.used + (token.count + m + 1)
+  key_used : (behind_key rest token m).used ≡ rest.used + (token.count + m + 1)
   key_used = let used = blank_used (past_token places.Name rest token.kind token.count) m in omega arith
 
   -- with a blank behind it, and what is noted
   pub walked_name : (before mid after : Tally) (n : ℕ) (behind : List ℕ) → before.rest ≡ rest → behind ≡ drop (token.count + m + 1) octets → n ≤ length behind → IsPassed behind n
-      → mid ≡ record { kind = before.kind; level = before.level; nodes = min (before.nodes + 1) most; rest = behind_key } → after ≡ record { kind = mid.kind; level = mid.level; nodes = mid.nodes; rest = past_blank mid.rest n }
+      → mid ≡ record { kind = before.kind; level = before.level; nodes = min (before.nodes + 1) most; rest = (behind_key rest token m) } → after ≡ record { kind = mid.kind; level = mid.level; nodes = mid.nodes; rest = past_blank mid.rest n }
       → WalkedName octets (token.count + m + 1 + n) before after
   walked_name before mid after n behind same is few blank em ea =
       let size : length behind ≡ length octets - (token.count + m + 1) = ap (λ (w : List ℕ). length w) is ∙ length-drop (token.count + m + 1) octets in
       let begun : before.rest.used ≡ rest.used = ap (λ (r : Rest). r.used) same in
       let counted = key_used in
-      let last = blank_used behind_key n in
+      let last = blank_used (behind_key rest token m) n in
       rw (ea, em) (record {
         name = f.name;
         leads = λ level ms.
-            subst (λ r. Leads level r octets (token.count + m + 1 + n) (past_blank behind_key n) (λ ss. frames.Fields ss ms) nows.Name (λ ss. frames.Named ss ms f.name) nows.Ready) (sym same)
-            (leads_on level rest behind_key (past_blank behind_key n) octets (token.count + m + 1) n (λ ss. frames.Fields ss ms) (λ ss. frames.Named ss ms f.name) (λ ss. frames.Named ss ms f.name) nows.Name nows.Ready nows.Ready (omega arith) counted
+            subst (λ r. Leads level r octets (token.count + m + 1 + n) (past_blank (behind_key rest token m) n) (λ ss. frames.Fields ss ms) nows.Name (λ ss. frames.Named ss ms f.name) nows.Ready) (sym same)
+            (leads_on level rest (behind_key rest token m) (past_blank (behind_key rest token m) n) octets (token.count + m + 1) n (λ ss. frames.Fields ss ms) (λ ss. frames.Named ss ms f.name) (λ ss. frames.Named ss ms f.name) nows.Name nows.Ready nows.Ready (omega arith) counted
             (key_leads level ms)
-            (subst (λ w. Leads level behind_key w n (past_blank behind_key n) (λ ss. frames.Named ss ms f.name) nows.Ready (λ ss. frames.Named ss ms f.name) nows.Ready) is
-            (blank_leads level behind_key behind n (λ ss. frames.Named ss ms f.name) nows.Ready blank few tt)));
+            (subst (λ w. Leads level (behind_key rest token m) w n (past_blank (behind_key rest token m) n) (λ ss. frames.Named ss ms f.name) nows.Ready (λ ss. frames.Named ss ms f.name) nows.Ready) is
+            (blank_leads level (behind_key rest token m) behind n (λ ss. frames.Named ss ms f.name) nows.Ready blank few tt)));
         within = omega arith;
         used = omega arith;
         left = refl;

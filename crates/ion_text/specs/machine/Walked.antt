@@ -17,7 +17,7 @@ use Rattle.ion_tokens.specs.declared.mode.Mark.TheVariants as marks
 use Rattle.ion_tokens.specs.declared.mode.TokenKind.TheVariants as tokens
 use Rattle.ion_tokens.specs.declared.whole.Rest.{Rest}
 use Rattle.ion_tokens.specs.Bodies.{Content}
-use Rattle.ion_tokens.specs.machine.Rests.{resting, past_token, IsFound}
+use Rattle.ion_tokens.specs.machine.Rests.{resting, past_blank, past_token, IsFound}
 use Rattle.ion_tokens.specs.machine.Said.{said}
 use Rattle.ion_tokens.specs.machine.Views.{scanned}
 use Rattle.ion_text.specs.declared.reader.TextReader.{TextReader}
@@ -84,14 +84,15 @@ rested r start c fs ss now = with_scan (resting r) (at start c fs ss now)
 
 -- Where so many levels are left behind the innermost container, so many octets lead from one state of it to another.
 abbrev pub Leads : ℕ → Rest → List ℕ → ℕ → Rest → (Symbols → Frame) → Now → (Symbols → Frame) → Now → Type 0
-Leads level before octets count after f m h n = (g : Catalog) (l : Limits) (start : ℕ) (c : List Slot) (ss : Symbols) (fs : List Frame)
-    → length fs + suc level ≤ l.depth → before.used + length octets ≤ l.item + start
+Leads level before octets count after f m h n = (g : Catalog) (l : Limits) (start : ℕ) (c : List Slot) (ss : Symbols)
+    (fs : List Frame) → length fs + suc level ≤ l.depth → before.used + length octets ≤ l.item + start
     → Passes g l (rested before start c (f ss ∷ fs) [] m) octets count (rested after start c (h ss ∷ fs) [] n)
 
 -- Where a value may come in such a place, and so many levels are left, so many octets lead behind the value.
 abbrev pub LeadsBehind : Place → ℕ → Rest → List ℕ → ℕ → Rest → Payload → Type 0
-LeadsBehind p level before octets count after payload = (g : Catalog) (l : Limits) (start : ℕ) (c : List Slot) (ss : Symbols) (fs those : List Frame) (n : Now)
-    → is_top fs ≡ false → place_in fs nows.Ready ≡ p → length fs + level ≤ l.depth → before.used + length octets ≤ l.item + start → Puts fs (annotated ss payload) (Ok n) those
+LeadsBehind p level before octets count after payload = (g : Catalog) (l : Limits) (start : ℕ) (c : List Slot) (ss : Symbols)
+    (fs those : List Frame) (n : Now) → is_top fs ≡ false → place_in fs nows.Ready ≡ p → length fs + level ≤ l.depth
+    → before.used + length octets ≤ l.item + start → Puts fs (annotated ss payload) (Ok n) those
     → Passes g l (rested before start c fs ss nows.Ready) octets count (rested after start c those [] n)
 
 -- what is noted of a value, where there may be so many levels
@@ -149,6 +150,23 @@ pub record WalkedInside (m : Mark) (level : ℕ) (octets : List ℕ) (count : �
   pub left : after.level ≡ min before.level (suc level - depth (bare payload))
   pub counted : min (after.nodes + 1) most ≡ min (before.nodes + nodes (bare payload)) most
 
+-- behind the open of a container, and behind its close
+abbrev pub behind_open : Place → Mark → ℕ → Tally → Tally
+behind_open p m level t = record {
+  kind = t.kind;
+  level = min t.level (level - 1);
+  nodes = t.nodes;
+  rest = past_token p t.rest (tokens.Mark m) 1;
+}
+
+abbrev pub behind_close : Place → Mark → Tally → Tally
+behind_close p m t = record {
+  kind = kind_of_open m;
+  level = t.level;
+  nodes = min (t.nodes + 1) most;
+  rest = past_token p t.rest (tokens.Mark (close_of m)) 1;
+}
+
 -- octets begin with an open and end with its close, between which it is such a value
 pub record WalkedContainer (p : Place) (m : Mark) (level : ℕ) (octets : List ℕ) (count : ℕ) (before after : Tally) : Type 0 where
   pub some : 0 < level
@@ -156,14 +174,19 @@ pub record WalkedContainer (p : Place) (m : Mark) (level : ℕ) (octets : List �
   pub last : Tally
   pub behind : ℕ
   pub inside : WalkedInside m (level - 1) (drop 1 octets) behind first last
-  pub opens : first ≡ record { kind = before.kind; level = min before.level (level - 1); nodes = before.nodes; rest = past_token p before.rest (tokens.Mark m) 1 }
-  pub shuts : after ≡ record { kind = kind_of_open m; level = last.level; nodes = min (last.nodes + 1) most; rest = past_token p last.rest (tokens.Mark (close_of m)) 1 }
+  pub opens : first ≡ behind_open p m level before
+  pub shuts : after ≡ behind_close p m last
   pub total : count ≡ behind + 2
+
+-- where a scanner rests behind a field's name, a blank of so many octets, and a colon
+abbrev pub behind_key : Rest → FoundToken → ℕ → Rest
+behind_key r token blank = past_token places.Name (past_blank (past_token places.Name r token.kind token.count) blank) (tokens.Mark marks.Colon) 1
 
 -- octets begin with the name of a field, the colon behind it, and a blank
 pub record WalkedName (octets : List ℕ) (count : ℕ) (before after : Tally) : Type 0 where
   pub name : Option (List ℕ)
-  pub leads : (level : ℕ) (ms : List Field) → Leads level before.rest octets count after.rest (λ ss. frames.Fields ss ms) nows.Name (λ ss. frames.Named ss ms name) nows.Ready
+  pub leads : (level : ℕ) (ms : List Field)
+      → Leads level before.rest octets count after.rest (λ ss. frames.Fields ss ms) nows.Name (λ ss. frames.Named ss ms name) nows.Ready
   pub within : count ≤ length octets
   pub used : after.rest.used ≡ before.rest.used + count
   pub left : after.level ≡ before.level

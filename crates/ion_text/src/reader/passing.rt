@@ -41,8 +41,8 @@ impl TextReader<'_> {
         self.scanner.rest()
     }
 
-    /// Takes up a blank and the struct behind it at the front of a piece without building that: how many octets they
-    /// have, and its outline. `None`, with nothing taken up, where an item is open, or
+    /// Takes up a blank and the struct behind it at the front of a piece without building that: how many
+    /// octets they have, and its outline. `None`, with nothing taken up, where an item is open, or
     /// the value isn't whole, may not stand here or is in any way unusual.
     pub(super) fn walk(&mut self, piece: &[u8]) -> Option<(usize, Outline)>
         requires room { (scanned self.old.scanner).used + length piece.now < 2 ^ 63 }

@@ -1,5 +1,5 @@
-//! Values that lie whole in a piece and that nobody asks for: they are judged and not built. What is cut, refused or
-//! unusual isn't told here: the reader takes it up token by token.
+//! Values that lie whole in a piece and that nobody asks for: they are judged and not built. What is
+//! cut, refused or unusual isn't told here: the reader takes it up token by token.
 ghost use Rattle.std.specs.Prelude.{◌≡◌, ◌+◌, ◌-◌, ◌≤◌, ◌<◌, ◌^◌, min, true, false, length, drop, get_or, IfSome, Ok};
 ghost use Rattle.ion_model.specs.declared.value.Payload.{Payload};
 ghost use Rattle.ion_model.specs.declared.kind.Kind.TheVariants as kinds;
@@ -13,7 +13,9 @@ ghost use Rattle.ion_tokens.specs.machine.Rests.{past_blank, past_token, IsPasse
 ghost use Rattle.ion_tokens.specs.Bodies.{content};
 ghost use Rattle.ion_text.specs.machine.EachToken.{held_word, held_payload, number_payload};
 ghost use Rattle.ion_text.specs.machine.Nested.{Opens};
-ghost use Rattle.ion_text.specs.machine.Walked.{IsFlat, IsValue, close_of, kind_of_open, FoundScalar, FoundName, Walked, WalkedContainer, WalkedInside, WalkedName};
+ghost use Rattle.ion_text.specs.machine.Walked.{IsFlat, IsValue, close_of, kind_of_open, behind_key};
+ghost use Rattle.ion_text.specs.machine.Walked.{FoundScalar, FoundName};
+ghost use Rattle.ion_text.specs.machine.Walked.{Walked, WalkedContainer, WalkedInside, WalkedName};
 
 use super::beside::may_be_rare;
 use super::nested::open_mark;
@@ -103,7 +105,8 @@ impl Tally {
           kind = scalar.kind;
           level = self.old.level;
           nodes = min (self.old.nodes + 1) (2 ^ 64 - 1);
-          rest = past_blank (past_token place self.old.rest scalar.token.kind scalar.token.count) blank;
+          rest = past_blank
+              (past_token place self.old.rest scalar.token.kind scalar.token.count) blank;
         } }
     {
         self.pass_token(place, scalar.token.kind, scalar.token.count);
@@ -112,7 +115,8 @@ impl Tally {
         scalar.token.count + blank
     }
 
-    /// Notes a field's name, and rests behind its token, a blank and a colon: how many octets they have.
+    /// Notes a field's name, and rests behind its token, a blank and a colon: how many octets they
+    /// have.
     #[inline(always)]
     fn pass_key(&mut self, token: FoundToken, blank: usize) -> usize
         requires room { self.old.rest.used + token.count + blank + 1 < 2 ^ 63 }
@@ -121,7 +125,7 @@ impl Tally {
           kind = self.old.kind;
           level = self.old.level;
           nodes = min (self.old.nodes + 1) (2 ^ 64 - 1);
-          rest = past_token places.Name (past_blank (past_token places.Name self.old.rest token.kind token.count) blank) (tokens.Mark marks.Colon) 1;
+          rest = behind_key self.old.rest token blank;
         } }
     {
         self.pass_token(Place::Name, token.kind, token.count);
@@ -289,7 +293,8 @@ fn number_at(octets: &[u8]) -> Option<Scalar>
     })
 }
 
-// What a token that isn't plain is as a value: its kind, and whether it would be an annotation if `::` followed.
+// What a token that isn't plain is as a value: its kind, and whether it would be an annotation if `::`
+// followed.
 fn rare_kind(body: &Body<'_>) -> Option<(Kind, bool)>
     ensures { IfSome result (λ found. (payload : Payload)
         × IsValue found.1 (content body.now) payload × IsFlat payload found.0) }
@@ -347,7 +352,8 @@ fn scalar_at(beside: &mut TokenReader, here: Place, rest: Rest, octets: &[u8]) -
     }
 }
 
-// Goes over a token there that is a value, and over the blank behind it that shows that it is no annotation.
+// Goes over a token there that is a value, and over the blank behind it that shows that it is no
+// annotation.
 fn walk_scalar(
     beside: &mut TokenReader,
     here: Place,
@@ -476,8 +482,8 @@ fn walk_comma(here: Place, octets: &[u8], tally: &mut Tally) -> Option<usize>
     Some(1)
 }
 
-/// Goes over the value at the front of octets, of at most so many levels: how many octets it has, with the blank behind it
-/// where that has to be seen.
+/// Goes over the value at the front of octets, of at most so many levels: how many octets it has, with the
+/// blank behind it where that has to be seen.
 #[cycle(walk)]
 fn walk_value(
     beside: &mut TokenReader,
