@@ -5,7 +5,6 @@ use Rattle.ion_model.specs.declared.value.Value.{Value}
 use Rattle.ion_model.specs.declared.refusal.Reason.TheVariants as reasons
 use Rattle.ion_symtab.specs.declared.limits.Limits.{Limits}
 use Rattle.ion_symtab.specs.declared.catalog.Catalog.{Catalog}
-use Rattle.ion_symtab.specs.Slots.{Slot}
 use Rattle.ion_tokens.specs.declared.mode.TokenKind.{TokenKind}
 use Rattle.ion_tokens.specs.declared.scanner.Scanner.{Scanner}
 use Rattle.ion_tokens.specs.declared.whole.Rest.{Rest}
@@ -34,10 +33,10 @@ use Rattle.ion_text.specs.declared.state.Frame.TheVariants as frames
 use Rattle.ion_text.specs.declared.state.Now.{Now}
 use Rattle.ion_text.specs.declared.state.Now.TheVariants as nows
 use Rattle.ion_text.specs.declared.reader.TextReader.{TextReader}
-use Rattle.ion_text.specs.machine.EachToken.{Reading, Turn, Symbols, goes, place, place_in, settle, turn, turn_now, begun_at, on_ready, on_after, on_comma, ended, released, paid, held_payload, named}
+use Rattle.ion_text.specs.machine.EachToken.{Setting, Spot, under, spot_at, spot_in, Reading, Turn, Symbols, goes, place, place_in, settle, turn, turn_now, begun_at, on_ready, on_after, on_comma, ended, released, paid, held_payload, named}
 use Rattle.ion_text.specs.machine.Run.{is_top, with_scan, token_of}
 use Rattle.ion_text.specs.machine.Pieces.{Quiet}
-use Rattle.ion_text.specs.machine.Views.{state_of, reading_of, open_frames, IsCalm, SameSetting}
+use Rattle.ion_text.specs.machine.Views.{setting_of, spot_of, state_of, reading_of, open_frames, IsCalm, SameSetting}
 use Rattle.ion_text.specs.machine.AtOnce.{Passes, IsStill, Inside, Strides}
 use Rattle.ion_text.proofs.Passing.{passes_blank, passes_left, passes_given, calm_quiet}
 use Rattle.ion_text.proofs.Striding.{still_settles}
@@ -47,13 +46,13 @@ begun_inner start begin [] ss h = absurd cc
 begun_inner start begin (f ∷ fs) ss h = refl
 
 module _ (g : Catalog) (l : Limits) where
-  pub ready_turns : (r : Reading) (x : Lexeme) (c : Content) → r.now ≡ nows.Ready → is_top r.frames ≡ false → turn g l r (token_of x c) ≡ on_ready g l.depth l.item x.end r.start r.context r.frames r.notes c
+  pub ready_turns : (r : Reading) (x : Lexeme) (c : Content) → r.now ≡ nows.Ready → is_top r.frames ≡ false → turn g l r (token_of x c) ≡ on_ready (under g l) (spot_in r x.end) r.frames r.notes c
   ready_turns r x c now inner =
-      ap (turn_now g l x.start x.end r.start r.context r.frames r.notes c) now
-      ∙ ap (λ s. on_ready g l.depth l.item x.end s r.context r.frames r.notes c) (begun_inner r.start x.start r.frames r.notes inner)
+      ap (turn_now (under g l) r (token_of x c)) now
+      ∙ ap (λ s. on_ready (under g l) (spot_at x.end s r.context) r.frames r.notes c) (begun_inner r.start x.start r.frames r.notes inner)
 
-  pub after_turns : (r : Reading) (x : Lexeme) (c : Content) → r.now ≡ nows.After → turn g l r (token_of x c) ≡ on_after g l.item x.end r.start r.context r.frames c
-  after_turns r x c now = ap (turn_now g l x.start x.end r.start r.context r.frames r.notes c) now
+  pub after_turns : (r : Reading) (x : Lexeme) (c : Content) → r.now ≡ nows.After → turn g l r (token_of x c) ≡ on_after (under g l) (spot_in r x.end) r.frames c
+  after_turns r x c now = ap (turn_now (under g l) r (token_of x c)) now
 
 -- behind a token a container is still open, in the same item, and nothing waits
 abbrev pub StaysIn : ℕ → Reading → Type 0
@@ -67,20 +66,20 @@ pub went : (P : Reading → Type 0) (a b : Reading) → goes a ≡ goes b → P 
 unfolding reading_in
 went P a b e h = subst P (ap (λ t. reading_in t a) e) h
 
-module _ (g : Catalog) (item end start : ℕ) (c : List Slot) (q : Reading) where
-  pub ended_stays : (fs : List Frame) (v : Value) → is_top fs ≡ false → ended g item end start c fs v ≡ goes q → StaysIn start q
+module _ (setting : Setting) (spot : Spot) (q : Reading) where
+  pub ended_stays : (fs : List Frame) (v : Value) → is_top fs ≡ false → ended setting spot fs v ≡ goes q → StaysIn spot.start q
   ended_stays [] v h e = absurd cc
-  ended_stays (frames.List ss vs ∷ fs) v h e = went (StaysIn start) _ q e (refl, refl, tt)
-  ended_stays (frames.Sexp ss vs ∷ fs) v h e = went (StaysIn start) _ q e (refl, refl, tt)
-  ended_stays (frames.Named ss ms name ∷ fs) v h e = went (StaysIn start) _ q e (refl, refl, tt)
+  ended_stays (frames.List ss vs ∷ fs) v h e = went (StaysIn spot.start) _ q e (refl, refl, tt)
+  ended_stays (frames.Sexp ss vs ∷ fs) v h e = went (StaysIn spot.start) _ q e (refl, refl, tt)
+  ended_stays (frames.Named ss ms name ∷ fs) v h e = went (StaysIn spot.start) _ q e (refl, refl, tt)
   ended_stays (frames.Fields ss ms ∷ fs) v h e = absurd cc
 
-  pub comma_stays : (fs : List Frame) → on_comma start c fs ≡ goes q → StaysIn start q
+  pub comma_stays : (fs : List Frame) → on_comma spot.start spot.context fs ≡ goes q → StaysIn spot.start q
   comma_stays [] e = absurd cc
-  comma_stays (frames.List ss vs ∷ fs) e = went (StaysIn start) _ q e (refl, refl, tt)
+  comma_stays (frames.List ss vs ∷ fs) e = went (StaysIn spot.start) _ q e (refl, refl, tt)
   comma_stays (frames.Sexp ss vs ∷ fs) e = absurd cc
   comma_stays (frames.Named ss ms name ∷ fs) e = absurd cc
-  comma_stays (frames.Fields ss ms ∷ fs) e = went (StaysIn start) _ q e (refl, refl, tt)
+  comma_stays (frames.Fields ss ms ∷ fs) e = went (StaysIn spot.start) _ q e (refl, refl, tt)
 
 -- a token of the machine, where it is found
 module _ (g : Catalog) (l : Limits) (r : Reading) (inner : is_top r.frames ≡ false) (still : settle g l r ≡ goes r) (rest : Rest) (octets : List ℕ) (kind : TokenKind) (kept : List ℕ) (n : ℕ) (c : Content) (q : Reading)
@@ -211,12 +210,12 @@ blank_strides old moved rest behind octets n inside rests there move still withi
 -- a value that is a token
 pub value_strides : (old new : TextReader) (moved : Scanner) (rest behind : Rest) (octets : List ℕ) (kind : TokenKind) (kept : List ℕ) (n : ℕ) (left : Bool) (c : Content) (v : Value) → Inside old octets → scanned old.scanner ≡ resting rest → Moved old.scanner moved behind → SameSetting (with_scanner old moved) new
     → n < length octets → behind ≡ past_token (place (reading_of old)) rest kind n → old.stage ≡ nows.Ready → IsFound (place (reading_of old)) rest octets kind kept n left → said kind kept ≡ Ok c
-    → on_ready old.catalog.now old.limits.depth old.limits.item (rest.used + n) old.start old.context (open_frames old) old.notes c ≡ ended old.catalog.now old.limits.item (rest.used + n) old.start old.context (open_frames old) v
-    → ended old.catalog.now old.limits.item (rest.used + n) old.start old.context (open_frames old) v ≡ goes (reading_of new) → Strides old new octets n
+    → on_ready (setting_of old) (spot_of old (rest.used + n)) (open_frames old) old.notes c ≡ ended (setting_of old) (spot_of old (rest.used + n)) (open_frames old) v
+    → ended (setting_of old) (spot_of old (rest.used + n)) (open_frames old) v ≡ goes (reading_of new) → Strides old new octets n
 value_strides old new moved rest behind octets kind kept n left c v inside rests move setting within there now found says same does =
     token_strides old new moved rest behind octets inside rests move setting kind kept n left c within there (subst IsStill (sym now) tt) (inl (subst IsCalm (sym now) tt)) found says
     (ready_turns old.catalog.now old.limits (reading_of old) (lexeme_at rest kind kept n) c now inside.inner ∙ (same ∙ does))
-    (ended_stays old.catalog.now old.limits.item (rest.used + n) old.start old.context (reading_of new) (open_frames old) v inside.inner does)
+    (ended_stays (setting_of old) (spot_of old (rest.used + n)) (reading_of new) (open_frames old) v inside.inner does)
 
 pub comma_strides : (old new : TextReader) (moved : Scanner) (rest behind : Rest) (octets : List ℕ) → Inside old octets → scanned old.scanner ≡ resting rest → Moved old.scanner moved behind → SameSetting (with_scanner old moved) new
     → 1 < length octets → get_or octets 0 0 ≡ 44 → behind ≡ past_token (place (reading_of old)) rest (kinds.Mark marks.Comma) 1 → old.stage ≡ nows.After → on_comma old.start old.context (open_frames old) ≡ goes (reading_of new) → Strides old new octets 1
@@ -224,28 +223,28 @@ comma_strides old new moved rest behind octets inside rests move setting within 
     token_strides old new moved rest behind octets inside rests move setting (kinds.Mark marks.Comma) [] 1 false (Mark' marks.Comma) within there (subst IsStill (sym now) tt) (inr refl)
     (comma_found (place (reading_of old)) rest octets (omega arith) first) (mark_says marks.Comma)
     (after_turns old.catalog.now old.limits (reading_of old) (lexeme_at rest (kinds.Mark marks.Comma) [] 1) (Mark' marks.Comma) now ∙ does)
-    (comma_stays old.catalog.now old.limits.item 0 old.start old.context (reading_of new) (open_frames old) does)
+    (comma_stays (setting_of old) (spot_of old 0) (reading_of new) (open_frames old) does)
 
 -- where a value or a name stands
 
-module _ (g : Catalog) (item end start : ℕ) (c : List Slot) (q : Reading) where
-  pub ended_place : (fs : List Frame) (v : Value) → is_top fs ≡ false → ended g item end start c fs v ≡ goes q → place q ≡ place_in fs nows.Ready
+module _ (setting : Setting) (spot : Spot) (q : Reading) where
+  pub ended_place : (fs : List Frame) (v : Value) → is_top fs ≡ false → ended setting spot fs v ≡ goes q → place q ≡ place_in fs nows.Ready
   ended_place [] v h e = absurd cc
   ended_place (frames.List ss vs ∷ fs) v h e = went (λ x. place x ≡ places.List) _ q e refl
   ended_place (frames.Sexp ss vs ∷ fs) v h e = went (λ x. place x ≡ places.Sexp) _ q e refl
   ended_place (frames.Named ss ms name ∷ fs) v h e = went (λ x. place x ≡ places.FieldValue) _ q e refl
   ended_place (frames.Fields ss ms ∷ fs) v h e = absurd cc
 
-  pub named_stays : (fs : List Frame) (s : Option (List ℕ)) → named start c fs s ≡ goes q → StaysIn start q
+  pub named_stays : (fs : List Frame) (s : Option (List ℕ)) → named spot.start spot.context fs s ≡ goes q → StaysIn spot.start q
   named_stays [] s e = absurd cc
   named_stays (frames.List ss vs ∷ fs) s e = absurd cc
   named_stays (frames.Sexp ss vs ∷ fs) s e = absurd cc
   named_stays (frames.Named ss ms name ∷ fs) s e = absurd cc
-  named_stays (frames.Fields ss ms ∷ fs) s e = went (StaysIn start) _ q e (refl, refl, tt)
+  named_stays (frames.Fields ss ms ∷ fs) s e = went (StaysIn spot.start) _ q e (refl, refl, tt)
 
-pub released_inner : (g : Catalog) (item end start : ℕ) (c : List Slot) (fs : List Frame) (ss : Symbols) (h : Held) → is_top fs ≡ false → released g item end start c fs ss h ≡ paid g item end start c fs ss (held_payload h)
-released_inner g item end start c [] ss h e = absurd cc
-released_inner g item end start c (f ∷ fs) ss h e = refl
+pub released_inner : (setting : Setting) (spot : Spot) (fs : List Frame) (ss : Symbols) (h : Held) → is_top fs ≡ false → released setting spot fs ss h ≡ paid setting spot fs ss (held_payload h)
+released_inner setting spot [] ss h e = absurd cc
+released_inner setting spot (f ∷ fs) ss h e = refl
 
 pub same_place : (fs : List Frame) (n m : Now) → (n ≡ nows.Ready) → (h : Held) (e : ℕ) → m ≡ nows.Pending h e → place_in fs m ≡ place_in fs nows.Ready
 same_place fs n m a h e i = ap (place_in fs) i ∙ by fs

@@ -21,7 +21,7 @@ use Rattle.ion_text.specs.declared.state.Frame.{Frame}
 use Rattle.ion_text.specs.declared.state.Now.{Now}
 use Rattle.ion_text.specs.declared.state.Now.TheVariants as nows
 use Rattle.ion_symtab.specs.Slots.{Slot}
-use Rattle.ion_text.specs.machine.EachToken.{Reading, Symbols, goes, at, place, settle, settled}
+use Rattle.ion_text.specs.machine.EachToken.{under, Reading, Symbols, goes, at, place, settle, settled}
 use Rattle.ion_text.specs.machine.Run.{uses, fails, noticed, shut, reaches, longest_top, is_long_begun, with_scan, waits, waits_now, is_top, run}
 use Rattle.ion_text.specs.machine.Pieces.{led, Quiet, Stays, Waiting, drive}
 use Rattle.ion_text.specs.machine.Views.{lulls, ended_so_far, IsLull}
@@ -95,7 +95,7 @@ module _ (g : Catalog) (l : Limits) (r : Reading) where
 
   -- a mark is awaited, or more of what waits
   waits_or_not : (start : ℕ) (c : List Slot) (fs : List Frame) (ss : Symbols) (top : Bool) (n : Now) (m : Mode) → lulls n m ≡ true
-      → (settled g l.item start c fs ss n ≡ goes (at start c fs ss n)) ⊎ ((t : Known) → lulls n t.mode ≡ true → waits_now top n (Next t) ≡ true)
+      → (settled (under g l) start c fs ss n ≡ goes (at start c fs ss n)) ⊎ ((t : Known) → lulls n t.mode ≡ true → waits_now top n (Next t) ≡ true)
   waits_or_not start c fs ss top nows.Ready m h = absurd cc
   waits_or_not start c fs ss top nows.Name m h = absurd cc
   waits_or_not start c fs ss top (nows.Pending k end) m h = inr (λ t h. h)

@@ -25,11 +25,11 @@ use Rattle.ion_text.specs.declared.state.Frame.TheVariants as frames
 use Rattle.ion_text.specs.declared.state.Now.{Now}
 use Rattle.ion_text.specs.declared.state.Now.TheVariants as nows
 use Rattle.ion_text.specs.declared.reader.TextReader.{TextReader}
-use Rattle.ion_text.specs.machine.EachToken.{Reading, Turn, Symbols, goes, place, place_in, settle, turn, turn_now, begun_at, on_ready}
+use Rattle.ion_text.specs.machine.EachToken.{Setting, Spot, under, spot_at, token_at, Reading, Turn, Symbols, goes, at, place, place_in, settle, turn, turn_now, begun_at, on_ready}
 use Rattle.ion_text.specs.machine.Run.{is_top, with_scan, token_of}
 use Rattle.ion_text.specs.machine.Pieces.{Quiet}
 use Rattle.ion_text.specs.machine.Nested.{Opens, OpensStruct, Closes, closes, close_octet, closed}
-use Rattle.ion_text.specs.machine.Views.{reading_of, state_of, open_frames, IsCalm, SameSetting, SameReader}
+use Rattle.ion_text.specs.machine.Views.{setting_of, spot_of, reading_of, state_of, open_frames, IsCalm, SameSetting, SameReader}
 use Rattle.ion_text.specs.machine.AtOnce.{Passes, IsStill, Inside, Strides}
 use Rattle.ion_text.proofs.Passing.{passes_left, top_quiet}
 use Rattle.ion_text.proofs.Striding.{still_settles}
@@ -52,15 +52,15 @@ open_found marks.Colon p r octets opens more name = absurd opens
 open_found marks.Colons p r octets opens more name = absurd opens
 
 -- it goes on in one container more
-module _ (g : Catalog) (depth item end start : ℕ) (c : List Slot) (fs : List Frame) (ss : Symbols) where
-  deepens : (b : Bool) (a q : Reading) (deep : Turn) → (deep ≡ goes q → ⊥) → StaysIn start a → (if b then goes a else deep) ≡ goes q → StaysIn start q
-  deepens true a q deep never stays does = went (StaysIn start) a q does stays
+module _ (setting : Setting) (spot : Spot) (fs : List Frame) (ss : Symbols) where
+  deepens : (b : Bool) (a q : Reading) (deep : Turn) → (deep ≡ goes q → ⊥) → StaysIn spot.start a → (if b then goes a else deep) ≡ goes q → StaysIn spot.start q
+  deepens true a q deep never stays does = went (StaysIn spot.start) a q does stays
   deepens false a q deep never stays does = absurd (never does)
 
-  open_stays : (m : Mark) (octets : List ℕ) (q : Reading) → Opens octets m → on_ready g depth item end start c fs ss (Mark' m) ≡ goes q → StaysIn start q
-  open_stays marks.ListOpen octets q opens does = deepens (nat_lt (length fs) depth) _ q _ (λ never. cc) (refl, refl, tt) does
-  open_stays marks.SexpOpen octets q opens does = deepens (nat_lt (length fs) depth) _ q _ (λ never. cc) (refl, refl, tt) does
-  open_stays marks.FieldsOpen octets q opens does = deepens (nat_lt (length fs) depth) _ q _ (λ never. cc) (refl, refl, tt) does
+  open_stays : (m : Mark) (octets : List ℕ) (q : Reading) → Opens octets m → on_ready setting spot fs ss (Mark' m) ≡ goes q → StaysIn spot.start q
+  open_stays marks.ListOpen octets q opens does = deepens (nat_lt (length fs) setting.limits.depth) _ q _ (λ never. cc) (refl, refl, tt) does
+  open_stays marks.SexpOpen octets q opens does = deepens (nat_lt (length fs) setting.limits.depth) _ q _ (λ never. cc) (refl, refl, tt) does
+  open_stays marks.FieldsOpen octets q opens does = deepens (nat_lt (length fs) setting.limits.depth) _ q _ (λ never. cc) (refl, refl, tt) does
   open_stays marks.ListClose octets q opens does = absurd opens
   open_stays marks.SexpClose octets q opens does = absurd opens
   open_stays marks.FieldsClose octets q opens does = absurd opens
@@ -70,17 +70,17 @@ module _ (g : Catalog) (depth item end start : ℕ) (c : List Slot) (fs : List F
 
 pub open_strides : (old new : TextReader) (moved : Scanner) (rest behind : Rest) (octets : List ℕ) (m : Mark) → Inside old octets → scanned old.scanner ≡ resting rest → Moved old.scanner moved behind → SameSetting (with_scanner old moved) new
     → 1 < length octets → Opens octets m → is_name (place (reading_of old)) ≡ false → behind ≡ past_token (place (reading_of old)) rest (kinds.Mark m) 1 → old.stage ≡ nows.Ready
-    → on_ready old.catalog.now old.limits.depth old.limits.item (rest.used + 1) old.start old.context (open_frames old) old.notes (Mark' m) ≡ goes (reading_of new) → Strides old new octets 1
+    → on_ready (setting_of old) (spot_of old (rest.used + 1)) (open_frames old) old.notes (Mark' m) ≡ goes (reading_of new) → Strides old new octets 1
 open_strides old new moved rest behind octets m inside rests move setting within opens name there now does =
     token_strides old new moved rest behind octets inside rests move setting (kinds.Mark m) [] 1 (is_left m) (Mark' m) within there (subst IsStill (sym now) tt) (inl (subst IsCalm (sym now) tt))
     (open_found m (place (reading_of old)) rest octets opens within name) (mark_says m)
     (ready_turns old.catalog.now old.limits (reading_of old) (lexeme_at rest (kinds.Mark m) [] 1) (Mark' m) now inside.inner ∙ does)
-    (open_stays old.catalog.now old.limits.depth old.limits.item (rest.used + 1) old.start old.context (open_frames old) old.notes m octets (reading_of new) opens does)
+    (open_stays (setting_of old) (spot_of old (rest.used + 1)) (open_frames old) old.notes m octets (reading_of new) opens does)
 
 -- An open where no item is open: the struct's item begins with it.
 module _ (old new : TextReader) (moved : Scanner) (rest behind : Rest) (octets : List ℕ) (item : 1 ≤ old.limits.item) (h : OpensStruct old octets rest) (move : Moved old.scanner moved behind) (setting : new.scanner ≡ moved) (same : SameReader old new)
     (there : behind ≡ past_token places.Top rest (kinds.Mark marks.FieldsOpen) 1)
-    (does : on_ready old.catalog.now old.limits.depth old.limits.item (rest.used + 1) rest.used old.context (open_frames old) old.notes (Mark' marks.FieldsOpen) ≡ goes (reading_of new)) where
+    (does : on_ready (setting_of old) (spot_at (rest.used + 1) rest.used old.context) (open_frames old) old.notes (Mark' marks.FieldsOpen) ≡ goes (reading_of new)) where
   abbrev g : Catalog
   g = old.catalog.now
 
@@ -110,11 +110,11 @@ module _ (old new : TextReader) (moved : Scanner) (rest behind : Rest) (octets :
 
   turns : turn g l r (token_of (lexeme_at rest (kinds.Mark marks.FieldsOpen) [] 1) (Mark' marks.FieldsOpen)) ≡ goes (reading_of new)
   turns =
-      ap (turn_now g l rest.used (rest.used + 1) r.start r.context r.frames r.notes (Mark' marks.FieldsOpen)) h.ready
-      ∙ (ap (λ s. on_ready g l.depth l.item (rest.used + 1) s r.context r.frames r.notes (Mark' marks.FieldsOpen)) begun ∙ does)
+      ap (turn_now (under g l) r (token_at rest.used (rest.used + 1) (Mark' marks.FieldsOpen))) h.ready
+      ∙ (ap (λ s. on_ready (under g l) (spot_at (rest.used + 1) s r.context) r.frames r.notes (Mark' marks.FieldsOpen)) begun ∙ does)
 
   stays : StaysIn rest.used (reading_of new)
-  stays = open_stays g l.depth l.item (rest.used + 1) rest.used old.context (open_frames old) old.notes marks.FieldsOpen octets (reading_of new) h.opens does
+  stays = open_stays (under g l) (spot_at (rest.used + 1) rest.used old.context) (open_frames old) old.notes marks.FieldsOpen octets (reading_of new) h.opens does
 
   ends : feed (place r) found.known (slice_index octets 1) ≡ Left (lexeme_at rest (kinds.Mark marks.FieldsOpen) [] 1) (resting behind)
   ends = found.ends ∙ ap (λ (k : Rest). Left (lexeme_at rest (kinds.Mark marks.FieldsOpen) [] 1) (resting k)) (ap (λ p. past_token p rest (kinds.Mark marks.FieldsOpen) 1) top ∙ sym there)
@@ -160,7 +160,7 @@ close_found marks.Colons fs now r octets h some first = absurd cc
 module _ (g : Catalog) (l : Limits) (begin end start : ℕ) (c : List Slot) where
   -- in such a state the mark closes, and nothing waits
   abbrev pub Closing : Mark → List Frame → Now → Type 0
-  Closing m fs now = (turn_now g l begin end start c fs [] (Mark' m) now ≡ closed m g l.item end start c fs) × IsStill now
+  Closing m fs now = (turn_now (under g l) (at start c fs [] now) (token_at begin end (Mark' m)) now ≡ closed m (under g l) (spot_at end start c) fs) × IsStill now
 
   pub closing : (m : Mark) (fs : List Frame) (now : Now) → closes m fs now ≡ true → Closing m fs now
   closing marks.ListClose [] now h = absurd cc
@@ -204,68 +204,68 @@ module _ (g : Catalog) (l : Limits) (begin end start : ℕ) (c : List Slot) wher
   closing marks.Colons fs now h = absurd cc
 
 -- what stands around it goes on
-close_stays : (g : Catalog) (item end start : ℕ) (c : List Slot) (q : Reading) (m : Mark) (fs : List Frame) → 1 < length fs → closed m g item end start c fs ≡ goes q → StaysIn start q
-close_stays g item end start c q marks.ListClose [] more does = absurd cc
-close_stays g item end start c q marks.ListClose (frames.List ss vs ∷ []) more does = absurd (omega arith)
-close_stays g item end start c q marks.ListClose (frames.List ss vs ∷ f ∷ fs) more does = ended_stays g item end start c q (f ∷ fs) (annotated ss (payloads.List vs)) refl does
-close_stays g item end start c q marks.ListClose (frames.Sexp ss vs ∷ fs) more does = absurd cc
-close_stays g item end start c q marks.ListClose (frames.Fields ss ms ∷ fs) more does = absurd cc
-close_stays g item end start c q marks.ListClose (frames.Named ss ms key ∷ fs) more does = absurd cc
-close_stays g item end start c q marks.SexpClose [] more does = absurd cc
-close_stays g item end start c q marks.SexpClose (frames.List ss vs ∷ fs) more does = absurd cc
-close_stays g item end start c q marks.SexpClose (frames.Sexp ss vs ∷ []) more does = absurd (omega arith)
-close_stays g item end start c q marks.SexpClose (frames.Sexp ss vs ∷ f ∷ fs) more does = ended_stays g item end start c q (f ∷ fs) (annotated ss (payloads.Sexp vs)) refl does
-close_stays g item end start c q marks.SexpClose (frames.Fields ss ms ∷ fs) more does = absurd cc
-close_stays g item end start c q marks.SexpClose (frames.Named ss ms key ∷ fs) more does = absurd cc
-close_stays g item end start c q marks.FieldsClose [] more does = absurd cc
-close_stays g item end start c q marks.FieldsClose (frames.List ss vs ∷ fs) more does = absurd cc
-close_stays g item end start c q marks.FieldsClose (frames.Sexp ss vs ∷ fs) more does = absurd cc
-close_stays g item end start c q marks.FieldsClose (frames.Fields ss ms ∷ []) more does = absurd (omega arith)
-close_stays g item end start c q marks.FieldsClose (frames.Fields ss ms ∷ f ∷ fs) more does = ended_stays g item end start c q (f ∷ fs) (annotated ss (payloads.Fields ms)) refl does
-close_stays g item end start c q marks.FieldsClose (frames.Named ss ms key ∷ fs) more does = absurd cc
-close_stays g item end start c q marks.ListOpen [] more does = absurd cc
-close_stays g item end start c q marks.ListOpen (frames.List ss vs ∷ fs) more does = absurd cc
-close_stays g item end start c q marks.ListOpen (frames.Sexp ss vs ∷ fs) more does = absurd cc
-close_stays g item end start c q marks.ListOpen (frames.Fields ss ms ∷ []) more does = absurd (omega arith)
-close_stays g item end start c q marks.ListOpen (frames.Fields ss ms ∷ f ∷ fs) more does = ended_stays g item end start c q (f ∷ fs) (annotated ss (payloads.Fields ms)) refl does
-close_stays g item end start c q marks.ListOpen (frames.Named ss ms key ∷ fs) more does = absurd cc
-close_stays g item end start c q marks.SexpOpen [] more does = absurd cc
-close_stays g item end start c q marks.SexpOpen (frames.List ss vs ∷ fs) more does = absurd cc
-close_stays g item end start c q marks.SexpOpen (frames.Sexp ss vs ∷ fs) more does = absurd cc
-close_stays g item end start c q marks.SexpOpen (frames.Fields ss ms ∷ []) more does = absurd (omega arith)
-close_stays g item end start c q marks.SexpOpen (frames.Fields ss ms ∷ f ∷ fs) more does = ended_stays g item end start c q (f ∷ fs) (annotated ss (payloads.Fields ms)) refl does
-close_stays g item end start c q marks.SexpOpen (frames.Named ss ms key ∷ fs) more does = absurd cc
-close_stays g item end start c q marks.FieldsOpen [] more does = absurd cc
-close_stays g item end start c q marks.FieldsOpen (frames.List ss vs ∷ fs) more does = absurd cc
-close_stays g item end start c q marks.FieldsOpen (frames.Sexp ss vs ∷ fs) more does = absurd cc
-close_stays g item end start c q marks.FieldsOpen (frames.Fields ss ms ∷ []) more does = absurd (omega arith)
-close_stays g item end start c q marks.FieldsOpen (frames.Fields ss ms ∷ f ∷ fs) more does = ended_stays g item end start c q (f ∷ fs) (annotated ss (payloads.Fields ms)) refl does
-close_stays g item end start c q marks.FieldsOpen (frames.Named ss ms key ∷ fs) more does = absurd cc
-close_stays g item end start c q marks.Comma [] more does = absurd cc
-close_stays g item end start c q marks.Comma (frames.List ss vs ∷ fs) more does = absurd cc
-close_stays g item end start c q marks.Comma (frames.Sexp ss vs ∷ fs) more does = absurd cc
-close_stays g item end start c q marks.Comma (frames.Fields ss ms ∷ []) more does = absurd (omega arith)
-close_stays g item end start c q marks.Comma (frames.Fields ss ms ∷ f ∷ fs) more does = ended_stays g item end start c q (f ∷ fs) (annotated ss (payloads.Fields ms)) refl does
-close_stays g item end start c q marks.Comma (frames.Named ss ms key ∷ fs) more does = absurd cc
-close_stays g item end start c q marks.Colon [] more does = absurd cc
-close_stays g item end start c q marks.Colon (frames.List ss vs ∷ fs) more does = absurd cc
-close_stays g item end start c q marks.Colon (frames.Sexp ss vs ∷ fs) more does = absurd cc
-close_stays g item end start c q marks.Colon (frames.Fields ss ms ∷ []) more does = absurd (omega arith)
-close_stays g item end start c q marks.Colon (frames.Fields ss ms ∷ f ∷ fs) more does = ended_stays g item end start c q (f ∷ fs) (annotated ss (payloads.Fields ms)) refl does
-close_stays g item end start c q marks.Colon (frames.Named ss ms key ∷ fs) more does = absurd cc
-close_stays g item end start c q marks.Colons [] more does = absurd cc
-close_stays g item end start c q marks.Colons (frames.List ss vs ∷ fs) more does = absurd cc
-close_stays g item end start c q marks.Colons (frames.Sexp ss vs ∷ fs) more does = absurd cc
-close_stays g item end start c q marks.Colons (frames.Fields ss ms ∷ []) more does = absurd (omega arith)
-close_stays g item end start c q marks.Colons (frames.Fields ss ms ∷ f ∷ fs) more does = ended_stays g item end start c q (f ∷ fs) (annotated ss (payloads.Fields ms)) refl does
-close_stays g item end start c q marks.Colons (frames.Named ss ms key ∷ fs) more does = absurd cc
+close_stays : (setting : Setting) (spot : Spot) (q : Reading) (m : Mark) (fs : List Frame) → 1 < length fs → closed m setting spot fs ≡ goes q → StaysIn spot.start q
+close_stays setting spot q marks.ListClose [] more does = absurd cc
+close_stays setting spot q marks.ListClose (frames.List ss vs ∷ []) more does = absurd (omega arith)
+close_stays setting spot q marks.ListClose (frames.List ss vs ∷ f ∷ fs) more does = ended_stays setting spot q (f ∷ fs) (annotated ss (payloads.List vs)) refl does
+close_stays setting spot q marks.ListClose (frames.Sexp ss vs ∷ fs) more does = absurd cc
+close_stays setting spot q marks.ListClose (frames.Fields ss ms ∷ fs) more does = absurd cc
+close_stays setting spot q marks.ListClose (frames.Named ss ms key ∷ fs) more does = absurd cc
+close_stays setting spot q marks.SexpClose [] more does = absurd cc
+close_stays setting spot q marks.SexpClose (frames.List ss vs ∷ fs) more does = absurd cc
+close_stays setting spot q marks.SexpClose (frames.Sexp ss vs ∷ []) more does = absurd (omega arith)
+close_stays setting spot q marks.SexpClose (frames.Sexp ss vs ∷ f ∷ fs) more does = ended_stays setting spot q (f ∷ fs) (annotated ss (payloads.Sexp vs)) refl does
+close_stays setting spot q marks.SexpClose (frames.Fields ss ms ∷ fs) more does = absurd cc
+close_stays setting spot q marks.SexpClose (frames.Named ss ms key ∷ fs) more does = absurd cc
+close_stays setting spot q marks.FieldsClose [] more does = absurd cc
+close_stays setting spot q marks.FieldsClose (frames.List ss vs ∷ fs) more does = absurd cc
+close_stays setting spot q marks.FieldsClose (frames.Sexp ss vs ∷ fs) more does = absurd cc
+close_stays setting spot q marks.FieldsClose (frames.Fields ss ms ∷ []) more does = absurd (omega arith)
+close_stays setting spot q marks.FieldsClose (frames.Fields ss ms ∷ f ∷ fs) more does = ended_stays setting spot q (f ∷ fs) (annotated ss (payloads.Fields ms)) refl does
+close_stays setting spot q marks.FieldsClose (frames.Named ss ms key ∷ fs) more does = absurd cc
+close_stays setting spot q marks.ListOpen [] more does = absurd cc
+close_stays setting spot q marks.ListOpen (frames.List ss vs ∷ fs) more does = absurd cc
+close_stays setting spot q marks.ListOpen (frames.Sexp ss vs ∷ fs) more does = absurd cc
+close_stays setting spot q marks.ListOpen (frames.Fields ss ms ∷ []) more does = absurd (omega arith)
+close_stays setting spot q marks.ListOpen (frames.Fields ss ms ∷ f ∷ fs) more does = ended_stays setting spot q (f ∷ fs) (annotated ss (payloads.Fields ms)) refl does
+close_stays setting spot q marks.ListOpen (frames.Named ss ms key ∷ fs) more does = absurd cc
+close_stays setting spot q marks.SexpOpen [] more does = absurd cc
+close_stays setting spot q marks.SexpOpen (frames.List ss vs ∷ fs) more does = absurd cc
+close_stays setting spot q marks.SexpOpen (frames.Sexp ss vs ∷ fs) more does = absurd cc
+close_stays setting spot q marks.SexpOpen (frames.Fields ss ms ∷ []) more does = absurd (omega arith)
+close_stays setting spot q marks.SexpOpen (frames.Fields ss ms ∷ f ∷ fs) more does = ended_stays setting spot q (f ∷ fs) (annotated ss (payloads.Fields ms)) refl does
+close_stays setting spot q marks.SexpOpen (frames.Named ss ms key ∷ fs) more does = absurd cc
+close_stays setting spot q marks.FieldsOpen [] more does = absurd cc
+close_stays setting spot q marks.FieldsOpen (frames.List ss vs ∷ fs) more does = absurd cc
+close_stays setting spot q marks.FieldsOpen (frames.Sexp ss vs ∷ fs) more does = absurd cc
+close_stays setting spot q marks.FieldsOpen (frames.Fields ss ms ∷ []) more does = absurd (omega arith)
+close_stays setting spot q marks.FieldsOpen (frames.Fields ss ms ∷ f ∷ fs) more does = ended_stays setting spot q (f ∷ fs) (annotated ss (payloads.Fields ms)) refl does
+close_stays setting spot q marks.FieldsOpen (frames.Named ss ms key ∷ fs) more does = absurd cc
+close_stays setting spot q marks.Comma [] more does = absurd cc
+close_stays setting spot q marks.Comma (frames.List ss vs ∷ fs) more does = absurd cc
+close_stays setting spot q marks.Comma (frames.Sexp ss vs ∷ fs) more does = absurd cc
+close_stays setting spot q marks.Comma (frames.Fields ss ms ∷ []) more does = absurd (omega arith)
+close_stays setting spot q marks.Comma (frames.Fields ss ms ∷ f ∷ fs) more does = ended_stays setting spot q (f ∷ fs) (annotated ss (payloads.Fields ms)) refl does
+close_stays setting spot q marks.Comma (frames.Named ss ms key ∷ fs) more does = absurd cc
+close_stays setting spot q marks.Colon [] more does = absurd cc
+close_stays setting spot q marks.Colon (frames.List ss vs ∷ fs) more does = absurd cc
+close_stays setting spot q marks.Colon (frames.Sexp ss vs ∷ fs) more does = absurd cc
+close_stays setting spot q marks.Colon (frames.Fields ss ms ∷ []) more does = absurd (omega arith)
+close_stays setting spot q marks.Colon (frames.Fields ss ms ∷ f ∷ fs) more does = ended_stays setting spot q (f ∷ fs) (annotated ss (payloads.Fields ms)) refl does
+close_stays setting spot q marks.Colon (frames.Named ss ms key ∷ fs) more does = absurd cc
+close_stays setting spot q marks.Colons [] more does = absurd cc
+close_stays setting spot q marks.Colons (frames.List ss vs ∷ fs) more does = absurd cc
+close_stays setting spot q marks.Colons (frames.Sexp ss vs ∷ fs) more does = absurd cc
+close_stays setting spot q marks.Colons (frames.Fields ss ms ∷ []) more does = absurd (omega arith)
+close_stays setting spot q marks.Colons (frames.Fields ss ms ∷ f ∷ fs) more does = ended_stays setting spot q (f ∷ fs) (annotated ss (payloads.Fields ms)) refl does
+close_stays setting spot q marks.Colons (frames.Named ss ms key ∷ fs) more does = absurd cc
 
 pub close_strides : (old new : TextReader) (moved : Scanner) (rest behind : Rest) (octets : List ℕ) (m : Mark) → Inside old octets → scanned old.scanner ≡ resting rest → Moved old.scanner moved behind → SameSetting (with_scanner old moved) new
     → 1 < length octets → Closes (reading_of old) (slice_index octets 0) m → behind ≡ past_token (place (reading_of old)) rest (kinds.Mark m) 1
-    → closed m old.catalog.now old.limits.item (rest.used + 1) old.start old.context (open_frames old) ≡ goes (reading_of new) → Strides old new octets 1
+    → closed m (setting_of old) (spot_of old (rest.used + 1)) (open_frames old) ≡ goes (reading_of new) → Strides old new octets 1
 close_strides old new moved rest behind octets m inside rests move setting within h there does =
     let k = closing old.catalog.now old.limits rest.used (rest.used + 1) old.start old.context m (open_frames old) old.stage h.fits in
     token_strides old new moved rest behind octets inside rests move setting (kinds.Mark m) [] 1 false (Mark' m) within there k.1 (inr refl)
     (close_found m (open_frames old) old.stage rest octets h.fits (omega arith) h.octet) (mark_says m)
-    (ap (λ ss. turn_now old.catalog.now old.limits rest.used (rest.used + 1) old.start old.context (open_frames old) ss (Mark' m) old.stage) h.bare ∙ (k.0 ∙ does))
-    (close_stays old.catalog.now old.limits.item (rest.used + 1) old.start old.context (reading_of new) m (open_frames old) h.nested does)
+    (ap (λ ss. turn_now (setting_of old) (at old.start old.context (open_frames old) ss old.stage) (token_at rest.used (rest.used + 1) (Mark' m)) old.stage) h.bare ∙ (k.0 ∙ does))
+    (close_stays (setting_of old) (spot_of old (rest.used + 1)) (reading_of new) m (open_frames old) h.nested does)

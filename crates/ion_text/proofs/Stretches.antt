@@ -29,7 +29,7 @@ use Rattle.ion_tokens.proofs.LastOctets.{IsLast, last_octet, refused_here}
 use Rattle.ion_text.specs.declared.state.Now.{Now}
 use Rattle.ion_text.specs.declared.state.Now.TheVariants as nows
 use Rattle.ion_text.specs.declared.state.Frame.{Frame}
-use Rattle.ion_text.specs.machine.EachToken.{Reading, Symbols, goes, at, place, settle, settled}
+use Rattle.ion_text.specs.machine.EachToken.{Setting, under, Reading, Symbols, goes, at, place, settle, settled}
 use Rattle.ion_text.specs.machine.Run.{State, Effect, or_worse, uses, tells, leaves, fails, noticed, shut, reaches, longest_top, is_long_begun, with_scan, eats, takes, on_scan, on_settled, unsettled, failed, run, run_on}
 use Rattle.ion_text.specs.declared.reader.TextReader.{TextReader}
 use Rattle.ion_text.specs.declared.state.Taken.{Taken}
@@ -180,18 +180,18 @@ module _ (g : Catalog) (l : Limits) (r : Reading) (lo : ℕ) (calm : IsCalm r.no
           let bound = reach_bound r t lo calm (omega arith) r.frames r.notes refl in
           (fits_noticed t (omega arith), more t (omega arith) later.2 (omega (arith, used)))
 
-calm_settled : (g : Catalog) (item start : ℕ) (c : List Slot) (fs : List Frame) (ss : Symbols) (n : Now) → IsCalm n → settled g item start c fs ss n ≡ goes (at start c fs ss n)
-calm_settled g item start c fs ss nows.Ready h = refl
-calm_settled g item start c fs ss nows.Name h = refl
-calm_settled g item start c fs ss (nows.Pending k end) h = absurd h
-calm_settled g item start c fs ss (nows.Long w end) h = absurd h
-calm_settled g item start c fs ss nows.After h = absurd h
-calm_settled g item start c fs ss (nows.LongName w) h = absurd h
-calm_settled g item start c fs ss (nows.Keyed s) h = absurd h
+calm_settled : (setting : Setting) (start : ℕ) (c : List Slot) (fs : List Frame) (ss : Symbols) (n : Now) → IsCalm n → settled setting start c fs ss n ≡ goes (at start c fs ss n)
+calm_settled setting start c fs ss nows.Ready h = refl
+calm_settled setting start c fs ss nows.Name h = refl
+calm_settled setting start c fs ss (nows.Pending k end) h = absurd h
+calm_settled setting start c fs ss (nows.Long w end) h = absurd h
+calm_settled setting start c fs ss nows.After h = absurd h
+calm_settled setting start c fs ss (nows.LongName w) h = absurd h
+calm_settled setting start c fs ss (nows.Keyed s) h = absurd h
 
 module _ (g : Catalog) (l : Limits) (r : Reading) (calm : IsCalm r.now) (s : Known) (piece : List ℕ) (high : floor s ≤ s.used) (room : s.used + length piece ≤ l.item + base r.frames r.notes r.start (floor s)) where
   settles : settle g l r ≡ goes r
-  settles = calm_settled g l.item r.start r.context r.frames r.notes r.now calm
+  settles = calm_settled (under g l) r.start r.context r.frames r.notes r.now calm
 
   quiet : (os : List ℕ) → length os ≤ length piece → Quiet g l r (place r) s os
   quiet os few = quiet_within g l r (floor s) calm (place r) os s (omega arith) high (omega arith)

@@ -42,11 +42,11 @@ use Rattle.ion_text.specs.declared.state.Held.TheVariants as helds
 use Rattle.ion_text.specs.declared.state.Now.TheVariants as nows
 use Rattle.ion_text.specs.declared.reader.TextReader.{TextReader}
 use Rattle.ion_text.specs.laws.reading.FrontTokens.{ends_symbol, held_of, value_of, Pays, Names, BeginsSymbol, BeginsValue, BeginsName}
-use Rattle.ion_text.specs.machine.EachToken.{Reading, Symbols, goes, late, at, place, place_in, settle, turn, turn_now, on_ready, on_name, ended, paid, held_word, held_payload, held_symbol, noted, keyed, named}
+use Rattle.ion_text.specs.machine.EachToken.{Setting, Spot, under, spot_in, token_at, Reading, Symbols, goes, late, at, place, place_in, settle, turn, turn_now, on_ready, on_name, ended, paid, held_word, held_payload, held_symbol, noted, keyed, named}
 use Rattle.ion_text.specs.machine.AtOnce.{Passes, IsStill, Inside, Strides}
 use Rattle.ion_text.specs.machine.Run.{is_top, with_scan, token_of}
 use Rattle.ion_text.specs.machine.Pieces.{Quiet}
-use Rattle.ion_text.specs.machine.Views.{reading_of, open_frames, with_beside, IsCalm, SameSetting}
+use Rattle.ion_text.specs.machine.Views.{setting_of, spot_of, reading_of, open_frames, with_beside, IsCalm, SameSetting}
 use Rattle.ion_text.proofs.Arms.{Moved, StaysIn, with_scanner, spelled_utf8, short_says, word_says, first_of, moved_strides, room, ready_turns, left_passes, given_leads, ended_stays, ended_place, named_stays, released_inner, same_place, name_place, value_strides, mark_says, blank_used, blank_colon, at_drop}
 use Rattle.ion_text.proofs.Passing.{passes_on, passes_blank, passes_waiting, passes_settled, passes_colons, calm_quiet, blank_quiet}
 use Rattle.ion_text.proofs.Striding.{still_settles}
@@ -59,13 +59,13 @@ some_is a b e = cc
 ok_is : (a b : Content) → Path (Result Content Reason) (Ok a) (Ok b) → a ≡ b
 ok_is a b e = cc
 
-waits_so : (g : Catalog) (depth item end start : ℕ) (ctx : List Slot) (fs : List Frame) (ss : Symbols) (c : Content) (h : Held) → held_of c ≡ Some h → on_ready g depth item end start ctx fs ss c ≡ goes (at start ctx fs ss (nows.Pending h end))
-waits_so g depth item end start ctx fs ss c h e = go c e
+waits_so : (setting : Setting) (spot : Spot) (fs : List Frame) (ss : Symbols) (c : Content) (h : Held) → held_of c ≡ Some h → on_ready setting spot fs ss c ≡ goes (at spot.start spot.context fs ss (nows.Pending h spot.end))
+waits_so setting spot fs ss c h e = go c e
   where
-    held : (a : Held) → Some a ≡ Some h → goes (at start ctx fs ss (nows.Pending a end)) ≡ goes (at start ctx fs ss (nows.Pending h end))
-    held a e = ap (λ x. goes (at start ctx fs ss (nows.Pending x end))) (some_is a h e)
+    held : (a : Held) → Some a ≡ Some h → goes (at spot.start spot.context fs ss (nows.Pending a spot.end)) ≡ goes (at spot.start spot.context fs ss (nows.Pending h spot.end))
+    held a e = ap (λ x. goes (at spot.start spot.context fs ss (nows.Pending x spot.end))) (some_is a h e)
 
-    go : (c : Content) → held_of c ≡ Some h → on_ready g depth item end start ctx fs ss c ≡ goes (at start ctx fs ss (nows.Pending h end))
+    go : (c : Content) → held_of c ≡ Some h → on_ready setting spot fs ss c ≡ goes (at spot.start spot.context fs ss (nows.Pending h spot.end))
     go (Word w) e = held _ e
     go (Quoted w) e = held _ e
     go (TypedNull k) e = held _ e
@@ -78,13 +78,13 @@ waits_so g depth item end start ctx fs ss c h e = go c e
     go (Blob w) e = absurd cc
     go (Mark' m) e = absurd cc
 
-ends_so : (g : Catalog) (depth item end start : ℕ) (ctx : List Slot) (fs : List Frame) (ss : Symbols) (c : Content) (v : Payload) → value_of c ≡ Some v → on_ready g depth item end start ctx fs ss c ≡ ended g item end start ctx fs (annotated ss v)
-ends_so g depth item end start ctx fs ss c v e = go c e
+ends_so : (setting : Setting) (spot : Spot) (fs : List Frame) (ss : Symbols) (c : Content) (v : Payload) → value_of c ≡ Some v → on_ready setting spot fs ss c ≡ ended setting spot fs (annotated ss v)
+ends_so setting spot fs ss c v e = go c e
   where
-    value : (a : Payload) → Some a ≡ Some v → ended g item end start ctx fs (annotated ss a) ≡ ended g item end start ctx fs (annotated ss v)
-    value a e = ap (λ x. ended g item end start ctx fs (annotated ss x)) (some_is a v e)
+    value : (a : Payload) → Some a ≡ Some v → ended setting spot fs (annotated ss a) ≡ ended setting spot fs (annotated ss v)
+    value a e = ap (λ x. ended setting spot fs (annotated ss x)) (some_is a v e)
 
-    go : (c : Content) → value_of c ≡ Some v → on_ready g depth item end start ctx fs ss c ≡ ended g item end start ctx fs (annotated ss v)
+    go : (c : Content) → value_of c ≡ Some v → on_ready setting spot fs ss c ≡ ended setting spot fs (annotated ss v)
     go (Short w) e = value _ e
     go (Operator w) e = value _ e
     go (Clob w) e = value _ e
@@ -97,14 +97,14 @@ ends_so g depth item end start ctx fs ss c v e = go c e
     go (Number' n) e = absurd cc
     go (Mark' m) e = absurd cc
 
-names_so : (g : Catalog) (item end start : ℕ) (ctx : List Slot) (fs : List Frame) (c : Content) (s : Option (List ℕ)) → Names c s → on_name g item end start ctx fs c ≡ goes (keyed start ctx fs s)
-names_so g item end start ctx fs c s e = go c e
+names_so : (setting : Setting) (spot : Spot) (fs : List Frame) (c : Content) (s : Option (List ℕ)) → Names c s → on_name setting spot fs c ≡ goes (keyed spot.start spot.context fs s)
+names_so setting spot fs c s e = go c e
   where
-    name : (w : List ℕ) → s ≡ Some w → goes (keyed start ctx fs (Some w)) ≡ goes (keyed start ctx fs s)
-    name w e = ap (λ x. goes (keyed start ctx fs x)) (sym e)
+    name : (w : List ℕ) → s ≡ Some w → goes (keyed spot.start spot.context fs (Some w)) ≡ goes (keyed spot.start spot.context fs s)
+    name w e = ap (λ x. goes (keyed spot.start spot.context fs x)) (sym e)
 
-    go : (c : Content) → Names c s → on_name g item end start ctx fs c ≡ goes (keyed start ctx fs s)
-    go (Word w) e = ap (λ b. if b then late reasons.KeywordAsName (keyed start ctx fs (Some w)) else goes (keyed start ctx fs (Some w))) e.1 ∙ name w e.0
+    go : (c : Content) → Names c s → on_name setting spot fs c ≡ goes (keyed spot.start spot.context fs s)
+    go (Word w) e = ap (λ b. if b then late reasons.KeywordAsName (keyed spot.start spot.context fs (Some w)) else goes (keyed spot.start spot.context fs (Some w))) e.1 ∙ name w e.0
     go (Quoted w) e = name w e
     go (Short w) e = name w e
     go (TypedNull k) e = absurd e
@@ -271,7 +271,7 @@ module _ (g : Catalog) (l : Limits) (r : Reading) (inner : is_top r.frames ≡ f
 
     is_token : Passes g l (with_scan (resting rest) r) octets n (with_scan (resting behind_token) waiting)
     is_token =
-        token_passes waiting (ready_turns g l r (lexeme_at rest kind kept n) c now inner ∙ waits_so g l.depth l.item (rest.used + n) r.start r.context r.frames r.notes c held holds) inner refl
+        token_passes waiting (ready_turns g l r (lexeme_at rest kind kept n) c now inner ∙ waits_so (under g l) (spot_in r (rest.used + n)) r.frames r.notes c held holds) inner refl
 
     is_blank : Passes g l (with_scan (resting behind_token) waiting) (drop n octets) m (with_scan (resting behind_blank) waiting)
     is_blank =
@@ -282,19 +282,19 @@ module _ (g : Catalog) (l : Limits) (r : Reading) (inner : is_top r.frames ≡ f
     is_waiting = passes_on g l (with_scan (resting rest) r) (with_scan (resting behind_token) waiting) (with_scan (resting behind_blank) waiting) octets n m is_token is_blank
 
     -- it is a value
-    module _ (q : Reading) (payload : Payload) (pays : held_payload held ≡ Ok payload) (does : ended g l.item (rest.used + n) r.start r.context r.frames (annotated r.notes payload) ≡ goes q) (ends : ends_symbol (get_or octets (n + m) 0) ≡ true) where
+    module _ (q : Reading) (payload : Payload) (pays : held_payload held ≡ Ok payload) (does : ended (under g l) (spot_in r (rest.used + n)) r.frames (annotated r.notes payload) ≡ goes q) (ends : ends_symbol (get_or octets (n + m) 0) ≡ true) where
       stays : StaysIn r.start q
-      stays = ended_stays g l.item (rest.used + n) r.start r.context q r.frames (annotated r.notes payload) inner does
+      stays = ended_stays (under g l) (spot_in r (rest.used + n)) q r.frames (annotated r.notes payload) inner does
 
       settles : settle g l waiting ≡ goes q
-      settles = released_inner g l.item (rest.used + n) r.start r.context r.frames r.notes held inner ∙ (ap (paid g l.item (rest.used + n) r.start r.context r.frames r.notes) pays ∙ does)
+      settles = released_inner (under g l) (spot_in r (rest.used + n)) r.frames r.notes held inner ∙ (ap (paid (under g l) (spot_in r (rest.used + n)) r.frames r.notes) pays ∙ does)
 
       is_settled : Passes g l (with_scan (resting behind_blank) waiting) (drop (n + m) octets) 0 (with_scan (resting behind_blank) q)
       is_settled =
           let some : length (drop (n + m) octets) ≡ length octets - (n + m) = length-drop (n + m) octets in
           passes_settled g l waiting inner (resting behind_blank) held (rest.used + n) (drop (n + m) octets) q (omega arith) refl
           (ends_waits (place waiting) behind_blank (get_or (drop (n + m) octets) 0 0) (ap ends_symbol (at_drop (n + m) octets) ∙ ends)) settles (still_settles g l q stays.2)
-          (ended_place g l.item (rest.used + n) r.start r.context q r.frames (annotated r.notes payload) inner does ∙ (ap (place_in r.frames) (sym now) ∙ sym waits_there))
+          (ended_place (under g l) (spot_in r (rest.used + n)) q r.frames (annotated r.notes payload) inner does ∙ (ap (place_in r.frames) (sym now) ∙ sym waits_there))
 
       pub symbol_passes : Passes g l (with_scan (resting rest) r) octets (n + m) (with_scan (resting behind_blank) q)
       symbol_passes =
@@ -356,7 +356,7 @@ module _ (g : Catalog) (l : Limits) (r : Reading) (inner : is_top r.frames ≡ f
     is_key : Passes g l (with_scan (resting rest) r) octets n (with_scan (resting behind_token) with_name)
     is_key =
         token_passes with_name
-        (ap (turn_now g l rest.used (rest.used + n) r.start r.context r.frames r.notes c) now ∙ names_so g l.item (rest.used + n) r.start r.context r.frames c name names) inner refl
+        (ap (turn_now (under g l) r (token_at rest.used (rest.used + n) c)) now ∙ names_so (under g l) (spot_in r (rest.used + n)) r.frames c name names) inner refl
 
     is_key_blank : Passes g l (with_scan (resting behind_token) with_name) (drop n octets) m (with_scan (resting behind_blank) with_name)
     is_key_blank =
@@ -464,11 +464,11 @@ module _ (old new : TextReader) (moved : Scanner) (rest behind : Rest) (octets :
   total a b c = omega arith
 
   pub symbol_strides : (m : ℕ) (payload : Payload) → n + m < length octets → behind ≡ past_blank (past_token (place (reading_of old)) rest token.kind n) m → old.stage ≡ nows.Ready → BeginsSymbol (place (reading_of old)) rest octets token payload → IsPassed (drop n octets) m
-      → ends_symbol (get_or octets (n + m) 0) ≡ true → ended old.catalog.now old.limits.item (rest.used + n) old.start old.context (open_frames old) (annotated old.notes payload) ≡ goes (reading_of new) → Strides old new octets (n + m)
+      → ends_symbol (get_or octets (n + m) 0) ≡ true → ended (setting_of old) (spot_of old (rest.used + n)) (open_frames old) (annotated old.notes payload) ≡ goes (reading_of new) → Strides old new octets (n + m)
   symbol_strides m payload within there now b passed ends does =
       let pays = held_in (held_of b.content) payload b.pays in
       moved_strides old new moved rest behind octets inside rests move setting (n + m) within (ap (λ (k : Rest). k.used) there ∙ (blank_used (past_token (place (reading_of old)) rest token.kind n) m ∙ total rest.used n m))
-      (ended_stays old.catalog.now old.limits.item (rest.used + n) old.start old.context (reading_of new) (open_frames old) (annotated old.notes payload) inside.inner does)
+      (ended_stays (setting_of old) (spot_of old (rest.used + n)) (reading_of new) (open_frames old) (annotated old.notes payload) inside.inner does)
       (subst (λ (k : Rest). Passes old.catalog.now old.limits (with_scan (resting rest) (reading_of old)) octets (n + m) (with_scan (resting k) (reading_of new))) (sym there)
       (symbol_passes old.catalog.now old.limits (reading_of old) inside.inner rest octets token.kind b.kept n m token.left b.content fits within b.found b.says passed (subst IsCalm (sym now) tt) (subst IsStill (sym now) tt) now pays.0 pays.1 (reading_of new) payload pays.2 does ends))
 
@@ -489,7 +489,7 @@ module _ (old new : TextReader) (moved : Scanner) (rest behind : Rest) (octets :
       → IsPassed (drop n octets) m → get_or octets (n + m) 0 ≡ 58 → get_or octets (n + m + 1) 0 ≢ 58 → named old.start old.context (open_frames old) name ≡ goes (reading_of new) → Strides old new octets (n + m + 1)
   name_strides m name within there now b passed colon one does =
       moved_strides old new moved rest behind octets inside rests move setting (n + m + 1) within (ap (λ (k : Rest). k.used) there ∙ (ap (λ k. k + 1) (blank_used (past_token (place (reading_of old)) rest token.kind n) m) ∙ more rest.used n m))
-      (named_stays old.catalog.now old.limits.item 0 old.start old.context (reading_of new) (open_frames old) name does)
+      (named_stays (setting_of old) (spot_of old 0) (reading_of new) (open_frames old) name does)
       (subst (λ (k : Rest). Passes old.catalog.now old.limits (with_scan (resting rest) (reading_of old)) octets (n + m + 1) (with_scan (resting k) (reading_of new))) (sym there)
       (name_passes old.catalog.now old.limits (reading_of old) inside.inner rest octets token.kind b.kept n m token.left b.content fits (omega arith) b.found b.says passed (subst IsCalm (sym now) tt) (subst IsStill (sym now) tt) now (reading_of new) within name b.names colon one does))
     where
@@ -497,10 +497,10 @@ module _ (old new : TextReader) (moved : Scanner) (rest behind : Rest) (octets :
       more a b c = omega arith
 
   pub whole_strides : (payload : Payload) → n < length octets → behind ≡ past_token (place (reading_of old)) rest token.kind n → old.stage ≡ nows.Ready → BeginsValue (place (reading_of old)) rest octets token payload
-      → ended old.catalog.now old.limits.item (rest.used + n) old.start old.context (open_frames old) (annotated old.notes payload) ≡ goes (reading_of new) → Strides old new octets n
+      → ended (setting_of old) (spot_of old (rest.used + n)) (open_frames old) (annotated old.notes payload) ≡ goes (reading_of new) → Strides old new octets n
   whole_strides payload within there now b does =
       value_strides old new moved rest behind octets token.kind b.kept n token.left b.content (annotated old.notes payload) inside rests move setting within there now b.found b.says
-      (ends_so old.catalog.now old.limits.depth old.limits.item (rest.used + n) old.start old.context (open_frames old) old.notes b.content payload b.is) does
+      (ends_so (setting_of old) (spot_of old (rest.used + n)) (open_frames old) old.notes b.content payload b.is) does
 
 pub inside_beside : (r : TextReader) (b : TokenReader) (octets : List ℕ) → Inside r octets → Inside (with_beside r b) octets
 inside_beside r b octets h = record { some = h.some; inner = h.inner; fits = h.fits; room = h.room; fine = h.fine }

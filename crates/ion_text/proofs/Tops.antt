@@ -34,7 +34,7 @@ use Rattle.ion_text.specs.declared.state.Frame.TheVariants as frames
 use Rattle.ion_text.specs.declared.state.Now.{Now}
 use Rattle.ion_text.specs.declared.state.Now.TheVariants as nows
 use Rattle.ion_text.specs.machine.AtOnce.{Passes}
-use Rattle.ion_text.specs.machine.EachToken.{Reading, Symbols, gives, refuses, at, fresh, place, turn}
+use Rattle.ion_text.specs.machine.EachToken.{under, spot_at, Reading, Symbols, gives, refuses, at, fresh, place, turn}
 use Rattle.ion_text.specs.machine.Nested.{Opens}
 use Rattle.ion_text.specs.machine.Pieces.{led, drive, go_on}
 use Rattle.ion_text.specs.machine.Progress.{Advances, Stands}
@@ -99,7 +99,7 @@ module _ (g : Catalog) (l : Limits) (s : ℕ) (c : List Slot) where
       let found = fields_open_found places.Top rest item refl more opens.0 opens.1 in
       passes_left g l idle refl (resting rest) found.known (resting (past_token places.Top rest (kinds.Mark marks.FieldsOpen) 1)) item 1 (lexeme_at rest (kinds.Mark marks.FieldsOpen) [] 1) (Mark' marks.FieldsOpen)
       (at rest.used c (frames.Fields [] [] ∷ []) [] nows.Name) more (top_quiet g l idle some tt refl refl (resting rest) refl item (omega arith)) found.ran (mark_says marks.FieldsOpen)
-      (open_turns g l.depth l.item (rest.used + 1) rest.used c [] [] item marks.FieldsOpen opens deep) refl refl found.ends
+      (open_turns (under g l) (spot_at (rest.used + 1) rest.used c) [] [] item marks.FieldsOpen opens deep) refl refl found.ends
 
 module _ (g : Catalog) (l : Limits) (level : ℕ) (item : List ℕ) (count : ℕ) (before after : Tally) (w : WalkedContainer places.Top marks.FieldsOpen level item count before after) (more : 1 < length item) (opens : Opens item marks.FieldsOpen) where
   abbrev v : Value
@@ -121,7 +121,7 @@ module _ (g : Catalog) (l : Limits) (level : ℕ) (item : List ℕ) (count : ℕ
       let x = lexeme_at rest (kinds.Mark marks.FieldsClose) [] 1 in
       let b = resting (past_token (place k) rest (kinds.Mark marks.FieldsClose) 1) in
       let fed : feed (place k) (resting rest) o ≡ Given x b = ap (λ y. feed (place k) y o) (sym known) ∙ found.ends in
-      let turns : turn g l k (token_of x (Mark' marks.FieldsClose)) ≡ gives v (fresh c) = shut.0 ∙ (w.inside.closed g l.item (rest.used + 1) start c [] [] ∙ ap (λ b. if b then gives v (fresh c) else refuses reasons.ItemTooLong) (fitting (rest.used + 1) (start + l.item) fits)) in
+      let turns : turn g l k (token_of x (Mark' marks.FieldsClose)) ≡ gives v (fresh c) = shut.0 ∙ (w.inside.closed (under g l) (spot_at (rest.used + 1) start c) [] [] ∙ ap (λ b. if b then gives v (fresh c) else refuses reasons.ItemTooLong) (fitting (rest.used + 1) (start + l.item) fits)) in
       let there : b ≡ resting after.rest = ap resting (sym (ap (λ (t : Tally). t.rest) w.shuts)) in
       go_on g l (λ m. takes g l 2 m o) k (resting rest) (feed (place k) (resting rest) o) (unsettled (resting rest) k (feed (place k) (resting rest) o)) (inr (still_settles g l k shut.1))
       ∙ (ap (on_scan g l (λ m. takes g l 2 m o) k) fed

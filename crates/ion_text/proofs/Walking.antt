@@ -35,7 +35,7 @@ use Rattle.ion_text.specs.declared.state.Now.{Now}
 use Rattle.ion_text.specs.declared.state.Now.TheVariants as nows
 use Rattle.ion_text.specs.laws.reading.FrontTokens.{ends_symbol, held_of}
 use Rattle.ion_text.specs.laws.reading.Complete.{depths, field_depths, depth-list, depth-sexp, depth-struct, field_deepest-more}
-use Rattle.ion_text.specs.machine.EachToken.{Reading, Turn, Symbols, goes, at, place, place_in, turn, on_ready, ended}
+use Rattle.ion_text.specs.machine.EachToken.{Setting, Spot, under, spot_at, Reading, Turn, Symbols, goes, at, place, place_in, turn, on_ready, ended}
 use Rattle.ion_text.specs.machine.Run.{is_top, with_scan, token_of}
 use Rattle.ion_text.specs.machine.Pieces.{Quiet}
 use Rattle.ion_text.specs.machine.Nested.{Opens, closes}
@@ -75,11 +75,11 @@ module _ (p : Place) (level : ℕ) (rest : Rest) (octets : List ℕ) (s : Scalar
       let r = at start c fs ss nows.Ready in
       let q = at start c those [] n in
       let is : Ends f.content f.payload = subst (λ b. IsValue b f.content f.payload) e f.is in
-      let does : ended g l.item (rest.used + count) start c fs (annotated ss f.payload) ≡ goes q = puts g l.item (rest.used + count) start c in
+      let does : ended (under g l) (spot_at (rest.used + count) start c) fs (annotated ss f.payload) ≡ goes q = puts (under g l) (spot_at (rest.used + count) start c) in
       subst (λ p. Passes g l (rested rest start c fs ss nows.Ready) octets count (rested (past_token p rest s.token.kind count) start c those [] n)) here
       (token_passes g l r inner tt rest octets s.token.kind f.kept count f.content q f.says
-      (ready_turns g l r (lexeme_at rest s.token.kind f.kept count) f.content refl inner ∙ (is g l.depth l.item (rest.used + count) start c fs ss ∙ does)) room
-      (ended_stays g l.item (rest.used + count) start c q fs (annotated ss f.payload) inner does)
+      (ready_turns g l r (lexeme_at rest s.token.kind f.kept count) f.content refl inner ∙ (is (under g l) (spot_at (rest.used + count) start c) fs ss ∙ does)) room
+      (ended_stays (under g l) (spot_at (rest.used + count) start c) q fs (annotated ss f.payload) inner does)
       s.token.left (subst (λ p. IsFound p rest octets s.token.kind f.kept count s.token.left) (sym here) f.found) (inl tt))
 
   pub symbol_leads : (m : ℕ) → s.waits ≡ true → count + m < length octets → IsPassed (drop count octets) m → ends_symbol (get_or octets (count + m) 0) ≡ true
@@ -88,7 +88,7 @@ module _ (p : Place) (level : ℕ) (rest : Rest) (octets : List ℕ) (s : Scalar
       let r = at start c fs ss nows.Ready in
       let q = at start c those [] n in
       let pays = held_in (held_of f.content) f.payload (subst (λ b. IsValue b f.content f.payload) e f.is) in
-      let does : ended g l.item (rest.used + count) start c fs (annotated ss f.payload) ≡ goes q = puts g l.item (rest.used + count) start c in
+      let does : ended (under g l) (spot_at (rest.used + count) start c) fs (annotated ss f.payload) ≡ goes q = puts (under g l) (spot_at (rest.used + count) start c) in
       subst (λ p. Passes g l (rested rest start c fs ss nows.Ready) octets (count + m) (rested (past_blank (past_token p rest s.token.kind count) m) start c those [] n)) here
       (symbol_passes g l r inner rest octets s.token.kind f.kept count m s.token.left f.content room within
       (subst (λ p. IsFound p rest octets s.token.kind f.kept count s.token.left) (sym here) f.found) f.says passed tt tt refl pays.0 pays.1 q f.payload pays.2 does ends)
@@ -179,31 +179,31 @@ module _ (level : ℕ) (octets : List ℕ) (count : ℕ) (before after : Tally) 
   pub list_value : (w : Walked places.List level octets count before after) (vs : List Value)
       → Leads level before.rest octets count after.rest (λ ss. frames.List ss vs) nows.Ready (λ ss. frames.List ss (vs ++ bare w.payload ∷ [])) nows.After
   list_value w vs = λ g l start c ss fs deep room.
-      w.leads g l start c [] (frames.List ss vs ∷ fs) (frames.List ss (vs ++ bare w.payload ∷ []) ∷ fs) nows.After refl refl (omega arith) room (λ g item end start c. refl)
+      w.leads g l start c [] (frames.List ss vs ∷ fs) (frames.List ss (vs ++ bare w.payload ∷ []) ∷ fs) nows.After refl refl (omega arith) room (λ setting spot. refl)
 
   pub sexp_value : (w : Walked places.Sexp level octets count before after) (vs : List Value)
       → Leads level before.rest octets count after.rest (λ ss. frames.Sexp ss vs) nows.Ready (λ ss. frames.Sexp ss (vs ++ bare w.payload ∷ [])) nows.Ready
   sexp_value w vs = λ g l start c ss fs deep room.
-      w.leads g l start c [] (frames.Sexp ss vs ∷ fs) (frames.Sexp ss (vs ++ bare w.payload ∷ []) ∷ fs) nows.Ready refl refl (omega arith) room (λ g item end start c. refl)
+      w.leads g l start c [] (frames.Sexp ss vs ∷ fs) (frames.Sexp ss (vs ++ bare w.payload ∷ []) ∷ fs) nows.Ready refl refl (omega arith) room (λ setting spot. refl)
 
   pub field_value : (w : Walked places.FieldValue level octets count before after) (ms : List Field) (name : Option (List ℕ))
       → Leads level before.rest octets count after.rest (λ ss. frames.Named ss ms name) nows.Ready (λ ss. frames.Fields ss (ms ++ field_of name (bare w.payload) ∷ [])) nows.After
   field_value w ms name = λ g l start c ss fs deep room.
-      w.leads g l start c [] (frames.Named ss ms name ∷ fs) (frames.Fields ss (ms ++ field_of name (bare w.payload) ∷ []) ∷ fs) nows.After refl refl (omega arith) room (λ g item end start c. refl)
+      w.leads g l start c [] (frames.Named ss ms name ∷ fs) (frames.Fields ss (ms ++ field_of name (bare w.payload) ∷ []) ∷ fs) nows.After refl refl (omega arith) room (λ setting spot. refl)
 
 -- containers
 
-pub open_turns : (g : Catalog) (depth item end start : ℕ) (c : List Slot) (fs : List Frame) (ss : Symbols) (octets : List ℕ) (m : Mark) → Opens octets m → length fs < depth
-    → on_ready g depth item end start c fs ss (Mark' m) ≡ goes (at start c (opened m ss ∷ fs) [] (first_now m))
-open_turns g depth item end start c fs ss octets m opens deep = by m opens
+pub open_turns : (setting : Setting) (spot : Spot) (fs : List Frame) (ss : Symbols) (octets : List ℕ) (m : Mark) → Opens octets m → length fs < setting.limits.depth
+    → on_ready setting spot fs ss (Mark' m) ≡ goes (at spot.start spot.context (opened m ss ∷ fs) [] (first_now m))
+open_turns setting spot fs ss octets m opens deep = by m opens
   where
-    admits : nat_lt (length fs) depth ≡ true
+    admits : nat_lt (length fs) setting.limits.depth ≡ true
     admits = grind (arith, nat_tests)
 
-    deepens : (a : Reading) (t : Turn) → (if nat_lt (length fs) depth then goes a else t) ≡ goes a
+    deepens : (a : Reading) (t : Turn) → (if nat_lt (length fs) setting.limits.depth then goes a else t) ≡ goes a
     deepens a t = ap (λ b. if b then goes a else t) admits
 
-    by : (m : Mark) → Opens octets m → on_ready g depth item end start c fs ss (Mark' m) ≡ goes (at start c (opened m ss ∷ fs) [] (first_now m))
+    by : (m : Mark) → Opens octets m → on_ready setting spot fs ss (Mark' m) ≡ goes (at spot.start spot.context (opened m ss ∷ fs) [] (first_now m))
     by marks.ListOpen h = deepens _ _
     by marks.SexpOpen h = deepens _ _
     by marks.FieldsOpen h = deepens _ _
@@ -260,17 +260,17 @@ module _ (p : Place) (m : Mark) (level : ℕ) (octets : List ℕ) (count : ℕ) 
       let e = at start c those [] n in
       let close = close_of m in
       let shut = closing g l w.last.rest.used (w.last.rest.used + 1) start c close (w.inside.whole ss ∷ fs) w.inside.now (w.inside.closes ss fs) in
-      let does : ended g l.item (w.last.rest.used + 1) start c fs (annotated ss w.inside.payload) ≡ goes e = puts g l.item (w.last.rest.used + 1) start c in
+      let does : ended (under g l) (spot_at (w.last.rest.used + 1) start c) fs (annotated ss w.inside.payload) ≡ goes e = puts (under g l) (spot_at (w.last.rest.used + 1) start c) in
       let found = close_found close (w.inside.whole ss ∷ fs) w.inside.now w.last.rest behind (w.inside.closes ss fs) (omega arith) (at_drop w.behind (drop 1 octets) ∙ w.inside.close) in
       let one : Passes g l (rested before.rest start c fs ss nows.Ready) octets 1 (rested first start c (opened m ss ∷ fs) [] (first_now m)) =
       subst (λ p. Passes g l (rested before.rest start c fs ss nows.Ready) octets 1 (rested (past_token p before.rest (kinds.Mark m) 1) start c (opened m ss ∷ fs) [] (first_now m))) here
       (token_passes g l r inner tt before.rest octets (kinds.Mark m) [] 1 (Mark' m) q (mark_says m)
-      (ready_turns g l r (lexeme_at before.rest (kinds.Mark m) [] 1) (Mark' m) refl inner ∙ open_turns g l.depth l.item (before.rest.used + 1) start c fs ss octets m opens (omega arith)) room
+      (ready_turns g l r (lexeme_at before.rest (kinds.Mark m) [] 1) (Mark' m) refl inner ∙ open_turns (under g l) (spot_at (before.rest.used + 1) start c) fs ss octets m opens (omega arith)) room
       (opened_stays start c fs ss m) (is_left m) (open_found m (place_in fs nows.Ready) before.rest octets opens more (ap is_name here ∙ value)) (inl tt)) in
       let last : Passes g l (rested w.last.rest start c (w.inside.whole ss ∷ fs) [] w.inside.now) behind 1 (rested (past_token (place k) w.last.rest (kinds.Mark close) 1) start c those [] n) =
       token_passes g l k refl shut.1 w.last.rest behind (kinds.Mark close) [] 1 (Mark' close) e (mark_says close)
-      (shut.0 ∙ (w.inside.closed g l.item (w.last.rest.used + 1) start c ss fs ∙ does)) (omega arith)
-      (ended_stays g l.item (w.last.rest.used + 1) start c e fs (annotated ss w.inside.payload) inner does) false found (inr refl) in
+      (shut.0 ∙ (w.inside.closed (under g l) (spot_at (w.last.rest.used + 1) start c) ss fs ∙ does)) (omega arith)
+      (ended_stays (under g l) (spot_at (w.last.rest.used + 1) start c) e fs (annotated ss w.inside.payload) inner does) false found (inr refl) in
       let there : after.rest ≡ past_token (place k) w.last.rest (kinds.Mark close) 1 = ap (λ (t : Tally). t.rest) w.shuts in
       let total : 1 + (w.behind + 1) ≡ count = let t = w.total in omega arith in
       subst (λ j. Passes g l (rested before.rest start c fs ss nows.Ready) octets j (rested after.rest start c those [] n)) total
@@ -487,7 +487,7 @@ module _ (level : ℕ) (octets rest : List ℕ) (at : ℕ) (before now : Tally) 
         now = element_now b;
         leads = x.leads;
         closes = λ ss fs. element_closes b ss vs fs;
-        closed = λ g item end start c ss fs. refl;
+        closed = λ setting spot ss fs. refl;
         within = inside;
         close = closer 93 e;
         used = x.used;
@@ -511,7 +511,7 @@ module _ (level : ℕ) (octets rest : List ℕ) (at : ℕ) (before now : Tally) 
         now = nows.Ready;
         leads = x.leads;
         closes = λ ss fs. refl;
-        closed = λ g item end start c ss fs. refl;
+        closed = λ setting spot ss fs. refl;
         within = inside;
         close = closer 41 e;
         used = x.used;
@@ -535,7 +535,7 @@ module _ (level : ℕ) (octets rest : List ℕ) (at : ℕ) (before now : Tally) 
         now = field_now b;
         leads = x.leads;
         closes = λ ss fs. field_closes b ss ms fs;
-        closed = λ g item end start c ss fs. refl;
+        closed = λ setting spot ss fs. refl;
         within = inside;
         close = closer 125 e;
         used = x.used;

@@ -3,7 +3,7 @@ ghost use Rattle.std.specs.Prelude.{◌≡◌, ◌∷◌, [], nat_lt, length, Li
 ghost use Rattle.ion_model.specs.Measures.{annotated};
 ghost use Rattle.ion_text.specs.machine.EachToken.{place, begun_at, ended};
 ghost use Rattle.ion_text.specs.machine.Run.{is_top};
-ghost use Rattle.ion_text.specs.machine.Views.{open_frames, reading_of, Does, Puts, SameSetting, is_named, has_field};
+ghost use Rattle.ion_text.specs.machine.Views.{setting_of, spot_of, open_frames, reading_of, Does, Puts, SameSetting, is_named, has_field};
 
 use crate::state::{Effect, Frame, Now};
 use ion_model::{Field, Payload, Reason, Refusal, Sequence, Symbol, Value};
@@ -124,7 +124,10 @@ impl TextReader<'_> {
 
     /// The annotations and a payload are a whole value, which ended at `end`.
     fn whole(&mut self, payload: Payload, end: u64) -> Result<Effect, Reason>
-        ensures does { Does (ended self.old.catalog.now self.old.limits.item end self.old.start self.old.context (open_frames self.old) (annotated self.old.notes payload)) result self.new }
+        ensures does { Does
+            (ended (setting_of self.old) (spot_of self.old end) (open_frames self.old)
+            (annotated self.old.notes payload))
+            result self.new }
         ensures setting { SameSetting self.old self.new }
     {
         let annotations = mem::replace(&mut self.notes, Sequence::new(self.alloc));
@@ -140,7 +143,9 @@ impl TextReader<'_> {
     /// Hands a whole value, which ended at `end`, to the innermost container.
     fn deliver(&mut self, value: Value, end: u64) -> Result<Effect, Reason>
         requires notes { self.old.notes ≡ [] }
-        ensures does { Does (ended self.old.catalog.now self.old.limits.item end self.old.start self.old.context (open_frames self.old) value) result self.new }
+        ensures does { Does
+            (ended (setting_of self.old) (spot_of self.old end) (open_frames self.old) value)
+            result self.new }
         ensures setting { SameSetting self.old self.new }
     {
         match self.frames.last() {
@@ -157,7 +162,9 @@ impl TextReader<'_> {
     fn put_field(&mut self, value: Value) -> Result<Effect, Reason>
         requires notes { self.old.notes ≡ [] }
         requires open { has_field (open_frames self.old) ≡ true }
-        ensures does { Does (ended self.old.catalog.now 0 0 self.old.start self.old.context (open_frames self.old) value) result self.new }
+        ensures does { Does
+            (ended (setting_of self.old) (spot_of self.old 0) (open_frames self.old) value)
+            result self.new }
         ensures setting { SameSetting self.old self.new }
     {
         match self.frames.pop() {
@@ -176,7 +183,9 @@ impl TextReader<'_> {
     fn give(&mut self, value: Value, end: u64) -> Result<Effect, Reason>
         requires top { open_frames self.old ≡ [] }
         requires notes { self.old.notes ≡ [] }
-        ensures does { Does (ended self.old.catalog.now self.old.limits.item end self.old.start self.old.context [] value) result self.new }
+        ensures does { Does
+            (ended (setting_of self.old) (spot_of self.old end) [] value)
+            result self.new }
         ensures setting { SameSetting self.old self.new }
     {
         let last = self.start.saturating_add(self.limits.item);

@@ -29,6 +29,17 @@ use Rattle.ion_text.specs.Grammar.{is_keyword, is_version, the_marker}
 abbrev pub Symbols : Type 0
 Symbols = List (Option (List ℕ))
 
+-- what stays: the shared tables that a document may import, and how much may come
+pub record Setting : Type 0 where
+  pub catalog : Catalog
+  pub limits : Limits
+
+-- a token ends at `end`, the open item of the top level begins at `start`, `context` are the slots of symbol ids there
+pub record Spot : Type 0 where
+  pub end : ℕ
+  pub start : ℕ
+  pub context : List Slot
+
 -- the open item of the top level begins at `start`; `context` are the slots of symbol ids there, `frames` the open containers, the
 -- innermost first, and `notes` the annotations read of the value that is read now
 pub record Reading : Type 0 where
@@ -51,6 +62,19 @@ pub record Token : Type 0 where
   pub start : ℕ
   pub end : ℕ
   pub said : Content
+
+abbrev pub under : Catalog → Limits → Setting
+under g l = record { catalog = g; limits = l }
+
+abbrev pub spot_at : ℕ → ℕ → List Slot → Spot
+spot_at end start c = record { end = end; start = start; context = c }
+
+-- a token of the open item ends at `end`
+abbrev pub spot_in : Reading → ℕ → Spot
+spot_in r end = spot_at end r.start r.context
+
+abbrev pub token_at : ℕ → ℕ → Content → Token
+token_at start end said = record { start = start; end = end; said = said }
 
 abbrev pub at : ℕ → List Slot → List Frame → Symbols → Now → Reading
 at start c fs ss now = record { start = start; context = c; frames = fs; notes = ss; now = now }
@@ -80,13 +104,16 @@ abbrev pub turned : ℕ → ℕ → ℕ → Result (List Slot) Reason → Turn
 turned item start end (Ok d) = within item start end (goes (fresh d))
 turned item start end (Err e) = refuses e
 
--- a value is whole, which ended at `end`
-abbrev pub ended : Catalog → ℕ → ℕ → ℕ → List Slot → List Frame → Value → Turn
-ended g item end start c [] v = if is_table v then turned item start end (next c v g) else within item start end (gives v (fresh c))
-ended g item end start c (frames.List ss vs ∷ fs) v = goes (at start c (frames.List ss (vs ++ v ∷ []) ∷ fs) [] nows.After)
-ended g item end start c (frames.Sexp ss vs ∷ fs) v = goes (at start c (frames.Sexp ss (vs ++ v ∷ []) ∷ fs) [] nows.Ready)
-ended g item end start c (frames.Named ss ms name ∷ fs) v = goes (at start c (frames.Fields ss (ms ++ field_of name v ∷ []) ∷ fs) [] nows.After)
-ended g item end start c (frames.Fields ss ms ∷ fs) v = refuses reasons.Unexpected
+-- a value is whole, with the token that ends here
+abbrev pub ended : Setting → Spot → List Frame → Value → Turn
+ended setting spot [] v =
+    if is_table v then turned setting.limits.item spot.start spot.end (next spot.context v setting.catalog)
+    else within setting.limits.item spot.start spot.end (gives v (fresh spot.context))
+ended setting spot (frames.List ss vs ∷ fs) v = goes (at spot.start spot.context (frames.List ss (vs ++ v ∷ []) ∷ fs) [] nows.After)
+ended setting spot (frames.Sexp ss vs ∷ fs) v = goes (at spot.start spot.context (frames.Sexp ss (vs ++ v ∷ []) ∷ fs) [] nows.Ready)
+ended setting spot (frames.Named ss ms name ∷ fs) v =
+    goes (at spot.start spot.context (frames.Fields ss (ms ++ field_of name v ∷ []) ∷ fs) [] nows.After)
+ended setting spot (frames.Fields ss ms ∷ fs) v = refuses reasons.Unexpected
 
 -- what a word is as a value, or as an annotation
 abbrev pub held_word : List ℕ → Held
@@ -110,25 +137,25 @@ held_symbol (helds.Symbol s) = Ok s
 held_symbol (helds.Version ours s) = Ok s
 held_symbol _ = Err reasons.KeywordAsName
 
-abbrev pub paid : Catalog → ℕ → ℕ → ℕ → List Slot → List Frame → Symbols → Result Payload Reason → Turn
-paid g item end start c fs ss (Ok q) = ended g item end start c fs (annotated ss q)
-paid g item end start c fs ss (Err e) = refuses e
+abbrev pub paid : Setting → Spot → List Frame → Symbols → Result Payload Reason → Turn
+paid setting spot fs ss (Ok q) = ended setting spot fs (annotated ss q)
+paid setting spot fs ss (Err e) = refuses e
 
 -- no `::` follows what was held; an unannotated version marker at the top level is no value
-abbrev pub released : Catalog → ℕ → ℕ → ℕ → List Slot → List Frame → Symbols → Held → Turn
-released g item end start c [] [] (helds.Version true s) = within item start end (goes (fresh system_slots))
-released g item end start c [] [] (helds.Version false s) = late reasons.Version (fresh c)
-released g item end start c fs ss h = paid g item end start c fs ss (held_payload h)
+abbrev pub released : Setting → Spot → List Frame → Symbols → Held → Turn
+released setting spot [] [] (helds.Version true s) = within setting.limits.item spot.start spot.end (goes (fresh system_slots))
+released setting spot [] [] (helds.Version false s) = late reasons.Version (fresh spot.context)
+released setting spot fs ss h = paid setting spot fs ss (held_payload h)
 
 -- what waited for more is whole
-abbrev pub settled : Catalog → ℕ → ℕ → List Slot → List Frame → Symbols → Now → Turn
-settled g item start c fs ss (nows.Pending h end) = released g item end start c fs ss h
-settled g item start c fs ss (nows.Long w end) = ended g item end start c fs (annotated ss (payloads.Str w))
-settled g item start c fs ss (nows.LongName w) = goes (at start c fs ss (nows.Keyed (Some w)))
-settled g item start c fs ss now = goes (at start c fs ss now)
+abbrev pub settled : Setting → ℕ → List Slot → List Frame → Symbols → Now → Turn
+settled setting start c fs ss (nows.Pending h end) = released setting (spot_at end start c) fs ss h
+settled setting start c fs ss (nows.Long w end) = ended setting (spot_at end start c) fs (annotated ss (payloads.Str w))
+settled setting start c fs ss (nows.LongName w) = goes (at start c fs ss (nows.Keyed (Some w)))
+settled setting start c fs ss now = goes (at start c fs ss now)
 
 abbrev pub settle : Catalog → Limits → Reading → Turn
-settle g l r = settled g l.item r.start r.context r.frames r.notes r.now
+settle g l r = settled (under g l) r.start r.context r.frames r.notes r.now
 
 -- one level more, if the limit admits it
 abbrev pub deeper : ℕ → List Frame → Turn → Turn → Turn
@@ -142,17 +169,17 @@ abbrev pub unexpected : Turn
 unexpected = refuses reasons.Unexpected
 
 -- a close, where no annotation stands before it
-abbrev pub list_closed : Catalog → ℕ → ℕ → ℕ → List Slot → List Frame → Turn
-list_closed g item end start c (frames.List ss vs ∷ fs) = ended g item end start c fs (annotated ss (payloads.List vs))
-list_closed g item end start c _ = unexpected
+abbrev pub list_closed : Setting → Spot → List Frame → Turn
+list_closed setting spot (frames.List ss vs ∷ fs) = ended setting spot fs (annotated ss (payloads.List vs))
+list_closed setting spot _ = unexpected
 
-abbrev pub sexp_closed : Catalog → ℕ → ℕ → ℕ → List Slot → List Frame → Turn
-sexp_closed g item end start c (frames.Sexp ss vs ∷ fs) = ended g item end start c fs (annotated ss (payloads.Sexp vs))
-sexp_closed g item end start c _ = unexpected
+abbrev pub sexp_closed : Setting → Spot → List Frame → Turn
+sexp_closed setting spot (frames.Sexp ss vs ∷ fs) = ended setting spot fs (annotated ss (payloads.Sexp vs))
+sexp_closed setting spot _ = unexpected
 
-abbrev pub struct_closed : Catalog → ℕ → ℕ → ℕ → List Slot → List Frame → Turn
-struct_closed g item end start c (frames.Fields ss ms ∷ fs) = ended g item end start c fs (annotated ss (payloads.Fields ms))
-struct_closed g item end start c _ = unexpected
+abbrev pub struct_closed : Setting → Spot → List Frame → Turn
+struct_closed setting spot (frames.Fields ss ms ∷ fs) = ended setting spot fs (annotated ss (payloads.Fields ms))
+struct_closed setting spot _ = unexpected
 
 abbrev pub bare_close : Symbols → Turn → Turn
 bare_close [] t = t
@@ -163,24 +190,29 @@ number_payload (numbers.Int z) = payloads.Int z
 number_payload (numbers.Decimal d) = payloads.Decimal d
 number_payload (numbers.Timestamp t) = payloads.Timestamp t
 
--- a value or an annotation may come, of an item that begins at `start`
-abbrev pub on_ready : Catalog → ℕ → ℕ → ℕ → ℕ → List Slot → List Frame → Symbols → Content → Turn
-on_ready g depth item end start c fs ss (Word w) = goes (at start c fs ss (nows.Pending (held_word w) end))
-on_ready g depth item end start c fs ss (Id id) = resolved (resolve c id) (λ s. goes (at start c fs ss (nows.Pending (helds.Symbol s) end)))
-on_ready g depth item end start c fs ss (Quoted w) = goes (at start c fs ss (nows.Pending (helds.Symbol (Some w)) end))
-on_ready g depth item end start c fs ss (TypedNull k) = goes (at start c fs ss (nows.Pending (helds.Null k) end))
-on_ready g depth item end start c fs ss (Long w) = goes (at start c fs ss (nows.Long w end))
-on_ready g depth item end start c fs ss (Short w) = ended g item end start c fs (annotated ss (payloads.Str w))
-on_ready g depth item end start c fs ss (Number' n) = ended g item end start c fs (annotated ss (number_payload n))
-on_ready g depth item end start c fs ss (Operator w) = ended g item end start c fs (annotated ss (payloads.Symbol (Some w)))
-on_ready g depth item end start c fs ss (Clob w) = ended g item end start c fs (annotated ss (payloads.Clob w))
-on_ready g depth item end start c fs ss (Blob w) = ended g item end start c fs (annotated ss (payloads.Blob w))
-on_ready g depth item end start c fs ss (Mark' marks.ListOpen) = deeper depth fs (goes (at start c (frames.List ss [] ∷ fs) [] nows.Ready)) (refuses reasons.Depth)
-on_ready g depth item end start c fs ss (Mark' marks.SexpOpen) = deeper depth fs (goes (at start c (frames.Sexp ss [] ∷ fs) [] nows.Ready)) (refuses reasons.Depth)
-on_ready g depth item end start c fs ss (Mark' marks.FieldsOpen) = deeper depth fs (goes (at start c (frames.Fields ss [] ∷ fs) [] nows.Name)) (late reasons.Depth (at start c (frames.Fields ss [] ∷ fs) [] nows.Name))
-on_ready g depth item end start c fs ss (Mark' marks.ListClose) = bare_close ss (list_closed g item end start c fs)
-on_ready g depth item end start c fs ss (Mark' marks.SexpClose) = bare_close ss (sexp_closed g item end start c fs)
-on_ready g depth item end start c fs ss (Mark' _) = unexpected
+-- a value or an annotation may come, of an item that begins where the spot says
+abbrev pub on_ready : Setting → Spot → List Frame → Symbols → Content → Turn
+on_ready setting spot fs ss (Word w) = goes (at spot.start spot.context fs ss (nows.Pending (held_word w) spot.end))
+on_ready setting spot fs ss (Id id) =
+    resolved (resolve spot.context id) (λ s. goes (at spot.start spot.context fs ss (nows.Pending (helds.Symbol s) spot.end)))
+on_ready setting spot fs ss (Quoted w) = goes (at spot.start spot.context fs ss (nows.Pending (helds.Symbol (Some w)) spot.end))
+on_ready setting spot fs ss (TypedNull k) = goes (at spot.start spot.context fs ss (nows.Pending (helds.Null k) spot.end))
+on_ready setting spot fs ss (Long w) = goes (at spot.start spot.context fs ss (nows.Long w spot.end))
+on_ready setting spot fs ss (Short w) = ended setting spot fs (annotated ss (payloads.Str w))
+on_ready setting spot fs ss (Number' n) = ended setting spot fs (annotated ss (number_payload n))
+on_ready setting spot fs ss (Operator w) = ended setting spot fs (annotated ss (payloads.Symbol (Some w)))
+on_ready setting spot fs ss (Clob w) = ended setting spot fs (annotated ss (payloads.Clob w))
+on_ready setting spot fs ss (Blob w) = ended setting spot fs (annotated ss (payloads.Blob w))
+on_ready setting spot fs ss (Mark' marks.ListOpen) =
+    deeper setting.limits.depth fs (goes (at spot.start spot.context (frames.List ss [] ∷ fs) [] nows.Ready)) (refuses reasons.Depth)
+on_ready setting spot fs ss (Mark' marks.SexpOpen) =
+    deeper setting.limits.depth fs (goes (at spot.start spot.context (frames.Sexp ss [] ∷ fs) [] nows.Ready)) (refuses reasons.Depth)
+on_ready setting spot fs ss (Mark' marks.FieldsOpen) =
+    deeper setting.limits.depth fs (goes (at spot.start spot.context (frames.Fields ss [] ∷ fs) [] nows.Name))
+    (late reasons.Depth (at spot.start spot.context (frames.Fields ss [] ∷ fs) [] nows.Name))
+on_ready setting spot fs ss (Mark' marks.ListClose) = bare_close ss (list_closed setting spot fs)
+on_ready setting spot fs ss (Mark' marks.SexpClose) = bare_close ss (sexp_closed setting spot fs)
+on_ready setting spot fs ss (Mark' _) = unexpected
 
 -- behind what may be an annotation
 abbrev pub noted : ℕ → List Slot → List Frame → Symbols → Result (Option (List ℕ)) Reason → Turn
@@ -191,33 +223,35 @@ abbrev pub on_pending : ℕ → List Slot → List Frame → Symbols → Held �
 on_pending start c fs ss h (Mark' marks.Colons) = noted start c fs ss (held_symbol h)
 on_pending start c fs ss h _ = unexpected
 
-abbrev pub on_long : ℕ → ℕ → List Slot → List Frame → Symbols → List ℕ → Content → Turn
-on_long end start c fs ss v (Long w) = goes (at start c fs ss (nows.Long (v ++ w) end))
-on_long end start c fs ss v _ = unexpected
+abbrev pub on_long : Spot → List Frame → Symbols → List ℕ → Content → Turn
+on_long spot fs ss v (Long w) = goes (at spot.start spot.context fs ss (nows.Long (v ++ w) spot.end))
+on_long spot fs ss v _ = unexpected
 
 abbrev pub on_comma : ℕ → List Slot → List Frame → Turn
 on_comma start c (frames.List ss vs ∷ fs) = goes (at start c (frames.List ss vs ∷ fs) [] nows.Ready)
 on_comma start c (frames.Fields ss ms ∷ fs) = goes (at start c (frames.Fields ss ms ∷ fs) [] nows.Name)
 on_comma start c _ = unexpected
 
-abbrev pub on_after : Catalog → ℕ → ℕ → ℕ → List Slot → List Frame → Content → Turn
-on_after g item end start c fs (Mark' marks.Comma) = on_comma start c fs
-on_after g item end start c fs (Mark' marks.ListClose) = list_closed g item end start c fs
-on_after g item end start c fs (Mark' marks.FieldsClose) = struct_closed g item end start c fs
-on_after g item end start c fs _ = unexpected
+abbrev pub on_after : Setting → Spot → List Frame → Content → Turn
+on_after setting spot fs (Mark' marks.Comma) = on_comma spot.start spot.context fs
+on_after setting spot fs (Mark' marks.ListClose) = list_closed setting spot fs
+on_after setting spot fs (Mark' marks.FieldsClose) = struct_closed setting spot fs
+on_after setting spot fs _ = unexpected
 
 abbrev pub keyed : ℕ → List Slot → List Frame → Option (List ℕ) → Reading
 keyed start c fs s = at start c fs [] (nows.Keyed s)
 
-abbrev pub on_name : Catalog → ℕ → ℕ → ℕ → List Slot → List Frame → Content → Turn
-on_name g item end start c fs (Word w) = if is_keyword w then late reasons.KeywordAsName (keyed start c fs (Some w)) else goes (keyed start c fs (Some w))
-on_name g item end start c fs (TypedNull k) = late reasons.KeywordAsName (keyed start c fs None)
-on_name g item end start c fs (Id id) = resolved (resolve c id) (λ s. goes (keyed start c fs s))
-on_name g item end start c fs (Quoted w) = goes (keyed start c fs (Some w))
-on_name g item end start c fs (Short w) = goes (keyed start c fs (Some w))
-on_name g item end start c fs (Long w) = goes (at start c fs [] (nows.LongName w))
-on_name g item end start c fs (Mark' marks.FieldsClose) = struct_closed g item end start c fs
-on_name g item end start c fs _ = unexpected
+abbrev pub on_name : Setting → Spot → List Frame → Content → Turn
+on_name setting spot fs (Word w) =
+    if is_keyword w then late reasons.KeywordAsName (keyed spot.start spot.context fs (Some w))
+    else goes (keyed spot.start spot.context fs (Some w))
+on_name setting spot fs (TypedNull k) = late reasons.KeywordAsName (keyed spot.start spot.context fs None)
+on_name setting spot fs (Id id) = resolved (resolve spot.context id) (λ s. goes (keyed spot.start spot.context fs s))
+on_name setting spot fs (Quoted w) = goes (keyed spot.start spot.context fs (Some w))
+on_name setting spot fs (Short w) = goes (keyed spot.start spot.context fs (Some w))
+on_name setting spot fs (Long w) = goes (at spot.start spot.context fs [] (nows.LongName w))
+on_name setting spot fs (Mark' marks.FieldsClose) = struct_closed setting spot fs
+on_name setting spot fs _ = unexpected
 
 abbrev pub on_long_name : ℕ → List Slot → List Frame → List ℕ → Content → Turn
 on_long_name start c fs v (Long w) = goes (at start c fs [] (nows.LongName (v ++ w)))
@@ -236,15 +270,17 @@ abbrev pub begun_at : ℕ → ℕ → List Frame → Symbols → ℕ
 begun_at start begin [] [] = begin
 begun_at start begin _ _ = start
 
-abbrev pub turn_now : Catalog → Limits → ℕ → ℕ → ℕ → List Slot → List Frame → Symbols → Content → Now → Turn
-turn_now g l begin end start c fs ss said nows.Ready = on_ready g l.depth l.item end (begun_at start begin fs ss) c fs ss said
-turn_now g l begin end start c fs ss said (nows.Pending h _) = on_pending start c fs ss h said
-turn_now g l begin end start c fs ss said (nows.Long w _) = on_long end start c fs ss w said
-turn_now g l begin end start c fs ss said nows.After = on_after g l.item end start c fs said
-turn_now g l begin end start c fs ss said nows.Name = on_name g l.item end start c fs said
-turn_now g l begin end start c fs ss said (nows.LongName w) = on_long_name start c fs w said
-turn_now g l begin end start c fs ss said (nows.Keyed s) = on_keyed start c fs s said
+-- what a token does where this is expected; where nothing waits, an item may begin with it
+abbrev pub turn_now : Setting → Reading → Token → Now → Turn
+turn_now setting r t nows.Ready =
+    on_ready setting (spot_at t.end (begun_at r.start t.start r.frames r.notes) r.context) r.frames r.notes t.said
+turn_now setting r t (nows.Pending h _) = on_pending r.start r.context r.frames r.notes h t.said
+turn_now setting r t (nows.Long w _) = on_long (spot_in r t.end) r.frames r.notes w t.said
+turn_now setting r t nows.After = on_after setting (spot_in r t.end) r.frames t.said
+turn_now setting r t nows.Name = on_name setting (spot_in r t.end) r.frames t.said
+turn_now setting r t (nows.LongName w) = on_long_name r.start r.context r.frames w t.said
+turn_now setting r t (nows.Keyed s) = on_keyed r.start r.context r.frames s t.said
 
 -- what a token does
 abbrev pub turn : Catalog → Limits → Reading → Token → Turn
-turn g l r t = turn_now g l t.start t.end r.start r.context r.frames r.notes t.said r.now
+turn g l r t = turn_now (under g l) r t r.now

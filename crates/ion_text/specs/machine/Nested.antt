@@ -5,15 +5,13 @@ use Rattle.ion_tokens.specs.machine.Rests.{resting}
 use Rattle.ion_tokens.specs.machine.Views.{scanned}
 use Rattle.ion_text.specs.declared.reader.TextReader.{TextReader}
 use Rattle.ion_text.specs.machine.Views.{open_frames, IsFine}
-use Rattle.ion_symtab.specs.declared.catalog.Catalog.{Catalog}
-use Rattle.ion_symtab.specs.Slots.{Slot}
 use Rattle.ion_tokens.specs.declared.mode.Mark.{Mark}
 use Rattle.ion_tokens.specs.declared.mode.Mark.TheVariants as marks
 use Rattle.ion_text.specs.declared.state.Frame.{Frame}
 use Rattle.ion_text.specs.declared.state.Frame.TheVariants as frames
 use Rattle.ion_text.specs.declared.state.Now.{Now}
 use Rattle.ion_text.specs.declared.state.Now.TheVariants as nows
-use Rattle.ion_text.specs.machine.EachToken.{Reading, Turn, list_closed, sexp_closed, struct_closed}
+use Rattle.ion_text.specs.machine.EachToken.{Setting, Spot, Reading, Turn, list_closed, sexp_closed, struct_closed}
 
 -- octets begin with the mark of an open, and `{` is none of a lob's `{{`
 abbrev pub Opens : List ℕ → Mark → Type 0
@@ -55,7 +53,7 @@ pub record Closes (r : Reading) (o : ℕ) (mark : Mark) : Type 0 where
   pub nested : 1 < length r.frames
 
 -- what a close does
-abbrev pub closed : Mark → Catalog → ℕ → ℕ → ℕ → List Slot → List Frame → Turn
-closed marks.ListClose g item end start c fs = list_closed g item end start c fs
-closed marks.SexpClose g item end start c fs = sexp_closed g item end start c fs
-closed _ g item end start c fs = struct_closed g item end start c fs
+abbrev pub closed : Mark → Setting → Spot → List Frame → Turn
+closed marks.ListClose setting spot fs = list_closed setting spot fs
+closed marks.SexpClose setting spot fs = sexp_closed setting spot fs
+closed _ setting spot fs = struct_closed setting spot fs

@@ -28,12 +28,19 @@ use Rattle.ion_text.specs.machine.Run.{State, Effect, uses, tells, leaves, fails
 use Rattle.ion_text.specs.declared.reader.TextReader.{TextReader}
 use Rattle.ion_tokens.specs.declared.token.Token.{Token as Found}
 use Rattle.ion_tokens.specs.Bodies.{content}
-use Rattle.ion_symtab.specs.Slots.{Slot}
-use Rattle.ion_text.specs.machine.EachToken.{Reading, Symbols, Turn, Token, goes, gives, refuses, late, at, ended}
+use Rattle.ion_text.specs.machine.EachToken.{Setting, Spot, under, spot_at, Reading, Symbols, Turn, Token, goes, gives, refuses, late, at, ended}
 
 -- in memory the innermost of the open containers is the last
 abbrev pub open_frames : TextReader → List Frame
 open_frames r = reverse r.frames.items
+
+-- what stays of a reader
+abbrev pub setting_of : TextReader → Setting
+setting_of r = under r.catalog.now r.limits
+
+-- a token of the open item of a reader ends at `end`
+abbrev pub spot_of : TextReader → ℕ → Spot
+spot_of r end = spot_at end r.start r.context
 
 abbrev pub reading_of : TextReader → Reading
 reading_of r = record { start = r.start; context = r.context; frames = open_frames r; notes = r.notes; now = r.stage }
@@ -55,8 +62,8 @@ Does turn (Err reason) r = reason ≢ Memory → turn ≡ refuses reason
 
 -- The innermost of these containers took up a value; those are open then, and so may come next. Unless memory ran out.
 abbrev pub Puts : List Frame → Value → Result Now Reason → List Frame → Type 0
-Puts fs v (Ok now) those = (g : Catalog) (item end start : ℕ) (c : List Slot) → ended g item end start c fs v ≡ goes (at start c those [] now)
-Puts fs v (Err reason) those = reason ≢ Memory → (g : Catalog) (item end start : ℕ) (c : List Slot) → ended g item end start c fs v ≡ refuses reason
+Puts fs v (Ok now) those = (setting : Setting) (spot : Spot) → ended setting spot fs v ≡ goes (at spot.start spot.context those [] now)
+Puts fs v (Err reason) those = reason ≢ Memory → (setting : Setting) (spot : Spot) → ended setting spot fs v ≡ refuses reason
 
 -- a struct, a value of whose fields is open
 abbrev pub is_named : Frame → Bool

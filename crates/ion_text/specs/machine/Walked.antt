@@ -28,7 +28,7 @@ use Rattle.ion_text.specs.declared.state.Frame.TheVariants as frames
 use Rattle.ion_text.specs.declared.state.Now.{Now}
 use Rattle.ion_text.specs.declared.state.Now.TheVariants as nows
 use Rattle.ion_text.specs.laws.reading.FrontTokens.{held_of, Pays, BeginsName}
-use Rattle.ion_text.specs.machine.EachToken.{Symbols, at, place_in, on_ready, ended}
+use Rattle.ion_text.specs.machine.EachToken.{Setting, Spot, Symbols, at, place_in, on_ready, ended}
 use Rattle.ion_text.specs.machine.AtOnce.{Passes}
 use Rattle.ion_text.specs.machine.Nested.{closes, closed, close_octet}
 use Rattle.ion_text.specs.machine.Run.{State, is_top, with_scan}
@@ -55,8 +55,7 @@ pub record IsFlat (payload : Payload) (kind : Kind) : Type 0 where
 
 -- what is said is this value at once
 abbrev pub Ends : Content → Payload → Type 0
-Ends c payload = (g : Catalog) (depth item end start : ℕ) (slots : List Slot) (fs : List Frame) (ss : Symbols)
-    → on_ready g depth item end start slots fs ss c ≡ ended g item end start slots fs (annotated ss payload)
+Ends c payload = (setting : Setting) (spot : Spot) (fs : List Frame) (ss : Symbols) → on_ready setting spot fs ss c ≡ ended setting spot fs (annotated ss payload)
 
 -- what is said is this value; where it waits, unless `::` follows
 abbrev pub IsValue : Bool → Content → Payload → Type 0
@@ -139,8 +138,8 @@ pub record WalkedInside (m : Mark) (level : ℕ) (octets : List ℕ) (count : �
   pub now : Now
   pub leads : Leads level before.rest octets count after.rest (opened m) (first_now m) whole now
   pub closes : (ss : Symbols) (fs : List Frame) → closes (close_of m) (whole ss ∷ fs) now ≡ true
-  pub closed : (g : Catalog) (item end start : ℕ) (c : List Slot) (ss : Symbols) (fs : List Frame)
-      → closed (close_of m) g item end start c (whole ss ∷ fs) ≡ ended g item end start c fs (annotated ss payload)
+  pub closed : (setting : Setting) (spot : Spot) (ss : Symbols) (fs : List Frame)
+      → closed (close_of m) setting spot (whole ss ∷ fs) ≡ ended setting spot fs (annotated ss payload)
   pub within : count < length octets
   pub close : get_or octets count 0 ≡ close_octet (close_of m)
   pub used : after.rest.used ≡ before.rest.used + count

@@ -29,7 +29,8 @@ pub(super) fn may_be_rare(octets: &[u8]) -> bool {
 
 // The value that a token is unless `::` follows.
 fn symbol_value(alloc: Global, body: &Body<'_>) -> Result<Option<Payload>, Reason>
-    ensures pays { IfOk result (λ value. IfSome value (λ payload. Pays (held_of (content body.now)) payload)) }
+    ensures pays { IfOk result (λ value.
+        IfSome value (λ payload. Pays (held_of (content body.now)) payload)) }
     ensures memory { IfErr result (λ reason. reason ≡ Memory) }
 {
     match body {
@@ -44,7 +45,8 @@ fn symbol_value(alloc: Global, body: &Body<'_>) -> Result<Option<Payload>, Reaso
 
 // The value that a token is at once.
 fn whole_value(alloc: Global, body: Body<'_>) -> Result<Option<Payload>, Reason>
-    ensures value { IfOk result (λ value. IfSome value (λ payload. value_of (content body.entry) ≡ Some payload)) }
+    ensures value { IfOk result (λ value.
+        IfSome value (λ payload. value_of (content body.entry) ≡ Some payload)) }
     ensures memory { IfErr result (λ reason. reason ≡ Memory) }
 {
     match body {

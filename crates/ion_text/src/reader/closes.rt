@@ -4,7 +4,7 @@ ghost use Rattle.ion_text.specs.declared.state.Frame.TheVariants as frames;
 ghost use Rattle.ion_text.specs.declared.state.Now.TheVariants as nows;
 ghost use Rattle.ion_model.specs.declared.refusal.Reason.TheVariants as reasons;
 ghost use Rattle.ion_text.specs.machine.EachToken.{at, goes, late, refuses, deeper, list_closed, sexp_closed, struct_closed, on_comma, named};
-ghost use Rattle.ion_text.specs.machine.Views.{open_frames, Does, SameSetting};
+ghost use Rattle.ion_text.specs.machine.Views.{setting_of, spot_of, open_frames, Does, SameSetting};
 
 use super::TextReader;
 use crate::state::{Effect, Frame, Now};
@@ -15,7 +15,12 @@ impl TextReader<'_> {
     /// Behind `[`.
     pub(super) fn open_list(&mut self) -> Result<Effect, Reason>
         requires { self.old.stage ≡ nows.Ready }
-        ensures does { Does (deeper self.old.limits.depth (open_frames self.old) (goes (at self.old.start self.old.context (frames.List self.old.notes [] ∷ open_frames self.old) [] nows.Ready)) (refuses reasons.Depth)) result self.new }
+        ensures does { Does
+            (deeper self.old.limits.depth (open_frames self.old)
+            (goes (at self.old.start self.old.context
+            (frames.List self.old.notes [] ∷ open_frames self.old) [] nows.Ready))
+            (refuses reasons.Depth))
+            result self.new }
         ensures setting { SameSetting self.old self.new }
     {
         if !self.may_deepen() {
@@ -30,7 +35,12 @@ impl TextReader<'_> {
     /// Behind `(`.
     pub(super) fn open_sexp(&mut self) -> Result<Effect, Reason>
         requires { self.old.stage ≡ nows.Ready }
-        ensures does { Does (deeper self.old.limits.depth (open_frames self.old) (goes (at self.old.start self.old.context (frames.Sexp self.old.notes [] ∷ open_frames self.old) [] nows.Ready)) (refuses reasons.Depth)) result self.new }
+        ensures does { Does
+            (deeper self.old.limits.depth (open_frames self.old)
+            (goes (at self.old.start self.old.context
+            (frames.Sexp self.old.notes [] ∷ open_frames self.old) [] nows.Ready))
+            (refuses reasons.Depth))
+            result self.new }
         ensures setting { SameSetting self.old self.new }
     {
         if !self.may_deepen() {
@@ -44,7 +54,13 @@ impl TextReader<'_> {
 
     /// Behind `{`. The octet behind it shows that it is no `{{`, and may be refused for a smaller reason.
     pub(super) fn open_struct(&mut self) -> Result<Effect, Reason>
-        ensures does { Does (deeper self.old.limits.depth (open_frames self.old) (goes (at self.old.start self.old.context (frames.Fields self.old.notes [] ∷ open_frames self.old) [] nows.Name)) (late reasons.Depth (at self.old.start self.old.context (frames.Fields self.old.notes [] ∷ open_frames self.old) [] nows.Name))) result self.new }
+        ensures does { Does
+            (deeper self.old.limits.depth (open_frames self.old)
+            (goes (at self.old.start self.old.context
+            (frames.Fields self.old.notes [] ∷ open_frames self.old) [] nows.Name))
+            (late reasons.Depth (at self.old.start self.old.context
+            (frames.Fields self.old.notes [] ∷ open_frames self.old) [] nows.Name)))
+            result self.new }
         ensures setting { SameSetting self.old self.new }
     {
         let admits = self.may_deepen();
@@ -61,7 +77,9 @@ impl TextReader<'_> {
     /// Behind `]`.
     pub(super) fn close_list(&mut self, end: u64) -> Result<Effect, Reason>
         requires notes { self.old.notes ≡ [] }
-        ensures does { Does (list_closed self.old.catalog.now self.old.limits.item end self.old.start self.old.context (open_frames self.old)) result self.new }
+        ensures does { Does
+            (list_closed (setting_of self.old) (spot_of self.old end) (open_frames self.old))
+            result self.new }
         ensures setting { SameSetting self.old self.new }
     {
         match self.frames.pop() {
@@ -82,7 +100,9 @@ impl TextReader<'_> {
     /// Behind `)`.
     pub(super) fn close_sexp(&mut self, end: u64) -> Result<Effect, Reason>
         requires notes { self.old.notes ≡ [] }
-        ensures does { Does (sexp_closed self.old.catalog.now self.old.limits.item end self.old.start self.old.context (open_frames self.old)) result self.new }
+        ensures does { Does
+            (sexp_closed (setting_of self.old) (spot_of self.old end) (open_frames self.old))
+            result self.new }
         ensures setting { SameSetting self.old self.new }
     {
         match self.frames.pop() {
@@ -103,7 +123,9 @@ impl TextReader<'_> {
     /// Behind `}`.
     pub(super) fn close_struct(&mut self, end: u64) -> Result<Effect, Reason>
         requires notes { self.old.notes ≡ [] }
-        ensures does { Does (struct_closed self.old.catalog.now self.old.limits.item end self.old.start self.old.context (open_frames self.old)) result self.new }
+        ensures does { Does
+            (struct_closed (setting_of self.old) (spot_of self.old end) (open_frames self.old))
+            result self.new }
         ensures setting { SameSetting self.old self.new }
     {
         match self.frames.pop() {
@@ -124,7 +146,9 @@ impl TextReader<'_> {
     /// Behind a comma.
     pub(super) fn on_comma(&mut self) -> Result<Effect, Reason>
         requires notes { self.old.notes ≡ [] }
-        ensures does { Does (on_comma self.old.start self.old.context (open_frames self.old)) result self.new }
+        ensures does { Does
+            (on_comma self.old.start self.old.context (open_frames self.old))
+            result self.new }
         ensures setting { SameSetting self.old self.new }
     {
         match self.frames.last() {
@@ -139,7 +163,9 @@ impl TextReader<'_> {
     pub(super) fn named(&mut self, name: Symbol) -> Result<Effect, Reason>
         requires notes { self.old.notes ≡ [] }
         requires stage { self.old.stage ≡ nows.Ready }
-        ensures does { Does (named self.old.start self.old.context (open_frames self.old) name) result self.new }
+        ensures does { Does
+            (named self.old.start self.old.context (open_frames self.old) name)
+            result self.new }
         ensures setting { SameSetting self.old self.new }
     {
         match self.frames.pop() {

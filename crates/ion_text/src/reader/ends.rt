@@ -43,7 +43,9 @@ impl TextReader<'_> {
 
     /// Nothing is open at the end but what waited for more.
     fn end_settled(&mut self) -> Result<Option<Value>, Reason>
-        ensures did { (used : ℕ) → DidEnd used (end_settled used (settle self.old.catalog.now self.old.limits (reading_of self.old))) result }
+        ensures did { (used : ℕ) → DidEnd used
+            (end_settled used (settle self.old.catalog.now self.old.limits (reading_of self.old)))
+            result }
     {
         match self.settle() {
             Err(reason) => Err(reason),
@@ -65,7 +67,9 @@ impl TextReader<'_> {
         &mut self,
         token: Result<Option<Token<'_>>, Refusal>,
     ) -> Result<Option<Value>, Reason>
-        ensures did { (used : ℕ) (x : Result (Option Lexeme) Reason) → Ends used x token.entry → DidEnd used (end_waiting self.old.catalog.now self.old.limits used x (settle self.old.catalog.now self.old.limits (reading_of self.old))) result }
+        ensures did { (used : ℕ) (x : Result (Option Lexeme) Reason) → Ends used x token.entry →
+            DidEnd used (end_waiting self.old.catalog.now self.old.limits used x
+            (settle self.old.catalog.now self.old.limits (reading_of self.old))) result }
     {
         match token {
             Err(refusal) => match refusal.reason {
@@ -81,7 +85,9 @@ impl TextReader<'_> {
 
     /// What waited is decided, and something behind it is open.
     fn end_open(&mut self) -> Result<Option<Value>, Reason>
-        ensures did { (used : ℕ) (reason : Reason) → DidEnd used (end_waiting self.old.catalog.now self.old.limits used (Err reason) (settle self.old.catalog.now self.old.limits (reading_of self.old))) result }
+        ensures did { (used : ℕ) (reason : Reason) → DidEnd used
+            (end_waiting self.old.catalog.now self.old.limits used (Err reason)
+            (settle self.old.catalog.now self.old.limits (reading_of self.old))) result }
     {
         match self.settle() {
             Err(reason) => Err(reason),
@@ -97,7 +103,10 @@ impl TextReader<'_> {
         &mut self,
         token: Result<Option<Token<'_>>, Refusal>,
     ) -> Result<Option<Value>, Reason>
-        ensures did { (used : ℕ) (x : Result (Option Lexeme) Reason) → Ends used x token.entry → DidEnd used (end_ready self.old.catalog.now self.old.limits used (reading_of self.old) x) result }
+        ensures did { (used : ℕ) (x : Result (Option Lexeme) Reason) → Ends used x token.entry →
+            DidEnd used
+            (end_ready self.old.catalog.now self.old.limits used (reading_of self.old) x)
+            result }
     {
         match token {
             Err(refusal) => Err(refusal.reason),
@@ -114,7 +123,10 @@ impl TextReader<'_> {
 
     /// The end ended a token.
     fn end_turned(&mut self, token: Token<'_>) -> Result<Option<Value>, Reason>
-        ensures did { (used : ℕ) → DidEnd used (end_turned self.old.catalog.now self.old.limits used (turn self.old.catalog.now self.old.limits (reading_of self.old) (token_in token.entry))) result }
+        ensures did { (used : ℕ) → DidEnd used
+            (end_turned self.old.catalog.now self.old.limits used
+            (turn self.old.catalog.now self.old.limits (reading_of self.old)
+            (token_in token.entry))) result }
     {
         match self.turn(token) {
             Err(reason) => Err(reason),
@@ -127,7 +139,8 @@ impl TextReader<'_> {
     /// Ends the octets: the value that only the end shows to be whole, if there is one.
     pub(super) fn end(&mut self) -> Result<Option<Value>, Reason>
         requires fine { IsFine self.old }
-        ensures did { DidEnd (scanned self.old.scanner).used (ends self.old.catalog.now self.old.limits (state_of self.old)) result }
+        ensures did { DidEnd (scanned self.old.scanner).used
+            (ends self.old.catalog.now self.old.limits (state_of self.old)) result }
     {
         let place = self.place();
         let scanner = mem::replace(&mut self.scanner, Scanner::new(self.alloc));

@@ -46,7 +46,8 @@ impl TextReader<'_> {
     pub(super) fn lull(&self, piece: &[u8]) -> usize
         ensures within { result ≤ length piece.now }
         ensures each { Each (goes_on (scanned self.now.scanner).mode) (take result piece.now) }
-        ensures lull { 0 < result → IsLull self.now.limits (reading_of self.now) (scanned self.now.scanner) result }
+        ensures lull { 0 < result → IsLull self.now.limits (reading_of self.now)
+            (scanned self.now.scanner) result }
     {
         let last = self.start.saturating_add(self.limits.item);
         if !self.lulls() || self.ended_so_far() > last {
@@ -63,9 +64,14 @@ impl TextReader<'_> {
         requires room { (scanned self.old.scanner).used + length octets.now < 2 ^ 63 }
         requires some { 0 < length octets.now }
         requires each { Each (goes_on (scanned self.old.scanner).mode) octets.now }
-        requires lull { IsLull self.old.limits (reading_of self.old) (scanned self.old.scanner) (length octets.now) }
-        ensures led { OnOk result (run self.old.catalog.now self.old.limits (scanned self.old.scanner).used (state_of self.old) octets.now ≡ led (state_of self.new)) }
-        ensures used { OnOk result ((scanned self.new.scanner).used ≡ (scanned self.old.scanner).used + length octets.now) }
+        requires lull { IsLull self.old.limits (reading_of self.old) (scanned self.old.scanner)
+            (length octets.now) }
+        ensures led { OnOk result
+            (run self.old.catalog.now self.old.limits (scanned self.old.scanner).used
+            (state_of self.old) octets.now ≡ led (state_of self.new)) }
+        ensures used { OnOk result
+            ((scanned self.new.scanner).used ≡ (scanned self.old.scanner).used
+            + length octets.now) }
         ensures memory { IfErr result (λ refusal. refusal.reason ≡ Memory) }
         ensures fine { OnOk result (IsFine self.new) }
         ensures steady { OnOk result (StaysSteady self.old self.new) }

@@ -8,7 +8,7 @@ ghost use Rattle.ion_tokens.specs.machine.Rests.{resting};
 ghost use Rattle.ion_text.specs.declared.state.Now.TheVariants as nows;
 ghost use Rattle.ion_text.specs.machine.EachToken.{place};
 ghost use Rattle.ion_text.specs.machine.Nested.{Opens, Closes, closed};
-ghost use Rattle.ion_text.specs.machine.Views.{open_frames, reading_of, Does, SameReader, SameSetting};
+ghost use Rattle.ion_text.specs.machine.Views.{setting_of, spot_of, open_frames, reading_of, Does, SameReader, SameSetting};
 ghost use Rattle.ion_text.specs.machine.AtOnce.{Inside, Strides};
 
 use super::TextReader;
@@ -81,7 +81,9 @@ impl TextReader<'_> {
     /// Behind the mark that closes the innermost container.
     fn close(&mut self, mark: Mark, end: u64) -> Result<Effect, Reason>
         requires notes { self.old.notes ≡ [] }
-        ensures does { Does (closed mark self.old.catalog.now self.old.limits.item end self.old.start self.old.context (open_frames self.old)) result self.new }
+        ensures does { Does
+            (closed mark (setting_of self.old) (spot_of self.old end) (open_frames self.old))
+            result self.new }
         ensures setting { SameSetting self.old self.new }
     {
         match mark {

@@ -55,7 +55,8 @@ pub(super) fn worse(reason: Reason, again: Result<Taken, Reason>) -> Reason
 impl TextReader<'_> {
     /// How many octets the open item has now, as far as it is known to go.
     fn reach(&self) -> u64
-        ensures { result ≡ reaches (open_frames self.now) (reading_of self.now) (scanned self.now.scanner) }
+        ensures { result ≡ reaches (open_frames self.now) (reading_of self.now)
+            (scanned self.now.scanner) }
     {
         let begun = self.scanner.begun();
         match (self.frames.last(), &self.stage, begun) {
@@ -81,7 +82,8 @@ impl TextReader<'_> {
     /// Octets were used and ended no value. A token that begins where none may is refused with its first
     /// octet, and an item that is too long with the first octet too many.
     fn notice(&self) -> Result<(), Reason>
-        ensures { Notices (noticed self.now.limits (reading_of self.now) (scanned self.now.scanner)) result (state_of self.now) }
+        ensures { Notices (noticed self.now.limits (reading_of self.now) (scanned self.now.scanner))
+            result (state_of self.now) }
     {
         match &self.stage {
             Now::After | Now::Keyed(_) if self.scanner.begun().is_some() => {
@@ -119,7 +121,8 @@ impl TextReader<'_> {
     /// refused in its next segment.
     #[tactic(auto, using(crate::proofs::Sights::symbol_sights, crate::proofs::Sights::long_sights))]
     fn goes_on(&self, place: Place, octet: u8) -> bool
-        ensures { result ≡ unsettled (scanned self.now.scanner) (reading_of self.now) (feed place (scanned self.now.scanner) octet) }
+        ensures { result ≡ unsettled (scanned self.now.scanner) (reading_of self.now)
+            (feed place (scanned self.now.scanner) octet) }
     {
         match &self.stage {
             Now::Pending(_, _) => goes_on_symbol(self.scanner.foresee(place, octet)),
@@ -133,7 +136,9 @@ impl TextReader<'_> {
 
     /// A token ended with the last octet.
     fn given(&mut self, token: Token<'_>) -> Result<Met, Reason>
-        ensures did { DidMeet (λ _. behind_given self.old.limits (scanned self.old.scanner) (turn self.old.catalog.now self.old.limits (reading_of self.old) (token_in token.entry))) result self.new }
+        ensures did { DidMeet (λ _. behind_given self.old.limits (scanned self.old.scanner)
+            (turn self.old.catalog.now self.old.limits (reading_of self.old)
+            (token_in token.entry))) result self.new }
         ensures ends { IfOk result (λ met. comes_again met ≡ false) }
         ensures setting { SameSetting self.old self.new }
     {
@@ -152,7 +157,9 @@ impl TextReader<'_> {
 
     /// A token ended before the last octet.
     fn left(&mut self, token: Token<'_>) -> Result<Met, Reason>
-        ensures did { DidMeet (λ again. behind_left again (scanned self.old.scanner) (turn self.old.catalog.now self.old.limits (reading_of self.old) (token_in token.entry))) result self.new }
+        ensures did { DidMeet (λ again. behind_left again (scanned self.old.scanner)
+            (turn self.old.catalog.now self.old.limits (reading_of self.old)
+            (token_in token.entry))) result self.new }
         ensures again { IfOk result (λ met. comes_again met ≡ true) }
         ensures setting { SameSetting self.old self.new }
     {
@@ -166,7 +173,8 @@ impl TextReader<'_> {
     /// A refusal behind so many octets more than are used.
     fn refused(&self, more: u64, reason: Reason) -> Refusal
         requires { (scanned self.now.scanner).used + more < 2 ^ 64 }
-        ensures { result ≡ record { offset = (scanned self.now.scanner).used + more; reason = reason } }
+        ensures { result
+            ≡ record { offset = (scanned self.now.scanner).used + more; reason = reason } }
     {
         let offset = self.scanner.used() + more;
         Refusal { offset, reason }
@@ -176,8 +184,10 @@ impl TextReader<'_> {
     /// used, and what they did.
     pub(super) fn meet(&mut self, place: Place, piece: &[u8]) -> Result<(usize, Met), Refusal>
         requires room { (scanned self.old.scanner).used + length piece.now < 2 ^ 63 }
-        ensures met { IsFine self.old → MeetsWith self.old.catalog.now self.old.limits (reading_of self.old) (run place piece.now (scanned self.old.scanner)) result self.new }
-        ensures used { IfOk result (λ met. (scanned self.new.scanner).used ≡ (scanned self.old.scanner).used + met.0) }
+        ensures met { IsFine self.old → MeetsWith self.old.catalog.now self.old.limits
+            (reading_of self.old) (run place piece.now (scanned self.old.scanner)) result self.new }
+        ensures used { IfOk result (λ met.
+            (scanned self.new.scanner).used ≡ (scanned self.old.scanner).used + met.0) }
         ensures within { IfOk result (λ met. met.0 ≤ length piece.now) }
         ensures fine { IfOk result (λ _. IsFine self.new) }
         ensures steady { IfOk result (λ _. StaysSteady self.old self.new) }
@@ -207,8 +217,12 @@ impl TextReader<'_> {
     pub(super) fn take_octet(&mut self, tokens: u8, octet: u8) -> Result<Taken, Reason>
         requires fine { IsFine self.old }
         requires room { (scanned self.old.scanner).used + 1 < 2 ^ 63 }
-        ensures did { DidTake (takes self.old.catalog.now self.old.limits tokens (state_of self.old) octet) result self.new }
-        ensures used { IfOk result (λ taken. (scanned self.new.scanner).used ≡ (scanned self.old.scanner).used + count_of taken) }
+        ensures did { DidTake
+            (takes self.old.catalog.now self.old.limits tokens (state_of self.old) octet)
+            result self.new }
+        ensures used { IfOk result (λ taken.
+            (scanned self.new.scanner).used
+            ≡ (scanned self.old.scanner).used + count_of taken) }
         ensures fine { IfOk result (λ _. IsFine self.new) }
         ensures steady { IfOk result (λ _. StaysSteady self.old self.new) }
         ensures same { SameReader self.old self.new }
@@ -236,8 +250,12 @@ impl TextReader<'_> {
     fn scan_octet(&mut self, tokens: u8, place: Place, octet: u8) -> Result<Taken, Reason>
         requires fine { IsFine self.old }
         requires room { (scanned self.old.scanner).used + 1 < 2 ^ 63 }
-        ensures did { DidTake (on_scan self.old.catalog.now self.old.limits (λ m. takes self.old.catalog.now self.old.limits tokens m octet) (reading_of self.old) (feed place (scanned self.old.scanner) octet)) result self.new }
-        ensures used { IfOk result (λ taken. (scanned self.new.scanner).used ≡ (scanned self.old.scanner).used + count_of taken) }
+        ensures did { DidTake (on_scan self.old.catalog.now self.old.limits
+            (λ m. takes self.old.catalog.now self.old.limits tokens m octet) (reading_of self.old)
+            (feed place (scanned self.old.scanner) octet)) result self.new }
+        ensures used { IfOk result (λ taken.
+            (scanned self.new.scanner).used
+            ≡ (scanned self.old.scanner).used + count_of taken) }
         ensures fine { IfOk result (λ _. IsFine self.new) }
         ensures steady { IfOk result (λ _. StaysSteady self.old self.new) }
         ensures same { SameReader self.old self.new }

@@ -31,8 +31,10 @@ impl TextReader<'_> {
         requires fine { IsFine self.old }
         requires room { (scanned self.old.scanner).used + length piece.now < 2 ^ 63 }
         requires some { 0 < length piece.now }
-        ensures took { Took self.old.catalog.now self.old.limits (scanned self.old.scanner).used (state_of self.old) piece.now result self.new }
-        ensures used { IfOk result (λ took. (scanned self.new.scanner).used ≡ (scanned self.old.scanner).used + took.0) }
+        ensures took { Took self.old.catalog.now self.old.limits (scanned self.old.scanner).used
+            (state_of self.old) piece.now result self.new }
+        ensures used { IfOk result (λ took.
+            (scanned self.new.scanner).used ≡ (scanned self.old.scanner).used + took.0) }
         ensures fine { IfOk result (λ _. IsFine self.new) }
         ensures steady { IfOk result (λ _. StaysSteady self.old self.new) }
         ensures same { SameReader self.old self.new }
@@ -73,9 +75,13 @@ impl TextReader<'_> {
         requires fine { IsFine self.old }
         requires room { (scanned self.old.scanner).used + length piece.now < 2 ^ 63 }
         requires begins { BeginsWith self.old.awaited piece.now }
-        ensures does { Advances self.old.catalog.now self.old.limits (is_some self.old.awaited) (scanned self.old.scanner).used (state_of self.old) piece.now result self.new.awaited (state_of self.new) }
-        ensures used { IfOk result (λ step. (scanned self.new.scanner).used ≡ (scanned self.old.scanner).used + step.used) }
-        ensures memory { IfErr result (λ refusal. refusal.reason ≡ Memory → refusal.offset ≡ (scanned self.old.scanner).used) }
+        ensures does { Advances self.old.catalog.now self.old.limits (is_some self.old.awaited)
+            (scanned self.old.scanner).used (state_of self.old) piece.now result self.new.awaited
+            (state_of self.new) }
+        ensures used { IfOk result (λ step.
+            (scanned self.new.scanner).used ≡ (scanned self.old.scanner).used + step.used) }
+        ensures memory { IfErr result (λ refusal.
+            refusal.reason ≡ Memory → refusal.offset ≡ (scanned self.old.scanner).used) }
         ensures fine { IfOk result (λ _. IsFine self.new) }
         ensures steady { IfOk result (λ _. StaysSteady self.old self.new) }
         ensures setting { SameSettings self.old self.new }

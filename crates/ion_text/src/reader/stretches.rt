@@ -14,7 +14,8 @@ use ion_tokens::blanks;
 impl TextReader<'_> {
     /// Where the octets of the open item are counted from.
     fn base(&self) -> u64
-        ensures { result ≡ base (open_frames self.now) self.now.notes self.now.start (floor (scanned self.now.scanner)) }
+        ensures { result ≡ base (open_frames self.now) self.now.notes self.now.start
+            (floor (scanned self.now.scanner)) }
     {
         match (self.frames.last(), self.notes.as_slice().first()) {
             (None, None) => self.scanner.since(),
@@ -43,9 +44,11 @@ impl TextReader<'_> {
     pub(super) fn stride(&self, piece: &[u8]) -> usize
         ensures within { result ≤ length piece.now }
         ensures calm { 0 < result → IsCalm self.now.stage }
-        ensures high { 0 < result → floor (scanned self.now.scanner) ≤ (scanned self.now.scanner).used }
+        ensures high { 0 < result →
+            floor (scanned self.now.scanner) ≤ (scanned self.now.scanner).used }
         ensures room { 0 < result → (scanned self.now.scanner).used + result
-            ≤ self.now.limits.item + base (open_frames self.now) self.now.notes self.now.start (floor (scanned self.now.scanner)) }
+            ≤ self.now.limits.item + base (open_frames self.now) self.now.notes self.now.start
+            (floor (scanned self.now.scanner)) }
     {
         match &self.stage {
             Now::Ready => {}
@@ -74,9 +77,12 @@ impl TextReader<'_> {
         requires calm { IsCalm self.old.stage }
         requires high { floor (scanned self.old.scanner) ≤ (scanned self.old.scanner).used }
         requires fits { (scanned self.old.scanner).used + length piece.now
-            ≤ self.old.limits.item + base (open_frames self.old) self.old.notes self.old.start (floor (scanned self.old.scanner)) }
-        ensures took { Took self.old.catalog.now self.old.limits (scanned self.old.scanner).used (state_of self.old) piece.now result self.new }
-        ensures used { IfOk result (λ took. (scanned self.new.scanner).used ≡ (scanned self.old.scanner).used + took.0) }
+            ≤ self.old.limits.item + base (open_frames self.old) self.old.notes self.old.start
+            (floor (scanned self.old.scanner)) }
+        ensures took { Took self.old.catalog.now self.old.limits (scanned self.old.scanner).used
+            (state_of self.old) piece.now result self.new }
+        ensures used { IfOk result (λ took.
+            (scanned self.new.scanner).used ≡ (scanned self.old.scanner).used + took.0) }
         ensures fine { IfOk result (λ _. IsFine self.new) }
         ensures steady { IfOk result (λ _. StaysSteady self.old self.new) }
         ensures same { SameReader self.old self.new }

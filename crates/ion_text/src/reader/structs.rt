@@ -75,8 +75,10 @@ impl TextReader<'_> {
     ) -> Result<(usize, Taken), Refusal>
         requires opens { OpensStruct self.old piece.now rest }
         requires room { (scanned self.old.scanner).used + length piece.now < 2 ^ 63 }
-        ensures took { Took self.old.catalog.now self.old.limits (scanned self.old.scanner).used (state_of self.old) piece.now result self.new }
-        ensures used { IfOk result (λ took. (scanned self.new.scanner).used ≡ (scanned self.old.scanner).used + took.0) }
+        ensures took { Took self.old.catalog.now self.old.limits (scanned self.old.scanner).used
+            (state_of self.old) piece.now result self.new }
+        ensures used { IfOk result (λ took.
+            (scanned self.new.scanner).used ≡ (scanned self.old.scanner).used + took.0) }
         ensures fine { IfOk result (λ _. IsFine self.new) }
         ensures steady { IfOk result (λ _. StaysSteady self.old self.new) }
         ensures same { SameReader self.old self.new }

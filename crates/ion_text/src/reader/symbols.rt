@@ -31,7 +31,8 @@ fn ends_symbol(octet: u8) -> bool
 pub(super) fn behind_symbol(octets: &[u8], count: usize) -> Option<usize>
     ensures passed { IfSome result (λ between. IsPassed (drop count octets.now) between) }
     ensures within { IfSome result (λ between. count + between < length octets.now) }
-    ensures ends { IfSome result (λ between. ends_symbol (get_or octets.now (count + between) 0) ≡ true) }
+    ensures ends { IfSome result (λ between.
+        ends_symbol (get_or octets.now (count + between) 0) ≡ true) }
 {
     if count >= octets.len() {
         return None;
@@ -83,7 +84,8 @@ fn behind_annotation(octets: &[u8], count: usize) -> Option<usize>
 // A text in quotes that may be a field's name, if its characters are ASCII and stand as they are.
 pub(super) fn plain_text(octets: &[u8]) -> Option<FoundToken>
     ensures name { IfSome result (λ token. (place : Place) (rest : Rest) →
-        BeginsName place rest octets.now token (Some (take (token.count - 2) (drop 1 octets.now)))) }
+        BeginsName place rest octets.now token
+        (Some (take (token.count - 2) (drop 1 octets.now)))) }
     ensures text { IfSome result (λ token. IsUtf8 (take (token.count - 2) (drop 1 octets.now))) }
 {
     if let Some(count) = short_string(octets) {
@@ -103,7 +105,8 @@ pub(super) fn plain_text(octets: &[u8]) -> Option<FoundToken>
 
 // The value that a word is, but for `nan`.
 fn word_payload(alloc: Global, word: &str) -> Result<Option<Payload>, Reason>
-    ensures pays { IfOk result (λ value. IfSome value (λ payload. held_payload (held_word word.now) ≡ Ok payload)) }
+    ensures pays { IfOk result (λ value.
+        IfSome value (λ payload. held_payload (held_word word.now) ≡ Ok payload)) }
     ensures memory { IfErr result (λ reason. reason ≡ Memory) }
 {
     match held_word(alloc, word)? {

@@ -4,7 +4,7 @@ ghost use Rattle.ion_model.specs.declared.refusal.Reason.TheVariants as reasons;
 ghost use Rattle.ion_text.specs.declared.state.Now.TheVariants as nows;
 ghost use Rattle.ion_text.specs.machine.EachToken.{at, goes, turn, on_ready, on_pending, on_long, on_name, on_long_name, on_after, on_keyed, number_payload};
 ghost use Rattle.ion_tokens.specs.Bodies.{content, Word, Mark'};
-ghost use Rattle.ion_text.specs.machine.Views.{open_frames, reading_of, token_in, Does, SameSetting};
+ghost use Rattle.ion_text.specs.machine.Views.{setting_of, spot_of, open_frames, reading_of, token_in, Does, SameSetting};
 
 use super::TextReader;
 use crate::state::{Effect, Held, Now};
@@ -27,7 +27,10 @@ pub(super) fn number_payload(number: Number) -> Payload
 impl TextReader<'_> {
     /// What a token does.
     pub(super) fn turn(&mut self, token: Token<'_>) -> Result<Effect, Reason>
-        ensures does { Does (turn self.old.catalog.now self.old.limits (reading_of self.old) (token_in token.entry)) result self.new }
+        ensures does { Does
+            (turn self.old.catalog.now self.old.limits (reading_of self.old)
+            (token_in token.entry))
+            result self.new }
         ensures setting { SameSetting self.old self.new }
     {
         let Token { start, end, body } = token;
@@ -60,7 +63,10 @@ impl TextReader<'_> {
     /// A token where a value or an annotation may come.
     fn on_ready(&mut self, end: u64, body: Body<'_>) -> Result<Effect, Reason>
         requires stage { self.old.stage ≡ nows.Ready }
-        ensures does { Does (on_ready self.old.catalog.now self.old.limits.depth self.old.limits.item end self.old.start self.old.context (open_frames self.old) self.old.notes (content body.entry)) result self.new }
+        ensures does { Does
+            (on_ready (setting_of self.old) (spot_of self.old end) (open_frames self.old)
+            self.old.notes (content body.entry))
+            result self.new }
         ensures setting { SameSetting self.old self.new }
     {
         match body {
@@ -96,7 +102,10 @@ impl TextReader<'_> {
     /// A mark where a value or an annotation may come.
     pub(super) fn on_mark(&mut self, end: u64, mark: Mark) -> Result<Effect, Reason>
         requires stage { self.old.stage ≡ nows.Ready }
-        ensures does { Does (on_ready self.old.catalog.now self.old.limits.depth self.old.limits.item end self.old.start self.old.context (open_frames self.old) self.old.notes (Mark' mark)) result self.new }
+        ensures does { Does
+            (on_ready (setting_of self.old) (spot_of self.old end) (open_frames self.old)
+            self.old.notes (Mark' mark))
+            result self.new }
         ensures setting { SameSetting self.old self.new }
     {
         match (mark, self.notes.as_slice().first()) {
@@ -111,7 +120,10 @@ impl TextReader<'_> {
 
     /// What may be an annotation has come.
     fn wait(&mut self, held: Held, end: u64) -> Result<Effect, Reason>
-        ensures does { Does (goes (at self.old.start self.old.context (open_frames self.old) self.old.notes (nows.Pending held end))) result self.new }
+        ensures does { Does
+            (goes (at self.old.start self.old.context (open_frames self.old) self.old.notes
+            (nows.Pending held end)))
+            result self.new }
         ensures setting { SameSetting self.old self.new }
     {
         self.stage = Now::Pending(held, end);
@@ -121,7 +133,10 @@ impl TextReader<'_> {
     /// A token behind what may be an annotation.
     fn on_pending(&mut self, held: Held, body: Body<'_>) -> Result<Effect, Reason>
         requires stage { self.old.stage ≡ nows.Ready }
-        ensures does { Does (on_pending self.old.start self.old.context (open_frames self.old) self.old.notes held (content body.entry)) result self.new }
+        ensures does { Does
+            (on_pending self.old.start self.old.context (open_frames self.old) self.old.notes held
+            (content body.entry))
+            result self.new }
         ensures setting { SameSetting self.old self.new }
     {
         match (body, held) {
@@ -143,7 +158,10 @@ impl TextReader<'_> {
 
     /// A token behind the segments of a long string.
     fn on_long(&mut self, text: Text, end: u64, body: Body<'_>) -> Result<Effect, Reason>
-        ensures does { Does (on_long end self.old.start self.old.context (open_frames self.old) self.old.notes text (content body.entry)) result self.new }
+        ensures does { Does
+            (on_long (spot_of self.old end) (open_frames self.old) self.old.notes text
+            (content body.entry))
+            result self.new }
         ensures setting { SameSetting self.old self.new }
     {
         match body {
@@ -158,7 +176,10 @@ impl TextReader<'_> {
     /// A token behind the segments of a long string that is a field's name.
     fn on_long_name(&mut self, text: Text, body: Body<'_>) -> Result<Effect, Reason>
         requires notes { self.old.notes ≡ [] }
-        ensures does { Does (on_long_name self.old.start self.old.context (open_frames self.old) text (content body.entry)) result self.new }
+        ensures does { Does
+            (on_long_name self.old.start self.old.context (open_frames self.old) text
+            (content body.entry))
+            result self.new }
         ensures setting { SameSetting self.old self.new }
     {
         match body {
@@ -173,7 +194,10 @@ impl TextReader<'_> {
     /// A token where a field's name or the close of a struct may come.
     fn on_name(&mut self, end: u64, body: Body<'_>) -> Result<Effect, Reason>
         requires notes { self.old.notes ≡ [] }
-        ensures does { Does (on_name self.old.catalog.now self.old.limits.item end self.old.start self.old.context (open_frames self.old) (content body.entry)) result self.new }
+        ensures does { Does
+            (on_name (setting_of self.old) (spot_of self.old end) (open_frames self.old)
+            (content body.entry))
+            result self.new }
         ensures setting { SameSetting self.old self.new }
     {
         match body {
@@ -206,7 +230,10 @@ impl TextReader<'_> {
     /// A word that is a field's name. The octet behind a keyword may be refused for a smaller reason.
     fn word_named(&mut self, word: &str) -> Result<Effect, Reason>
         requires notes { self.old.notes ≡ [] }
-        ensures does { Does (on_name self.old.catalog.now self.old.limits.item 0 self.old.start self.old.context (open_frames self.old) (Word word.now)) result self.new }
+        ensures does { Does
+            (on_name (setting_of self.old) (spot_of self.old 0) (open_frames self.old)
+            (Word word.now))
+            result self.new }
         ensures setting { SameSetting self.old self.new }
     {
         self.stage = Now::Keyed(Symbol::known(self.alloc, word)?);
@@ -219,7 +246,10 @@ impl TextReader<'_> {
     /// A token behind an element of a list or a field.
     fn on_after(&mut self, end: u64, body: Body<'_>) -> Result<Effect, Reason>
         requires notes { self.old.notes ≡ [] }
-        ensures does { Does (on_after self.old.catalog.now self.old.limits.item end self.old.start self.old.context (open_frames self.old) (content body.entry)) result self.new }
+        ensures does { Does
+            (on_after (setting_of self.old) (spot_of self.old end) (open_frames self.old)
+            (content body.entry))
+            result self.new }
         ensures setting { SameSetting self.old self.new }
     {
         match body {
@@ -231,7 +261,10 @@ impl TextReader<'_> {
     /// A mark there.
     fn on_mark_after(&mut self, end: u64, mark: Mark) -> Result<Effect, Reason>
         requires notes { self.old.notes ≡ [] }
-        ensures does { Does (on_after self.old.catalog.now self.old.limits.item end self.old.start self.old.context (open_frames self.old) (Mark' mark)) result self.new }
+        ensures does { Does
+            (on_after (setting_of self.old) (spot_of self.old end) (open_frames self.old)
+            (Mark' mark))
+            result self.new }
         ensures setting { SameSetting self.old self.new }
     {
         match mark {
@@ -246,7 +279,10 @@ impl TextReader<'_> {
     fn on_keyed(&mut self, name: Symbol, body: Body<'_>) -> Result<Effect, Reason>
         requires notes { self.old.notes ≡ [] }
         requires stage { self.old.stage ≡ nows.Ready }
-        ensures does { Does (on_keyed self.old.start self.old.context (open_frames self.old) name (content body.entry)) result self.new }
+        ensures does { Does
+            (on_keyed self.old.start self.old.context (open_frames self.old) name
+            (content body.entry))
+            result self.new }
         ensures setting { SameSetting self.old self.new }
     {
         match body {

@@ -3,7 +3,7 @@ ghost use Rattle.std.specs.Prelude.{◌≡◌, ℕ, List, [], ◌∷◌, Option}
 ghost use Rattle.ion_text.specs.declared.state.Held.TheVariants as helds;
 ghost use Rattle.ion_text.specs.declared.state.Now.TheVariants as nows;
 ghost use Rattle.ion_text.specs.machine.EachToken.{released, settle};
-ghost use Rattle.ion_text.specs.machine.Views.{open_frames, reading_of, Does, SameSetting};
+ghost use Rattle.ion_text.specs.machine.Views.{setting_of, spot_of, open_frames, reading_of, Does, SameSetting};
 
 use super::TextReader;
 use crate::state::{Effect, Held, Now};
@@ -13,7 +13,9 @@ use std::mem;
 impl TextReader<'_> {
     /// What waited for more is whole.
     pub(super) fn settle(&mut self) -> Result<Effect, Reason>
-        ensures does { Does (settle self.old.catalog.now self.old.limits (reading_of self.old)) result self.new }
+        ensures does { Does
+            (settle self.old.catalog.now self.old.limits (reading_of self.old))
+            result self.new }
         ensures setting { SameSetting self.old self.new }
     {
         match mem::replace(&mut self.stage, Now::Ready) {
@@ -34,7 +36,10 @@ impl TextReader<'_> {
     /// level without annotations (Ion 1.0, "Symbols", "Ion Version Markers").
     fn release(&mut self, held: Held, end: u64) -> Result<Effect, Reason>
         requires stage { self.old.stage ≡ nows.Ready }
-        ensures does { Does (released self.old.catalog.now self.old.limits.item end self.old.start self.old.context (open_frames self.old) self.old.notes held) result self.new }
+        ensures does { Does
+            (released (setting_of self.old) (spot_of self.old end) (open_frames self.old)
+            self.old.notes held)
+            result self.new }
         ensures setting { SameSetting self.old self.new }
     {
         match held {
@@ -56,7 +61,9 @@ impl TextReader<'_> {
         requires top { open_frames self.old ≡ [] }
         requires notes { self.old.notes ≡ [] }
         requires stage { self.old.stage ≡ nows.Ready }
-        ensures does { (s : Option (List ℕ)) → Does (released self.old.catalog.now self.old.limits.item end self.old.start self.old.context [] [] (helds.Version ours s)) result self.new }
+        ensures does { (s : Option (List ℕ)) → Does
+            (released (setting_of self.old) (spot_of self.old end) [] [] (helds.Version ours s))
+            result self.new }
         ensures setting { SameSetting self.old self.new }
     {
         let last = self.start.saturating_add(self.limits.item);

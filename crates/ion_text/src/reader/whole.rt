@@ -33,7 +33,8 @@ impl TextReader<'_> {
     pub(super) fn span(&self, length: usize) -> usize
         ensures within { result ≤ length }
         ensures inner { 0 < result → is_top (open_frames self.now) ≡ false }
-        ensures fits { 0 < result → (scanned self.now.scanner).used + result ≤ self.now.limits.item + self.now.start }
+        ensures fits { 0 < result →
+            (scanned self.now.scanner).used + result ≤ self.now.limits.item + self.now.start }
     {
         if self.frames.is_empty() {
             return 0;
@@ -237,9 +238,11 @@ impl TextReader<'_> {
         requires fine { IsFine self.old }
         requires within { count < length piece.now }
         requires room { (scanned self.old.scanner).used + 1 < 2 ^ 63 }
-        ensures took { (first : TextReader) → Strides first self.old piece.now count → IsResting first →
-            Took first.catalog.now first.limits (scanned first.scanner).used (state_of first) piece.now result self.new }
-        ensures used { IfOk result (λ took. (scanned self.new.scanner).used + count ≡ (scanned self.old.scanner).used + took.0) }
+        ensures took { (first : TextReader) → Strides first self.old piece.now count →
+            IsResting first → Took first.catalog.now first.limits (scanned first.scanner).used
+            (state_of first) piece.now result self.new }
+        ensures used { IfOk result (λ took.
+            (scanned self.new.scanner).used + count ≡ (scanned self.old.scanner).used + took.0) }
         ensures fine { IfOk result (λ _. IsFine self.new) }
         ensures steady { IfOk result (λ _. StaysSteady self.old self.new) }
         ensures same { SameReader self.old self.new }

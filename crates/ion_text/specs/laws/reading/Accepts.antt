@@ -28,7 +28,7 @@ use Rattle.ion_text.specs.declared.state.Now.TheVariants as nows
 use Rattle.ion_text.specs.declared.state.Frame.{Frame}
 use Rattle.ion_text.specs.Grammar.{is_two_quotes, Document}
 use Rattle.ion_tokens.specs.machine.Said.{said}
-use Rattle.ion_text.specs.machine.EachToken.{Reading, Turn, goes, gives, refuses, late, Symbols, at, fresh, place, settle, turn, released, ended, paid, held_payload, turned, within, turn_now}
+use Rattle.ion_text.specs.machine.EachToken.{Spot, under, spot_at, token_at, Reading, Turn, goes, gives, refuses, late, Symbols, at, fresh, place, settle, turn, released, ended, paid, held_payload, turned, within, turn_now}
 use Rattle.ion_text.specs.machine.Run.{State, Effect, uses, tells, eats, takes, waits, waits_now, unsettled, on_scan, on_settled, on_said, behind_given, behind_left, with_scan, token_of, is_top, is_fresh, Run, run, run_on, once_more, with_value, ends, ends_of, end_now, end_ready, end_waiting, end_settled, end_said, end_turned, cut_short, trace}
 use Rattle.ion_text.specs.laws.reading.Segments.{NotRefused, settles_then, waits_unsettled}
 use Rattle.ion_text.specs.machine.TokenLists.{continues, continues_now}
@@ -102,30 +102,30 @@ module _ (g : Catalog) (l : Limits) where
   top_settled item start end c v (Err e) true = tt
   top_settled item start end c v d false = within_settled item start end (gives v (fresh c)) (λ m h. tt)
 
-  ended_settled : (item end start : ℕ) (c : List Slot) (fs : List Frame) (v : Value) → Settled (ended g item end start c fs v)
-  ended_settled item end start c [] v = top_settled item start end c v (next_slots c v g) (is_table v)
-  ended_settled item end start c (frames.List ss vs ∷ fs) v = λ m h. absurd cc
-  ended_settled item end start c (frames.Sexp ss vs ∷ fs) v = λ m h. absurd cc
-  ended_settled item end start c (frames.Named ss ms s ∷ fs) v = λ m h. absurd cc
-  ended_settled item end start c (frames.Fields ss ms ∷ fs) v = tt
+  ended_settled : (spot : Spot) (fs : List Frame) (v : Value) → Settled (ended (under g l) spot fs v)
+  ended_settled spot [] v = top_settled l.item spot.start spot.end spot.context v (next_slots spot.context v g) (is_table v)
+  ended_settled spot (frames.List ss vs ∷ fs) v = λ m h. absurd cc
+  ended_settled spot (frames.Sexp ss vs ∷ fs) v = λ m h. absurd cc
+  ended_settled spot (frames.Named ss ms s ∷ fs) v = λ m h. absurd cc
+  ended_settled spot (frames.Fields ss ms ∷ fs) v = tt
 
-  paid_settled : (item end start : ℕ) (c : List Slot) (fs : List Frame) (ss : Symbols) (q : Result Payload Reason) → Settled (paid g item end start c fs ss q)
-  paid_settled item end start c fs ss (Ok q) = ended_settled item end start c fs _
-  paid_settled item end start c fs ss (Err e) = tt
+  paid_settled : (spot : Spot) (fs : List Frame) (ss : Symbols) (q : Result Payload Reason) → Settled (paid (under g l) spot fs ss q)
+  paid_settled spot fs ss (Ok q) = ended_settled spot fs _
+  paid_settled spot fs ss (Err e) = tt
 
-  released_settled : (item end start : ℕ) (c : List Slot) (fs : List Frame) (ss : Symbols) (h : Held) → Settled (released g item end start c fs ss h)
-  released_settled item end start c [] [] (helds.Version true s) = within_settled item start end (goes (fresh system_slots)) (λ m h. tt)
-  released_settled item end start c [] [] (helds.Version false s) = tt
-  released_settled item end start c [] [] (helds.Symbol s) = paid_settled item end start c [] [] (held_payload (helds.Symbol s))
-  released_settled item end start c [] [] (helds.Null k) = paid_settled item end start c [] [] (held_payload (helds.Null k))
-  released_settled item end start c [] [] (helds.Truth b) = paid_settled item end start c [] [] (held_payload (helds.Truth b))
-  released_settled item end start c [] [] helds.Nan = tt
-  released_settled item end start c [] (s ∷ ss) h = paid_settled item end start c [] (s ∷ ss) (held_payload h)
-  released_settled item end start c (f ∷ fs) ss h = paid_settled item end start c (f ∷ fs) ss (held_payload h)
+  released_settled : (spot : Spot) (fs : List Frame) (ss : Symbols) (h : Held) → Settled (released (under g l) spot fs ss h)
+  released_settled spot [] [] (helds.Version true s) = within_settled l.item spot.start spot.end (goes (fresh system_slots)) (λ m h. tt)
+  released_settled spot [] [] (helds.Version false s) = tt
+  released_settled spot [] [] (helds.Symbol s) = paid_settled spot [] [] (held_payload (helds.Symbol s))
+  released_settled spot [] [] (helds.Null k) = paid_settled spot [] [] (held_payload (helds.Null k))
+  released_settled spot [] [] (helds.Truth b) = paid_settled spot [] [] (held_payload (helds.Truth b))
+  released_settled spot [] [] helds.Nan = tt
+  released_settled spot [] (s ∷ ss) h = paid_settled spot [] (s ∷ ss) (held_payload h)
+  released_settled spot (f ∷ fs) ss h = paid_settled spot (f ∷ fs) ss (held_payload h)
 
   pub settle_settled : (start : ℕ) (c : List Slot) (fs : List Frame) (ss : Symbols) (now : Now) → (is_top fs ≡ true → IsTopNow now) → Settled (settle g l (at start c fs ss now))
-  settle_settled start c fs ss (nows.Pending h end) k = released_settled l.item end start c fs ss h
-  settle_settled start c fs ss (nows.Long w end) k = ended_settled l.item end start c fs _
+  settle_settled start c fs ss (nows.Pending h end) k = released_settled (spot_at end start c) fs ss h
+  settle_settled start c fs ss (nows.Long w end) k = ended_settled (spot_at end start c) fs _
   settle_settled start c fs ss (nows.LongName w) k = λ m h. k h
   settle_settled start c fs ss nows.Ready k = λ m h. tt
   settle_settled start c fs ss nows.After k = λ m h. k h
@@ -284,7 +284,7 @@ module _ (g : Catalog) (l : Limits) where
       let p = going_said g l k t ts all d in
       let c = mark_said t.lexeme.kind t.lexeme.octets marks.Colon p.1 i (said_body t.lexeme.kind t.lexeme.octets p.1 p.2) in
       let d' = going_turn g l k t ts all p.1 d p.2 (inr (ready_still k e)) in
-      subst (λ n. TurnGoes g l (turn_now g l t.lexeme.start t.lexeme.end k.start k.context k.frames k.notes (Mark' marks.Colon) n) ts all) e
+      subst (λ n. TurnGoes g l (turn_now (under g l) k (token_at t.lexeme.start t.lexeme.end (Mark' marks.Colon)) n) ts all) e
       (subst (λ y. TurnGoes g l (turn g l k (token_of t.lexeme y)) ts all) c d')
 
   -- where something waited at the top level, a colon doesn't follow
@@ -298,7 +298,7 @@ module _ (g : Catalog) (l : Limits) where
       by (late y k) a b e = e
 
   -- `''` doesn't go on with a long string
-  no_long : (begin end start : ℕ) (slots : List Slot) (fs : List Frame) (ss : Symbols) (c : Content) (w : List ℕ) (e : ℕ) (ts : List Placed) (all : List Value) → is_long_said c ≡ false → TurnGoes g l (turn_now g l begin end start slots fs ss c (nows.Long w e)) ts all → ⊥
+  no_long : (begin end start : ℕ) (slots : List Slot) (fs : List Frame) (ss : Symbols) (c : Content) (w : List ℕ) (e : ℕ) (ts : List Placed) (all : List Value) → is_long_said c ≡ false → TurnGoes g l (turn_now (under g l) (at start slots fs ss (nows.Long w e)) (token_at begin end c) (nows.Long w e)) ts all → ⊥
   no_long begin end start slots fs ss (Long v) w e ts all h d = absurd cc
   no_long begin end start slots fs ss (Word v) w e ts all h d = d
   no_long begin end start slots fs ss (Id v) w e ts all h d = d
@@ -313,7 +313,7 @@ module _ (g : Catalog) (l : Limits) where
 
   -- a token that goes on with a long string is a segment
   long_turn : (r : Reading) (t : Placed) (c : Content) (w : List ℕ) (e : ℕ) (ts : List Placed) (all : List Value) → r.now ≡ nows.Long w e → is_segment t.lexeme.kind ≡ false → IsBody t.lexeme.kind t.lexeme.octets (Ok c) → TurnGoes g l (turn g l r (token_of t.lexeme c)) ts all → ⊥
-  long_turn r t c w e ts all n h b d = no_long t.lexeme.start t.lexeme.end r.start r.context r.frames r.notes c w e ts all (sym (segment_agree t.lexeme.kind t.lexeme.octets c b) ∙ h) (subst (λ y. TurnGoes g l (turn_now g l t.lexeme.start t.lexeme.end r.start r.context r.frames r.notes c y) ts all) n d)
+  long_turn r t c w e ts all n h b d = no_long t.lexeme.start t.lexeme.end r.start r.context r.frames r.notes c w e ts all (sym (segment_agree t.lexeme.kind t.lexeme.octets c b) ∙ h) (subst (λ y. TurnGoes g l (turn_now (under g l) r (token_at t.lexeme.start t.lexeme.end c) y) ts all) n d)
 
   module _ (s s' : Known) (o : ℕ) (t : Placed) (sane : is_sane s.mode ≡ true) (fine : Fine s) (exactly : Exact s) where
     -- where a token is left before the octet

@@ -34,7 +34,7 @@ use Rattle.ion_text.specs.declared.state.Now.TheVariants as nows
 use Rattle.ion_text.specs.declared.state.Frame.{Frame}
 use Rattle.ion_text.specs.declared.state.Frame.TheVariants as frames
 use Rattle.ion_text.specs.laws.reading.Held.{IsFirst, none_open}
-use Rattle.ion_text.specs.machine.EachToken.{Reading, Turn, goes, gives, refuses, late, Symbols, place, place_in, settle, settled, turn, turn_now, ended, paid, released, held_payload}
+use Rattle.ion_text.specs.machine.EachToken.{Spot, under, spot_at, token_at, Reading, Turn, goes, gives, refuses, late, Symbols, at, place, place_in, settle, settled, turn, turn_now, ended, paid, released, held_payload}
 use Rattle.ion_text.specs.machine.Passed.{said_body}
 use Rattle.ion_text.specs.laws.reading.Places.{Leading, settle_same}
 use Rattle.ion_text.specs.machine.Progress.{Ran, Stands}
@@ -175,24 +175,24 @@ module _ (g : Catalog) (l : Limits) where
   at_top (refuses e) = tt
   at_top (late e n) = tt
 
-  ended_top : (end start : ℕ) (c : List Slot) (fs : List Frame) (v : Value) → TopGives fs (ended g l.item end start c fs v)
-  ended_top end start c [] v = at_top (ended g l.item end start c [] v)
-  ended_top end start c (frames.List ss vs ∷ fs) v = tt
-  ended_top end start c (frames.Sexp ss vs ∷ fs) v = tt
-  ended_top end start c (frames.Named ss ms x ∷ fs) v = tt
-  ended_top end start c (frames.Fields ss ms ∷ fs) v = tt
+  ended_top : (spot : Spot) (fs : List Frame) (v : Value) → TopGives fs (ended (under g l) spot fs v)
+  ended_top spot [] v = at_top (ended (under g l) spot [] v)
+  ended_top spot (frames.List ss vs ∷ fs) v = tt
+  ended_top spot (frames.Sexp ss vs ∷ fs) v = tt
+  ended_top spot (frames.Named ss ms x ∷ fs) v = tt
+  ended_top spot (frames.Fields ss ms ∷ fs) v = tt
 
-  paid_top : (end start : ℕ) (c : List Slot) (fs : List Frame) (ss : Symbols) (q : Result Payload Reason) → TopGives fs (paid g l.item end start c fs ss q)
-  paid_top end start c fs ss (Ok q) = ended_top end start c fs _
-  paid_top end start c fs ss (Err e) = tt
+  paid_top : (spot : Spot) (fs : List Frame) (ss : Symbols) (q : Result Payload Reason) → TopGives fs (paid (under g l) spot fs ss q)
+  paid_top spot fs ss (Ok q) = ended_top spot fs _
+  paid_top spot fs ss (Err e) = tt
 
-  released_top : (end start : ℕ) (c : List Slot) (fs : List Frame) (ss : Symbols) (h : Held) → TopGives fs (released g l.item end start c fs ss h)
-  released_top end start c [] ss h = at_top (released g l.item end start c [] ss h)
-  released_top end start c (f ∷ fs) ss h = paid_top end start c (f ∷ fs) ss (held_payload h)
+  released_top : (spot : Spot) (fs : List Frame) (ss : Symbols) (h : Held) → TopGives fs (released (under g l) spot fs ss h)
+  released_top spot [] ss h = at_top (released (under g l) spot [] ss h)
+  released_top spot (f ∷ fs) ss h = paid_top spot (f ∷ fs) ss (held_payload h)
 
-  settled_top : (start : ℕ) (c : List Slot) (fs : List Frame) (ss : Symbols) (now : Now) → TopGives fs (settled g l.item start c fs ss now)
-  settled_top start c fs ss (nows.Pending h end) = released_top end start c fs ss h
-  settled_top start c fs ss (nows.Long w end) = ended_top end start c fs _
+  settled_top : (start : ℕ) (c : List Slot) (fs : List Frame) (ss : Symbols) (now : Now) → TopGives fs (settled (under g l) start c fs ss now)
+  settled_top start c fs ss (nows.Pending h end) = released_top (spot_at end start c) fs ss h
+  settled_top start c fs ss (nows.Long w end) = ended_top (spot_at end start c) fs _
   settled_top start c fs ss (nows.LongName w) = tt
   settled_top start c fs ss nows.Ready = tt
   settled_top start c fs ss nows.After = tt
@@ -205,15 +205,15 @@ module _ (g : Catalog) (l : Limits) where
   Inside (gives v n) = ⊥
   Inside _ = Unit {0}
 
-  ended_inside : (end start : ℕ) (c : List Slot) (fs : List Frame) (v : Value) → is_top fs ≡ false → Inside (ended g l.item end start c fs v)
-  ended_inside end start c [] v h = absurd cc
-  ended_inside end start c (frames.List ss vs ∷ fs) v h = refl
-  ended_inside end start c (frames.Sexp ss vs ∷ fs) v h = refl
-  ended_inside end start c (frames.Named ss ms x ∷ fs) v h = refl
-  ended_inside end start c (frames.Fields ss ms ∷ fs) v h = tt
+  ended_inside : (spot : Spot) (fs : List Frame) (v : Value) → is_top fs ≡ false → Inside (ended (under g l) spot fs v)
+  ended_inside spot [] v h = absurd cc
+  ended_inside spot (frames.List ss vs ∷ fs) v h = refl
+  ended_inside spot (frames.Sexp ss vs ∷ fs) v h = refl
+  ended_inside spot (frames.Named ss ms x ∷ fs) v h = refl
+  ended_inside spot (frames.Fields ss ms ∷ fs) v h = tt
 
-  operator_inside : (begin end start : ℕ) (c : List Slot) (fs : List Frame) (ss : Symbols) (w : List ℕ) (now : Now) → is_top fs ≡ false → Inside (turn_now g l begin end start c fs ss (Operator w) now)
-  operator_inside begin end start c fs ss w nows.Ready h = ended_inside end _ c fs _ h
+  operator_inside : (begin end start : ℕ) (c : List Slot) (fs : List Frame) (ss : Symbols) (w : List ℕ) (now : Now) → is_top fs ≡ false → Inside (turn_now (under g l) (at start c fs ss now) (token_at begin end (Operator w)) now)
+  operator_inside begin end start c fs ss w nows.Ready h = ended_inside _ fs _ h
   operator_inside begin end start c fs ss w (nows.Pending x n) h = tt
   operator_inside begin end start c fs ss w (nows.Long v n) h = tt
   operator_inside begin end start c fs ss w nows.After h = tt

@@ -29,7 +29,7 @@ use Rattle.ion_text.specs.declared.state.Now.TheVariants as nows
 use Rattle.ion_text.specs.declared.state.Frame.{Frame}
 use Rattle.ion_text.specs.declared.state.Frame.TheVariants as frames
 use Rattle.ion_text.specs.Grammar.{Says, IsSymbol, is_word, is_id, is_quoted, IsScalar, is_null, is_typed_null, is_true, is_false, is_int, is_decimal, is_timestamp, is_symbol, is_operator, is_short, is_clob, is_blob, Annotations, no_annotation, one_annotation, Segments, segment, joined, Plain, one_token, long_string, is_list, is_sexp, is_struct, Means, means, Elements, no_element, element, comma, Row, no_item, item, Members, no_field, field, field_comma, IsName, by_symbol, by_short, by_long, close_place, is_keyword, is_version, the_marker, is_version_word, ends_long, begins_long, end_of}
-use Rattle.ion_text.specs.machine.EachToken.{Reading, Turn, goes, Token, Symbols, at, place, place_in, settle, turn, ended, held_word, held_symbol, held_payload, released, begun_at, on_ready, on_name, resolved, noted, paid}
+use Rattle.ion_text.specs.machine.EachToken.{under, spot_at, Reading, Turn, goes, Token, Symbols, at, place, place_in, settle, turn, ended, held_word, held_symbol, held_payload, released, begun_at, on_ready, on_name, resolved, noted, paid}
 use Rattle.ion_text.specs.machine.Run.{token_of, is_top}
 use Rattle.ion_text.specs.laws.reading.Places.{pending_at, long_at, name_at}
 use Rattle.ion_text.specs.machine.TokenLists.{done, on_turn, then_walk, continues, continues_now, reads, reads-append, first_token, behind_waiting, adds_none}
@@ -163,7 +163,7 @@ module _ (g : Catalog) (l : Limits) where
   -- a symbol, where a value may come, waits for `::`
   record Holds (end start : ℕ) (c : List Slot) (fs : List Frame) (ss : Symbols) (said : Content) (s : Option (List ℕ)) : Type 0 where
     held : Held
-    waits : on_ready g l.depth l.item end start c fs ss said ≡ goes (at start c fs ss (nows.Pending held end))
+    waits : on_ready (under g l) (spot_at end start c) fs ss said ≡ goes (at start c fs ss (nows.Pending held end))
     is : IsHeld held s
 
   symbol_held : (end start : ℕ) (c : List Slot) (fs : List Frame) (ss : Symbols) (said : Content) (s : Option (List ℕ)) → IsSymbol c said s → Holds end start c fs ss said s
@@ -208,8 +208,8 @@ module _ (g : Catalog) (l : Limits) where
   -- The tokens lead to this turn: with the last of them, or once it is known that nothing of what waits goes on.
   pub data Leads (c : List Slot) (fs : List Frame) (r : Reading) (ts : List Placed) (t : Turn) : Type 0 where
     at_once : reads g l r ts ≡ on_turn t done → Leads c fs r ts t
-    by_held : (start : ℕ) (ss : Symbols) (h : Held) (end : ℕ) → reads g l r ts ≡ done (at start c fs ss (nows.Pending h end)) → released g l.item end start c fs ss h ≡ t → Leads c fs r ts t
-    by_long' : (start : ℕ) (ss : Symbols) (w : List ℕ) (end : ℕ) → reads g l r ts ≡ done (at start c fs ss (nows.Long w end)) → ended g l.item end start c fs (annotated ss (payloads.Str w)) ≡ t → ends_long ts ≡ true → Leads c fs r ts t
+    by_held : (start : ℕ) (ss : Symbols) (h : Held) (end : ℕ) → reads g l r ts ≡ done (at start c fs ss (nows.Pending h end)) → released (under g l) (spot_at end start c) fs ss h ≡ t → Leads c fs r ts t
+    by_long' : (start : ℕ) (ss : Symbols) (w : List ℕ) (end : ℕ) → reads g l r ts ≡ done (at start c fs ss (nows.Long w end)) → ended (under g l) (spot_at end start c) fs (annotated ss (payloads.Str w)) ≡ t → ends_long ts ≡ true → Leads c fs r ts t
 
   -- Segments of a long string are read.
   pub segments_read : (c : List Slot) (p : Place) (start : ℕ) (fs : List Frame) (ss : Symbols) (ts : List Placed) (w : List ℕ) → p ≡ place_in fs nows.Ready → Segments p ts w
@@ -232,7 +232,7 @@ module _ (g : Catalog) (l : Limits) where
       segments_some _ _ (joined [] v w t d h) = (t, [], refl)
       segments_some _ _ (joined (u ∷ ts) v w t d h) = (u, ts ++ t ∷ [], refl)
 
-  released_paid : (end start : ℕ) (c : List Slot) (fs : List Frame) (ss : Symbols) (h : Held) → (fs ≡ [] → ss ≡ [] → not_version h ≡ true) → released g l.item end start c fs ss h ≡ paid g l.item end start c fs ss (held_payload h)
+  released_paid : (end start : ℕ) (c : List Slot) (fs : List Frame) (ss : Symbols) (h : Held) → (fs ≡ [] → ss ≡ [] → not_version h ≡ true) → released (under g l) (spot_at end start c) fs ss h ≡ paid (under g l) (spot_at end start c) fs ss (held_payload h)
   released_paid end start c [] [] (helds.Version b s) n = absurd (let e : false ≡ true = n refl refl in cc)
   released_paid end start c [] [] (helds.Symbol s) n = refl
   released_paid end start c [] [] (helds.Null k) n = refl
@@ -243,13 +243,13 @@ module _ (g : Catalog) (l : Limits) where
 
   -- a token of which it isn't known whether `::` follows
   held_leads : (c : List Slot) (p : Place) (start : ℕ) (fs : List Frame) (ss : Symbols) (t : Placed) (said : Content) (h : Held) (q : Payload) → p ≡ place_in fs nows.Ready → Says p t said
-      → on_ready g l.depth l.item t.lexeme.end (begun_at start t.lexeme.start fs ss) c fs ss said ≡ goes (at (begun_at start t.lexeme.start fs ss) c fs ss (nows.Pending h t.lexeme.end))
+      → on_ready (under g l) (spot_at t.lexeme.end (begun_at start t.lexeme.start fs ss) c) fs ss said ≡ goes (at (begun_at start t.lexeme.start fs ss) c fs ss (nows.Pending h t.lexeme.end))
       → held_payload h ≡ Ok q → (fs ≡ [] → ss ≡ [] → not_version h ≡ true)
-      → Leads c fs (at start c fs ss nows.Ready) (t ∷ []) (ended g l.item t.lexeme.end (begun_at start t.lexeme.start fs ss) c fs (annotated ss q))
+      → Leads c fs (at start c fs ss nows.Ready) (t ∷ []) (ended (under g l) (spot_at t.lexeme.end (begun_at start t.lexeme.start fs ss) c) fs (annotated ss q))
   held_leads c p start fs ss t said h q here i w e n =
       by_held (begun_at start t.lexeme.start fs ss) ss h t.lexeme.end
       (first_token g l p (at start c fs ss nows.Ready) t said [] i here (inr refl) ∙ ap (λ x. on_turn x done) w)
-      (released_paid t.lexeme.end (begun_at start t.lexeme.start fs ss) c fs ss h n ∙ ap (paid g l.item t.lexeme.end (begun_at start t.lexeme.start fs ss) c fs ss) e)
+      (released_paid t.lexeme.end (begun_at start t.lexeme.start fs ss) c fs ss h n ∙ ap (paid (under g l) (spot_at t.lexeme.end (begun_at start t.lexeme.start fs ss) c) fs ss) e)
 
   symbol_not_version : (c : List Slot) (p : Place) (start : ℕ) (fs : List Frame) (ss : Symbols) (t : Placed) (said : Content) (s : Option (List ℕ)) → Says p t said → (d : IsSymbol c said s) → is_version_word (t ∷ []) ≡ false
       → not_version (symbol_held t.lexeme.end start c fs ss said s d).held ≡ true
@@ -260,7 +260,7 @@ module _ (g : Catalog) (l : Limits) where
 
   -- One token that is a value is read.
   pub scalar_read : (c : List Slot) (p : Place) (start : ℕ) (fs : List Frame) (ss : Symbols) (t : Placed) (said : Content) (q : Payload) → p ≡ place_in fs nows.Ready → Says p t said → IsScalar c said q → (fs ≡ [] → ss ≡ [] → is_version_word (t ∷ []) ≡ false)
-      → Leads c fs (at start c fs ss nows.Ready) (t ∷ []) (ended g l.item t.lexeme.end (begun_at start t.lexeme.start fs ss) c fs (annotated ss q))
+      → Leads c fs (at start c fs ss nows.Ready) (t ∷ []) (ended (under g l) (spot_at t.lexeme.end (begun_at start t.lexeme.start fs ss) c) fs (annotated ss q))
   scalar_read c p start fs ss t _ _ here h is_null v = held_leads c p start fs ss t _ (helds.Null values.Null) _ here h refl refl (λ i j. refl)
   scalar_read c p start fs ss t _ _ here h (is_typed_null k) v = held_leads c p start fs ss t _ (helds.Null k) _ here h refl refl (λ i j. refl)
   scalar_read c p start fs ss t _ _ here h is_true v = held_leads c p start fs ss t _ (helds.Truth true) _ here h refl refl (λ i j. refl)
@@ -475,11 +475,11 @@ module _ (g : Catalog) (l : Limits) where
 
   -- notes and a payload behind them
   noted_leads : (c : List Slot) (p : Place) (start : ℕ) (fs : List Frame) (notes : List Placed) (t : Placed) (us : List Placed) (ss : Symbols) (q : Payload) → p ≡ place_in fs nows.Ready → Annotations c p notes ss
-      → Leads c fs (at (starts start fs notes) c fs ss nows.Ready) (t ∷ us) (ended g l.item (end_of 0 (t ∷ us)) (begun_at (starts start fs notes) t.lexeme.start fs ss) c fs (annotated ss q))
-      → Leads c fs (at start c fs [] nows.Ready) (notes ++ t ∷ us) (ended g l.item (end_of 0 (notes ++ t ∷ us)) (starts start fs (notes ++ t ∷ us)) c fs (annotated ss q))
+      → Leads c fs (at (starts start fs notes) c fs ss nows.Ready) (t ∷ us) (ended (under g l) (spot_at (end_of 0 (t ∷ us)) (begun_at (starts start fs notes) t.lexeme.start fs ss) c) fs (annotated ss q))
+      → Leads c fs (at start c fs [] nows.Ready) (notes ++ t ∷ us) (ended (under g l) (spot_at (end_of 0 (notes ++ t ∷ us)) (starts start fs (notes ++ t ∷ us)) c) fs (annotated ss q))
   noted_leads c p start fs notes t us ss q here a d =
-      subst (λ (n : ℕ). Leads c fs (at start c fs [] nows.Ready) (notes ++ t ∷ us) (ended g l.item n (starts start fs (notes ++ t ∷ us)) c fs (annotated ss q))) (sym (end_of_front notes us t 0))
-      (subst (λ (n : ℕ). Leads c fs (at start c fs [] nows.Ready) (notes ++ t ∷ us) (ended g l.item (end_of 0 (t ∷ us)) n c fs (annotated ss q))) (begun_behind c p start fs notes ss t us a)
+      subst (λ (n : ℕ). Leads c fs (at start c fs [] nows.Ready) (notes ++ t ∷ us) (ended (under g l) (spot_at n (starts start fs (notes ++ t ∷ us)) c) fs (annotated ss q))) (sym (end_of_front notes us t 0))
+      (subst (λ (n : ℕ). Leads c fs (at start c fs [] nows.Ready) (notes ++ t ∷ us) (ended (under g l) (spot_at (end_of 0 (t ∷ us)) n c) fs (annotated ss q))) (begun_behind c p start fs notes ss t us a)
       (leads_behind c fs (at start c fs [] nows.Ready) (at (starts start fs notes) c fs ss nows.Ready) notes (t ∷ us) _ (notes_read c p start fs notes ss here a) d))
 
   -- what stands between brackets, and the close
@@ -495,7 +495,7 @@ module _ (g : Catalog) (l : Limits) where
   InList c start fs ss ts vs false = Reached c (at start c (frames.List ss [] ∷ fs) [] nows.Ready) ts (at start c (frames.List ss vs ∷ fs) [] nows.After)
 
   list_ends : (c : List Slot) (start : ℕ) (fs : List Frame) (ss : Symbols) (ts : List Placed) (vs : List Value) (more : Bool) (t : Placed) → InList c start fs ss ts vs more → Says places.List t (Mark' marks.ListClose)
-      → reads g l (at start c (frames.List ss [] ∷ fs) [] nows.Ready) (ts ++ t ∷ []) ≡ on_turn (ended g l.item t.lexeme.end start c fs (annotated ss (payloads.List vs))) done
+      → reads g l (at start c (frames.List ss [] ∷ fs) [] nows.Ready) (ts ++ t ∷ []) ≡ on_turn (ended (under g l) (spot_at t.lexeme.end start c) fs (annotated ss (payloads.List vs))) done
   list_ends c start fs ss ts vs true t h i = closed_by c places.List (at start c (frames.List ss [] ∷ fs) [] nows.Ready) (at start c (frames.List ss vs ∷ fs) [] nows.Ready) ts t marks.ListClose _ refl (ready_reached c (at start c (frames.List ss [] ∷ fs) [] nows.Ready) (at start c (frames.List ss vs ∷ fs) [] nows.Ready) ts refl (λ t. refl) h) i (λ e. cc) refl
   list_ends c start fs ss ts vs false t h i = closed_by c places.List (at start c (frames.List ss [] ∷ fs) [] nows.Ready) (at start c (frames.List ss vs ∷ fs) [] nows.After) ts t marks.ListClose _ refl h i (λ e. cc) refl
 
@@ -526,12 +526,12 @@ module _ (g : Catalog) (l : Limits) where
   InStruct c start fs ss ts ms false = Reached c (at start c (frames.Fields ss [] ∷ fs) [] nows.Name) ts (at start c (frames.Fields ss ms ∷ fs) [] nows.After)
 
   struct_ends : (c : List Slot) (start : ℕ) (fs : List Frame) (ss : Symbols) (ts : List Placed) (ms : List Field) (more : Bool) (t : Placed) → InStruct c start fs ss ts ms more → Says (close_place more) t (Mark' marks.FieldsClose)
-      → reads g l (at start c (frames.Fields ss [] ∷ fs) [] nows.Name) (ts ++ t ∷ []) ≡ on_turn (ended g l.item t.lexeme.end start c fs (annotated ss (payloads.Fields ms))) done
+      → reads g l (at start c (frames.Fields ss [] ∷ fs) [] nows.Name) (ts ++ t ∷ []) ≡ on_turn (ended (under g l) (spot_at t.lexeme.end start c) fs (annotated ss (payloads.Fields ms))) done
   struct_ends c start fs ss ts ms true t h i = closed_by c places.Name (at start c (frames.Fields ss [] ∷ fs) [] nows.Name) (at start c (frames.Fields ss ms ∷ fs) [] nows.Name) ts t marks.FieldsClose _ refl (ready_reached c (at start c (frames.Fields ss [] ∷ fs) [] nows.Name) (at start c (frames.Fields ss ms ∷ fs) [] nows.Name) ts refl (λ t. refl) h) i (λ e. cc) refl
   struct_ends c start fs ss ts ms false t h i = closed_by c places.FieldValue (at start c (frames.Fields ss [] ∷ fs) [] nows.Name) (at start c (frames.Fields ss ms ∷ fs) [] nows.After) ts t marks.FieldsClose _ refl h i (λ e. cc) refl
 
   -- a symbol is a name
-  pub symbol_named : (c : List Slot) (start end : ℕ) (fs : List Frame) (said : Content) (s : Option (List ℕ)) → IsSymbol c said s → on_name g l.item end start c fs said ≡ goes (at start c fs [] (nows.Keyed s))
+  pub symbol_named : (c : List Slot) (start end : ℕ) (fs : List Frame) (said : Content) (s : Option (List ℕ)) → IsSymbol c said s → on_name (under g l) (spot_at end start c) fs said ≡ goes (at start c fs [] (nows.Keyed s))
   symbol_named c start end fs _ _ (is_word w h) = cond-false _ _ _ h
   symbol_named c start end fs _ _ (is_id id s h) = ap (λ r. resolved r (λ s. goes (at start c fs [] (nows.Keyed s)))) h
   symbol_named c start end fs _ _ (is_quoted w) = refl
@@ -559,7 +559,7 @@ module _ (g : Catalog) (l : Limits) where
   mutual
     -- A value without annotations is read.
     plain_read : (c : List Slot) (p : Place) (start : ℕ) (fs : List Frame) (ss : Symbols) (ts : List Placed) (q : Payload) → p ≡ place_in fs nows.Ready → Plain c p ts q → (fs ≡ [] → ss ≡ [] → is_version_word ts ≡ false) → depth (annotated ss q) + length fs ≤ l.depth
-        → Leads c fs (at start c fs ss nows.Ready) ts (ended g l.item (end_of 0 ts) (begun_at start (first_start 0 ts) fs ss) c fs (annotated ss q))
+        → Leads c fs (at start c fs ss nows.Ready) ts (ended (under g l) (spot_at (end_of 0 ts) (begun_at start (first_start 0 ts) fs ss) c) fs (annotated ss q))
     plain_read c p start fs ss _ _ here (one_token p' t said q h i) v deep = scalar_read c p start fs ss t said q here h i v
     plain_read c p start fs ss ts _ here (long_string p' _ w d) v deep = by_long' (begun_at start (first_start 0 ts) fs ss) ss w (end_of 0 ts) (segments_read c p start fs ss ts w here d) refl (segments_long p ts w d)
     plain_read c p start fs ss _ _ here (is_list p' o e ts vs more h d i) v deep =
@@ -567,28 +567,28 @@ module _ (g : Catalog) (l : Limits) where
         let dl = depth-list ss vs in
         at_once (opened c p start s fs ss o (ts ++ e ∷ []) here (omega arith) h refl
         ∙ (list_ends c s fs ss ts vs more e (elements_read c s fs ss ts vs more d (omega arith)) i
-        ∙ ap (λ (n : ℕ). on_turn (ended g l.item n s c fs (annotated ss (payloads.List vs))) done) (sym (end_of_front (o ∷ ts) [] e 0))))
+        ∙ ap (λ (n : ℕ). on_turn (ended (under g l) (spot_at n s c) fs (annotated ss (payloads.List vs))) done) (sym (end_of_front (o ∷ ts) [] e 0))))
     plain_read c p start fs ss _ _ here (is_sexp p' o e ts vs h d i) v deep =
         let s = begun_at start o.lexeme.start fs ss in
         let dl = depth-sexp ss vs in
         at_once (opened_sexp c p start s fs ss o (ts ++ e ∷ []) here (omega arith) h refl
         ∙ (closed_by c places.Sexp (at s c (frames.Sexp ss [] ∷ fs) [] nows.Ready) (at s c (frames.Sexp ss vs ∷ fs) [] nows.Ready) ts e marks.SexpClose _ refl (row_read c s fs ss ts vs d (omega arith)) i (λ e. cc) refl
-        ∙ ap (λ (n : ℕ). on_turn (ended g l.item n s c fs (annotated ss (payloads.Sexp vs))) done) (sym (end_of_front (o ∷ ts) [] e 0))))
+        ∙ ap (λ (n : ℕ). on_turn (ended (under g l) (spot_at n s c) fs (annotated ss (payloads.Sexp vs))) done) (sym (end_of_front (o ∷ ts) [] e 0))))
     plain_read c p start fs ss _ _ here (is_struct p' o e ts ms more h d i) v deep =
         let s = begun_at start o.lexeme.start fs ss in
         let dl = depth-struct ss ms in
         at_once (opened_struct c p start s fs ss o (ts ++ e ∷ []) here (omega arith) h refl
         ∙ (struct_ends c s fs ss ts ms more e (members_read c s fs ss ts ms more d (omega arith)) i
-        ∙ ap (λ (n : ℕ). on_turn (ended g l.item n s c fs (annotated ss (payloads.Fields ms))) done) (sym (end_of_front (o ∷ ts) [] e 0))))
+        ∙ ap (λ (n : ℕ). on_turn (ended (under g l) (spot_at n s c) fs (annotated ss (payloads.Fields ms))) done) (sym (end_of_front (o ∷ ts) [] e 0))))
 
     -- A value is read.
     pub means_read : (c : List Slot) (p : Place) (start : ℕ) (fs : List Frame) (ts : List Placed) (v : Value) → p ≡ place_in fs nows.Ready → Means c p ts v → (fs ≡ [] → is_version_word ts ≡ false) → depth v + length fs ≤ l.depth
-        → Leads c fs (at start c fs [] nows.Ready) ts (ended g l.item (end_of 0 ts) (starts start fs ts) c fs v)
+        → Leads c fs (at start c fs [] nows.Ready) ts (ended (under g l) (spot_at (end_of 0 ts) (starts start fs ts) c) fs v)
     means_read c p start fs _ _ here (means p' notes ts ss q a d) v deep =
         let b = plain_begins c p ts q d in
-        subst (λ x. Leads c fs (at start c fs [] nows.Ready) (notes ++ x) (ended g l.item (end_of 0 (notes ++ x)) (starts start fs (notes ++ x)) c fs (annotated ss q))) (sym b.cut)
+        subst (λ x. Leads c fs (at start c fs [] nows.Ready) (notes ++ x) (ended (under g l) (spot_at (end_of 0 (notes ++ x)) (starts start fs (notes ++ x)) c) fs (annotated ss q))) (sym b.cut)
         (noted_leads c p start fs notes b.first b.later ss q here a
-        (subst (λ x. Leads c fs (at (starts start fs notes) c fs ss nows.Ready) x (ended g l.item (end_of 0 x) (begun_at (starts start fs notes) (first_start 0 x) fs ss) c fs (annotated ss q))) b.cut
+        (subst (λ x. Leads c fs (at (starts start fs notes) c fs ss nows.Ready) x (ended (under g l) (spot_at (end_of 0 x) (begun_at (starts start fs notes) (first_start 0 x) fs ss) c) fs (annotated ss q))) b.cut
         (plain_read c p (starts start fs notes) fs ss ts q here d (unnoted c p notes ts ss fs a v) deep)))
 
     pub elements_read : (c : List Slot) (start : ℕ) (fs : List Frame) (ss : Symbols) (ts : List Placed) (vs : List Value) (more : Bool) → Elements c ts vs more → depths vs + suc (length fs) ≤ l.depth → InList c start fs ss ts vs more

@@ -25,7 +25,7 @@ use Rattle.ion_text.specs.declared.state.Now.TheVariants as nows
 use Rattle.ion_text.specs.declared.state.Frame.{Frame}
 use Rattle.ion_text.specs.declared.state.Frame.TheVariants as frames
 use Rattle.ion_text.specs.Grammar.{is_keyword}
-use Rattle.ion_text.specs.machine.EachToken.{Reading, Turn, goes, gives, refuses, late, Token, Symbols, at, fresh, settle, turn, turn_now, ended, within, turned, held_symbol, held_payload, released, begun_at, on_ready, on_after, on_name, on_pending, on_long, on_long_name, on_keyed, on_comma, struct_closed, list_closed, sexp_closed, bare_close, number_payload, paid, noted, resolved, keyed, named}
+use Rattle.ion_text.specs.machine.EachToken.{Setting, Spot, under, spot_at, token_at, Reading, Turn, goes, gives, refuses, late, Token, Symbols, at, fresh, settle, turn, turn_now, ended, within, turned, held_symbol, held_payload, released, begun_at, on_ready, on_after, on_name, on_pending, on_long, on_long_name, on_keyed, on_comma, struct_closed, list_closed, sexp_closed, bare_close, number_payload, paid, noted, resolved, keyed, named}
 use Rattle.ion_text.specs.laws.reading.Complete.{depths, field_depths, field_deepest-more, depth-list, depth-sexp, depth-struct}
 
 -- what has come of the open containers stays within so many levels
@@ -101,29 +101,29 @@ top_deep n item start end c v (Ok d) true h = within_deep n item start end (goes
 top_deep n item start end c v (Err e) true h = tt
 top_deep n item start end c v d false h = within_deep n item start end (gives v (fresh c)) h
 
-ended_deep : (n : ℕ) (g : Catalog) (item end start : ℕ) (c : List Slot) (fs : List Frame) (v : Value) → Deep n fs → depth v + length fs ≤ n → GoesDeep n (ended g item end start c fs v)
-ended_deep n g item end start c [] v d h = top_deep n item start end c v (next c v g) (is_table v) (omega arith)
-ended_deep n g item end start c (frames.List ss vs ∷ fs) v d h = let k = d.0 in let m = deepest-more vs v in (omega arith, d.1)
-ended_deep n g item end start c (frames.Sexp ss vs ∷ fs) v d h = let k = d.0 in let m = deepest-more vs v in (omega arith, d.1)
-ended_deep n g item end start c (frames.Named ss ms s ∷ fs) v d h = let k = d.0 in let m = field_deepest-more ms (field_of s v) in (omega arith, d.1)
-ended_deep n g item end start c (frames.Fields ss ms ∷ fs) v d h = tt
+ended_deep : (n : ℕ) (setting : Setting) (spot : Spot) (fs : List Frame) (v : Value) → Deep n fs → depth v + length fs ≤ n → GoesDeep n (ended setting spot fs v)
+ended_deep n setting spot [] v d h = top_deep n setting.limits.item spot.start spot.end spot.context v (next spot.context v setting.catalog) (is_table v) (omega arith)
+ended_deep n setting spot (frames.List ss vs ∷ fs) v d h = let k = d.0 in let m = deepest-more vs v in (omega arith, d.1)
+ended_deep n setting spot (frames.Sexp ss vs ∷ fs) v d h = let k = d.0 in let m = deepest-more vs v in (omega arith, d.1)
+ended_deep n setting spot (frames.Named ss ms s ∷ fs) v d h = let k = d.0 in let m = field_deepest-more ms (field_of s v) in (omega arith, d.1)
+ended_deep n setting spot (frames.Fields ss ms ∷ fs) v d h = tt
 
-flat_deep : (n : ℕ) (g : Catalog) (item end start : ℕ) (c : List Slot) (fs : List Frame) (ss : Symbols) (q : Payload) → Deep n fs → Flat ss q → GoesDeep n (ended g item end start c fs (annotated ss q))
-flat_deep n g item end start c fs ss q d h = let k = length_deep n fs d in ended_deep n g item end start c fs (annotated ss q) d (omega arith)
+flat_deep : (n : ℕ) (setting : Setting) (spot : Spot) (fs : List Frame) (ss : Symbols) (q : Payload) → Deep n fs → Flat ss q → GoesDeep n (ended setting spot fs (annotated ss q))
+flat_deep n setting spot fs ss q d h = let k = length_deep n fs d in ended_deep n setting spot fs (annotated ss q) d (omega arith)
 
-paid_deep : (n : ℕ) (g : Catalog) (item end start : ℕ) (c : List Slot) (fs : List Frame) (ss : Symbols) (h : Held) (r : Result Payload Reason) → held_payload h ≡ r → Deep n fs → GoesDeep n (paid g item end start c fs ss r)
-paid_deep n g item end start c fs ss h (Ok q) e d = flat_deep n g item end start c fs ss q d (flat_held ss h q e)
-paid_deep n g item end start c fs ss h (Err x) e d = tt
+paid_deep : (n : ℕ) (setting : Setting) (spot : Spot) (fs : List Frame) (ss : Symbols) (h : Held) (r : Result Payload Reason) → held_payload h ≡ r → Deep n fs → GoesDeep n (paid setting spot fs ss r)
+paid_deep n setting spot fs ss h (Ok q) e d = flat_deep n setting spot fs ss q d (flat_held ss h q e)
+paid_deep n setting spot fs ss h (Err x) e d = tt
 
-released_deep : (n : ℕ) (g : Catalog) (item end start : ℕ) (c : List Slot) (fs : List Frame) (ss : Symbols) (h : Held) → Deep n fs → GoesDeep n (released g item end start c fs ss h)
-released_deep n g item end start c [] [] (helds.Version true s) d = within_deep n item start end _ tt
-released_deep n g item end start c [] [] (helds.Version false s) d = tt
-released_deep n g item end start c [] [] (helds.Symbol s) d = paid_deep n g item end start c [] [] (helds.Symbol s) _ refl d
-released_deep n g item end start c [] [] (helds.Null s) d = paid_deep n g item end start c [] [] (helds.Null s) _ refl d
-released_deep n g item end start c [] [] (helds.Truth s) d = paid_deep n g item end start c [] [] (helds.Truth s) _ refl d
-released_deep n g item end start c [] [] helds.Nan d = tt
-released_deep n g item end start c [] (s ∷ ss) h d = paid_deep n g item end start c [] (s ∷ ss) h _ refl d
-released_deep n g item end start c (f ∷ fs) ss h d = paid_deep n g item end start c (f ∷ fs) ss h _ refl d
+released_deep : (n : ℕ) (setting : Setting) (spot : Spot) (fs : List Frame) (ss : Symbols) (h : Held) → Deep n fs → GoesDeep n (released setting spot fs ss h)
+released_deep n setting spot [] [] (helds.Version true s) d = within_deep n setting.limits.item spot.start spot.end _ tt
+released_deep n setting spot [] [] (helds.Version false s) d = tt
+released_deep n setting spot [] [] (helds.Symbol s) d = paid_deep n setting spot [] [] (helds.Symbol s) _ refl d
+released_deep n setting spot [] [] (helds.Null s) d = paid_deep n setting spot [] [] (helds.Null s) _ refl d
+released_deep n setting spot [] [] (helds.Truth s) d = paid_deep n setting spot [] [] (helds.Truth s) _ refl d
+released_deep n setting spot [] [] helds.Nan d = tt
+released_deep n setting spot [] (s ∷ ss) h d = paid_deep n setting spot [] (s ∷ ss) h _ refl d
+released_deep n setting spot (f ∷ fs) ss h d = paid_deep n setting spot (f ∷ fs) ss h _ refl d
 
 resolved_deep : (n : ℕ) (r : Result (Option (List ℕ)) Reason) (f : Option (List ℕ) → Turn) → ((s : Option (List ℕ)) → GoesDeep n (f s)) → GoesDeep n (resolved r f)
 resolved_deep n (Ok s) f h = h s
@@ -145,51 +145,51 @@ struct_opens : (n start : ℕ) (c : List Slot) (fs : List Frame) (ss : Symbols) 
 struct_opens n start c fs ss true e d = let k = lt_of (length fs) n e in (omega arith, d)
 struct_opens n start c fs ss false e d = tt
 
-list_closes : (n : ℕ) (g : Catalog) (item end start : ℕ) (c : List Slot) (fs : List Frame) → Deep n fs → GoesDeep n (list_closed g item end start c fs)
-list_closes n g item end start c (frames.List ss vs ∷ fs) d = let k = d.0 in let m = depth-list ss vs in ended_deep n g item end start c fs _ d.1 (omega arith)
-list_closes n g item end start c (frames.Sexp ss vs ∷ fs) d = tt
-list_closes n g item end start c (frames.Fields ss ms ∷ fs) d = tt
-list_closes n g item end start c (frames.Named ss ms s ∷ fs) d = tt
-list_closes n g item end start c [] d = tt
+list_closes : (n : ℕ) (setting : Setting) (spot : Spot) (fs : List Frame) → Deep n fs → GoesDeep n (list_closed setting spot fs)
+list_closes n setting spot (frames.List ss vs ∷ fs) d = let k = d.0 in let m = depth-list ss vs in ended_deep n setting spot fs _ d.1 (omega arith)
+list_closes n setting spot (frames.Sexp ss vs ∷ fs) d = tt
+list_closes n setting spot (frames.Fields ss ms ∷ fs) d = tt
+list_closes n setting spot (frames.Named ss ms s ∷ fs) d = tt
+list_closes n setting spot [] d = tt
 
-sexp_closes : (n : ℕ) (g : Catalog) (item end start : ℕ) (c : List Slot) (fs : List Frame) → Deep n fs → GoesDeep n (sexp_closed g item end start c fs)
-sexp_closes n g item end start c (frames.Sexp ss vs ∷ fs) d = let k = d.0 in let m = depth-sexp ss vs in ended_deep n g item end start c fs _ d.1 (omega arith)
-sexp_closes n g item end start c (frames.List ss vs ∷ fs) d = tt
-sexp_closes n g item end start c (frames.Fields ss ms ∷ fs) d = tt
-sexp_closes n g item end start c (frames.Named ss ms s ∷ fs) d = tt
-sexp_closes n g item end start c [] d = tt
+sexp_closes : (n : ℕ) (setting : Setting) (spot : Spot) (fs : List Frame) → Deep n fs → GoesDeep n (sexp_closed setting spot fs)
+sexp_closes n setting spot (frames.Sexp ss vs ∷ fs) d = let k = d.0 in let m = depth-sexp ss vs in ended_deep n setting spot fs _ d.1 (omega arith)
+sexp_closes n setting spot (frames.List ss vs ∷ fs) d = tt
+sexp_closes n setting spot (frames.Fields ss ms ∷ fs) d = tt
+sexp_closes n setting spot (frames.Named ss ms s ∷ fs) d = tt
+sexp_closes n setting spot [] d = tt
 
-struct_closes : (n : ℕ) (g : Catalog) (item end start : ℕ) (c : List Slot) (fs : List Frame) → Deep n fs → GoesDeep n (struct_closed g item end start c fs)
-struct_closes n g item end start c (frames.Fields ss ms ∷ fs) d = let k = d.0 in let m = depth-struct ss ms in ended_deep n g item end start c fs _ d.1 (omega arith)
-struct_closes n g item end start c (frames.List ss vs ∷ fs) d = tt
-struct_closes n g item end start c (frames.Sexp ss vs ∷ fs) d = tt
-struct_closes n g item end start c (frames.Named ss ms s ∷ fs) d = tt
-struct_closes n g item end start c [] d = tt
+struct_closes : (n : ℕ) (setting : Setting) (spot : Spot) (fs : List Frame) → Deep n fs → GoesDeep n (struct_closed setting spot fs)
+struct_closes n setting spot (frames.Fields ss ms ∷ fs) d = let k = d.0 in let m = depth-struct ss ms in ended_deep n setting spot fs _ d.1 (omega arith)
+struct_closes n setting spot (frames.List ss vs ∷ fs) d = tt
+struct_closes n setting spot (frames.Sexp ss vs ∷ fs) d = tt
+struct_closes n setting spot (frames.Named ss ms s ∷ fs) d = tt
+struct_closes n setting spot [] d = tt
 
 bare_deep : (n : ℕ) (ss : Symbols) (t : Turn) → GoesDeep n t → GoesDeep n (bare_close ss t)
 bare_deep n [] t h = h
 bare_deep n (s ∷ ss) t h = tt
 
-ready_deep : (n : ℕ) (g : Catalog) (item end start : ℕ) (c : List Slot) (fs : List Frame) (ss : Symbols) (said : Content) → Deep n fs → GoesDeep n (on_ready g n item end start c fs ss said)
-ready_deep n g item end start c fs ss (Word w) d = d
-ready_deep n g item end start c fs ss (Id id) d = resolved_deep n (resolve c id) _ (λ s. d)
-ready_deep n g item end start c fs ss (Quoted w) d = d
-ready_deep n g item end start c fs ss (TypedNull k) d = d
-ready_deep n g item end start c fs ss (Long w) d = d
-ready_deep n g item end start c fs ss (Short w) d = flat_deep n g item end start c fs ss _ d (flat_text ss w)
-ready_deep n g item end start c fs ss (Number' m) d = flat_deep n g item end start c fs ss _ d (flat_number ss m)
-ready_deep n g item end start c fs ss (Operator w) d = flat_deep n g item end start c fs ss _ d (flat_symbol ss (Some w))
-ready_deep n g item end start c fs ss (Clob w) d = flat_deep n g item end start c fs ss _ d (flat_clob ss w)
-ready_deep n g item end start c fs ss (Blob w) d = flat_deep n g item end start c fs ss _ d (flat_blob ss w)
-ready_deep n g item end start c fs ss (Mark' marks.ListOpen) d = list_opens n start c fs ss (nat_lt (length fs) n) refl d
-ready_deep n g item end start c fs ss (Mark' marks.SexpOpen) d = sexp_opens n start c fs ss (nat_lt (length fs) n) refl d
-ready_deep n g item end start c fs ss (Mark' marks.FieldsOpen) d = struct_opens n start c fs ss (nat_lt (length fs) n) refl d
-ready_deep n g item end start c fs ss (Mark' marks.ListClose) d = bare_deep n ss _ (list_closes n g item end start c fs d)
-ready_deep n g item end start c fs ss (Mark' marks.SexpClose) d = bare_deep n ss _ (sexp_closes n g item end start c fs d)
-ready_deep n g item end start c fs ss (Mark' marks.FieldsClose) d = tt
-ready_deep n g item end start c fs ss (Mark' marks.Comma) d = tt
-ready_deep n g item end start c fs ss (Mark' marks.Colon) d = tt
-ready_deep n g item end start c fs ss (Mark' marks.Colons) d = tt
+ready_deep : (setting : Setting) (spot : Spot) (fs : List Frame) (ss : Symbols) (said : Content) → Deep setting.limits.depth fs → GoesDeep setting.limits.depth (on_ready setting spot fs ss said)
+ready_deep setting spot fs ss (Word w) d = d
+ready_deep setting spot fs ss (Id id) d = resolved_deep setting.limits.depth (resolve spot.context id) _ (λ s. d)
+ready_deep setting spot fs ss (Quoted w) d = d
+ready_deep setting spot fs ss (TypedNull k) d = d
+ready_deep setting spot fs ss (Long w) d = d
+ready_deep setting spot fs ss (Short w) d = flat_deep setting.limits.depth setting spot fs ss _ d (flat_text ss w)
+ready_deep setting spot fs ss (Number' m) d = flat_deep setting.limits.depth setting spot fs ss _ d (flat_number ss m)
+ready_deep setting spot fs ss (Operator w) d = flat_deep setting.limits.depth setting spot fs ss _ d (flat_symbol ss (Some w))
+ready_deep setting spot fs ss (Clob w) d = flat_deep setting.limits.depth setting spot fs ss _ d (flat_clob ss w)
+ready_deep setting spot fs ss (Blob w) d = flat_deep setting.limits.depth setting spot fs ss _ d (flat_blob ss w)
+ready_deep setting spot fs ss (Mark' marks.ListOpen) d = list_opens setting.limits.depth spot.start spot.context fs ss (nat_lt (length fs) setting.limits.depth) refl d
+ready_deep setting spot fs ss (Mark' marks.SexpOpen) d = sexp_opens setting.limits.depth spot.start spot.context fs ss (nat_lt (length fs) setting.limits.depth) refl d
+ready_deep setting spot fs ss (Mark' marks.FieldsOpen) d = struct_opens setting.limits.depth spot.start spot.context fs ss (nat_lt (length fs) setting.limits.depth) refl d
+ready_deep setting spot fs ss (Mark' marks.ListClose) d = bare_deep setting.limits.depth ss _ (list_closes setting.limits.depth setting spot fs d)
+ready_deep setting spot fs ss (Mark' marks.SexpClose) d = bare_deep setting.limits.depth ss _ (sexp_closes setting.limits.depth setting spot fs d)
+ready_deep setting spot fs ss (Mark' marks.FieldsClose) d = tt
+ready_deep setting spot fs ss (Mark' marks.Comma) d = tt
+ready_deep setting spot fs ss (Mark' marks.Colon) d = tt
+ready_deep setting spot fs ss (Mark' marks.Colons) d = tt
 
 noted_deep : (n start : ℕ) (c : List Slot) (fs : List Frame) (ss : Symbols) (r : Result (Option (List ℕ)) Reason) → Deep n fs → GoesDeep n (noted start c fs ss r)
 noted_deep n start c fs ss (Ok s) d = d
@@ -199,9 +199,9 @@ pending_deep : (n start : ℕ) (c : List Slot) (fs : List Frame) (ss : Symbols) 
 pending_deep n start c fs ss h (Mark' marks.Colons) d = noted_deep n start c fs ss (held_symbol h) d
 pending_deep n start c fs ss h _ d = tt
 
-long_deep : (n end start : ℕ) (c : List Slot) (fs : List Frame) (ss : Symbols) (v : List ℕ) (said : Content) → Deep n fs → GoesDeep n (on_long end start c fs ss v said)
-long_deep n end start c fs ss v (Long w) d = d
-long_deep n end start c fs ss v _ d = tt
+long_deep : (n : ℕ) (spot : Spot) (fs : List Frame) (ss : Symbols) (v : List ℕ) (said : Content) → Deep n fs → GoesDeep n (on_long spot fs ss v said)
+long_deep n spot fs ss v (Long w) d = d
+long_deep n spot fs ss v _ d = tt
 
 comma_deep : (n start : ℕ) (c : List Slot) (fs : List Frame) → Deep n fs → GoesDeep n (on_comma start c fs)
 comma_deep n start c (frames.List ss vs ∷ fs) d = d
@@ -210,25 +210,25 @@ comma_deep n start c (frames.Sexp ss vs ∷ fs) d = tt
 comma_deep n start c (frames.Named ss ms s ∷ fs) d = tt
 comma_deep n start c [] d = tt
 
-after_deep : (n : ℕ) (g : Catalog) (item end start : ℕ) (c : List Slot) (fs : List Frame) (said : Content) → Deep n fs → GoesDeep n (on_after g item end start c fs said)
-after_deep n g item end start c fs (Mark' marks.Comma) d = comma_deep n start c fs d
-after_deep n g item end start c fs (Mark' marks.ListClose) d = list_closes n g item end start c fs d
-after_deep n g item end start c fs (Mark' marks.FieldsClose) d = struct_closes n g item end start c fs d
-after_deep n g item end start c fs _ d = tt
+after_deep : (n : ℕ) (setting : Setting) (spot : Spot) (fs : List Frame) (said : Content) → Deep n fs → GoesDeep n (on_after setting spot fs said)
+after_deep n setting spot fs (Mark' marks.Comma) d = comma_deep n spot.start spot.context fs d
+after_deep n setting spot fs (Mark' marks.ListClose) d = list_closes n setting spot fs d
+after_deep n setting spot fs (Mark' marks.FieldsClose) d = struct_closes n setting spot fs d
+after_deep n setting spot fs _ d = tt
 
-name_deep : (n : ℕ) (g : Catalog) (item end start : ℕ) (c : List Slot) (fs : List Frame) (said : Content) → Deep n fs → GoesDeep n (on_name g item end start c fs said)
-name_deep n g item end start c fs (Word w) d = go (is_keyword w)
+name_deep : (n : ℕ) (setting : Setting) (spot : Spot) (fs : List Frame) (said : Content) → Deep n fs → GoesDeep n (on_name setting spot fs said)
+name_deep n setting spot fs (Word w) d = go (is_keyword w)
   where
-    go : (b : Bool) → GoesDeep n (if b then late reasons.KeywordAsName (keyed start c fs (Some w)) else goes (keyed start c fs (Some w)))
+    go : (b : Bool) → GoesDeep n (if b then late reasons.KeywordAsName (keyed spot.start spot.context fs (Some w)) else goes (keyed spot.start spot.context fs (Some w)))
     go true = tt
     go false = d
-name_deep n g item end start c fs (TypedNull k) d = tt
-name_deep n g item end start c fs (Id id) d = resolved_deep n (resolve c id) _ (λ s. d)
-name_deep n g item end start c fs (Quoted w) d = d
-name_deep n g item end start c fs (Short w) d = d
-name_deep n g item end start c fs (Long w) d = d
-name_deep n g item end start c fs (Mark' marks.FieldsClose) d = struct_closes n g item end start c fs d
-name_deep n g item end start c fs _ d = tt
+name_deep n setting spot fs (TypedNull k) d = tt
+name_deep n setting spot fs (Id id) d = resolved_deep n (resolve spot.context id) _ (λ s. d)
+name_deep n setting spot fs (Quoted w) d = d
+name_deep n setting spot fs (Short w) d = d
+name_deep n setting spot fs (Long w) d = d
+name_deep n setting spot fs (Mark' marks.FieldsClose) d = struct_closes n setting spot fs d
+name_deep n setting spot fs _ d = tt
 
 long_name_deep : (n start : ℕ) (c : List Slot) (fs : List Frame) (v : List ℕ) (said : Content) → Deep n fs → GoesDeep n (on_long_name start c fs v said)
 long_name_deep n start c fs v (Long w) d = d
@@ -245,12 +245,12 @@ keyed_deep : (n start : ℕ) (c : List Slot) (fs : List Frame) (s : Option (List
 keyed_deep n start c fs s (Mark' marks.Colon) d = named_deep n start c fs s d
 keyed_deep n start c fs s _ d = tt
 
-now_deep : (g : Catalog) (l : Limits) (begin end start : ℕ) (c : List Slot) (fs : List Frame) (ss : Symbols) (said : Content) (now : Now) → Deep l.depth fs → GoesDeep l.depth (turn_now g l begin end start c fs ss said now)
-now_deep g l begin end start c fs ss said nows.Ready d = ready_deep l.depth g l.item end (begun_at start begin fs ss) c fs ss said d
+now_deep : (g : Catalog) (l : Limits) (begin end start : ℕ) (c : List Slot) (fs : List Frame) (ss : Symbols) (said : Content) (now : Now) → Deep l.depth fs → GoesDeep l.depth (turn_now (under g l) (at start c fs ss now) (token_at begin end said) now)
+now_deep g l begin end start c fs ss said nows.Ready d = ready_deep (under g l) (spot_at end (begun_at start begin fs ss) c) fs ss said d
 now_deep g l begin end start c fs ss said (nows.Pending h e) d = pending_deep l.depth start c fs ss h said d
-now_deep g l begin end start c fs ss said (nows.Long w e) d = long_deep l.depth end start c fs ss w said d
-now_deep g l begin end start c fs ss said nows.After d = after_deep l.depth g l.item end start c fs said d
-now_deep g l begin end start c fs ss said nows.Name d = name_deep l.depth g l.item end start c fs said d
+now_deep g l begin end start c fs ss said (nows.Long w e) d = long_deep l.depth (spot_at end start c) fs ss w said d
+now_deep g l begin end start c fs ss said nows.After d = after_deep l.depth (under g l) (spot_at end start c) fs said d
+now_deep g l begin end start c fs ss said nows.Name d = name_deep l.depth (under g l) (spot_at end start c) fs said d
 now_deep g l begin end start c fs ss said (nows.LongName w) d = long_name_deep l.depth start c fs w said d
 now_deep g l begin end start c fs ss said (nows.Keyed s) d = keyed_deep l.depth start c fs s said d
 
@@ -259,8 +259,8 @@ pub turn_deep : (g : Catalog) (l : Limits) (r : Reading) (t : Token) → Deep l.
 turn_deep g l r t d = now_deep g l t.start t.end r.start r.context r.frames r.notes t.said r.now d
 
 settled_deep : (g : Catalog) (l : Limits) (start : ℕ) (c : List Slot) (fs : List Frame) (ss : Symbols) (now : Now) → Deep l.depth fs → GoesDeep l.depth (settle g l (at start c fs ss now))
-settled_deep g l start c fs ss (nows.Pending h e) d = released_deep l.depth g l.item e start c fs ss h d
-settled_deep g l start c fs ss (nows.Long w e) d = flat_deep l.depth g l.item e start c fs ss _ d (flat_text ss w)
+settled_deep g l start c fs ss (nows.Pending h e) d = released_deep l.depth (under g l) (spot_at e start c) fs ss h d
+settled_deep g l start c fs ss (nows.Long w e) d = flat_deep l.depth (under g l) (spot_at e start c) fs ss _ d (flat_text ss w)
 settled_deep g l start c fs ss (nows.LongName w) d = d
 settled_deep g l start c fs ss nows.Ready d = d
 settled_deep g l start c fs ss nows.After d = d

@@ -19,7 +19,7 @@ use Rattle.ion_text.specs.declared.state.Frame.{Frame}
 use Rattle.ion_text.specs.declared.state.Frame.TheVariants as frames
 use Rattle.ion_text.specs.Grammar.{Says, Annotations, no_annotation, one_annotation, Segments, segment, joined, Pieces, marked, turns, holds, is_long, ends_long, begins_long, begins_as_long, is_two_quotes, end_of, span}
 use Rattle.ion_tokens.specs.machine.Said.{said}
-use Rattle.ion_text.specs.machine.EachToken.{Reading, Turn, goes, gives, refuses, late, Symbols, at, fresh, place, place_in, settle, turn, turn_now, begun_at}
+use Rattle.ion_text.specs.machine.EachToken.{under, token_at, Reading, Turn, goes, gives, refuses, late, Symbols, at, fresh, place, place_in, settle, turn, turn_now, begun_at}
 use Rattle.ion_text.specs.machine.Run.{waits, waits_now, token_of, is_top, is_fresh}
 use Rattle.ion_tokens.specs.machine.Ahead.{is_quoting, is_sane, Follows, is_quoted, long_waits, is_segment}
 use Rattle.ion_tokens.specs.laws.Follows.{feed_follows}
@@ -196,7 +196,7 @@ LongTurn (gives v r) = ⊥
 LongTurn (refuses e) = Unit {0}
 LongTurn (late e r) = Unit {0}
 
-now_long : (g : Catalog) (l : Limits) (begin end start : ℕ) (c : List Slot) (fs : List Frame) (ss : Symbols) (w : List ℕ) (now : Now) → LongTurn (turn_now g l begin end start c fs ss (Long w) now)
+now_long : (g : Catalog) (l : Limits) (begin end start : ℕ) (c : List Slot) (fs : List Frame) (ss : Symbols) (w : List ℕ) (now : Now) → LongTurn (turn_now (under g l) (at start c fs ss now) (token_at begin end (Long w)) now)
 now_long g l begin end start c fs ss w nows.Ready = tt
 now_long g l begin end start c fs ss w (nows.Pending h e) = tt
 now_long g l begin end start c fs ss w (nows.Long v e) = tt

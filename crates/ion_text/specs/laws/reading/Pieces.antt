@@ -19,7 +19,7 @@ use Rattle.ion_tokens.specs.machine.Ahead.{is_segment}
 use Rattle.ion_tokens.specs.machine.Said.{said}
 use Rattle.ion_text.specs.declared.state.Now.TheVariants as nows
 use Rattle.ion_text.specs.Grammar.{Says, Annotations, no_annotation, one_annotation, Means, means, Pieces, begins, marked, turns, holds, is_version_word, the_marker, ends_long, is_two_quotes, begins_as_long, span, end_of}
-use Rattle.ion_text.specs.machine.EachToken.{Reading, Turn, goes, gives, refuses, late, Token, Symbols, at, fresh, place, settle, turn, turned, held_word, released}
+use Rattle.ion_text.specs.machine.EachToken.{under, spot_at, Reading, Turn, goes, gives, refuses, late, Token, Symbols, at, fresh, place, settle, turn, turned, held_word, released}
 use Rattle.ion_text.specs.machine.Run.{token_of, is_top}
 use Rattle.ion_text.specs.laws.reading.Places.{Leading, settle_same}
 use Rattle.ion_text.specs.machine.TokenLists.{Walk, walked, stopped, adds, done, on_turn, then_walk, continues, reads, reads-append, in_place, first_token, adds_none, adds_adds, on_judged, said_ok}
@@ -204,7 +204,7 @@ module _ (g : Catalog) (l : Limits) where
   pieces_read _ _ _ (marked ts s c t d h i) =
       let b : Begins g l places.Top (t ∷ []) = record { first = t; later = []; said = Word the_marker; cut = refl; says = h; no_colons = λ e. cc } in
       subst (λ x. ReadSoFar (ts ++ t ∷ []) x system_slots) (append-nil s)
-      (piece_more ts (t ∷ []) s [] c system_slots (released g l.item t.lexeme.end t.lexeme.start c [] [] (held_word the_marker)) (pieces_read ts s c d) b (no_long (ends_long ts) t h)
+      (piece_more ts (t ∷ []) s [] c system_slots (released (under g l) (spot_at t.lexeme.end t.lexeme.start c) [] [] (held_word the_marker)) (pieces_read ts s c d) b (no_long (ends_long ts) t h)
       (by_held t.lexeme.start [] (held_word the_marker) t.lexeme.end (first_token g l places.Top (fresh c) t (Word the_marker) [] h refl (inr refl)) refl)
       (ap (λ x. on_turn x done) (cond-true _ _ _ (fits_span (t ∷ []) b i))))
     where

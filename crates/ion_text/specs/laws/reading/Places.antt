@@ -17,7 +17,7 @@ use Rattle.ion_text.specs.declared.state.Now.{Now}
 use Rattle.ion_text.specs.declared.state.Now.TheVariants as nows
 use Rattle.ion_text.specs.declared.state.Frame.{Frame}
 use Rattle.ion_text.specs.declared.state.Frame.TheVariants as frames
-use Rattle.ion_text.specs.machine.EachToken.{Reading, Turn, goes, gives, refuses, late, Symbols, at, fresh, place, place_in, settle, turned, within, ended, released, paid, held_payload}
+use Rattle.ion_text.specs.machine.EachToken.{Spot, under, spot_at, Reading, Turn, goes, gives, refuses, late, Symbols, at, fresh, place, place_in, settle, turned, within, ended, released, paid, held_payload}
 use Rattle.ion_text.specs.machine.Run.{is_top}
 
 abbrev pub same_place : Place → Place → Bool
@@ -115,26 +115,26 @@ module _ (g : Catalog) (l : Limits) where
   IsValueNow (nows.Long w end) = Unit {0}
   IsValueNow _ = ⊥
 
-  ended_same : (item end start : ℕ) (c : List Slot) (fs : List Frame) (now : Now) (v : Value) → IsValueNow now → SamePlace fs now (ended g item end start c fs v)
-  ended_same item end start c [] now v h = top_same item start end c now v (next c v g) (is_table v)
-  ended_same item end start c (frames.List ss vs ∷ fs) now v h = (refl, refl)
-  ended_same item end start c (frames.Sexp ss vs ∷ fs) now v h = (refl, refl)
-  ended_same item end start c (frames.Named ss ms s ∷ fs) now v h = (refl, refl)
-  ended_same item end start c (frames.Fields ss ms ∷ fs) now v h = tt
+  ended_same : (spot : Spot) (fs : List Frame) (now : Now) (v : Value) → IsValueNow now → SamePlace fs now (ended (under g l) spot fs v)
+  ended_same spot [] now v h = top_same l.item spot.start spot.end spot.context now v (next spot.context v g) (is_table v)
+  ended_same spot (frames.List ss vs ∷ fs) now v h = (refl, refl)
+  ended_same spot (frames.Sexp ss vs ∷ fs) now v h = (refl, refl)
+  ended_same spot (frames.Named ss ms s ∷ fs) now v h = (refl, refl)
+  ended_same spot (frames.Fields ss ms ∷ fs) now v h = tt
 
-  paid_same : (item end start : ℕ) (c : List Slot) (fs : List Frame) (ss : Symbols) (now : Now) (q : Result Payload Reason) → IsValueNow now → SamePlace fs now (paid g item end start c fs ss q)
-  paid_same item end start c fs ss now (Ok q) h = ended_same item end start c fs now _ h
-  paid_same item end start c fs ss now (Err e) h = tt
+  paid_same : (spot : Spot) (fs : List Frame) (ss : Symbols) (now : Now) (q : Result Payload Reason) → IsValueNow now → SamePlace fs now (paid (under g l) spot fs ss q)
+  paid_same spot fs ss now (Ok q) h = ended_same spot fs now _ h
+  paid_same spot fs ss now (Err e) h = tt
 
-  released_same : (item end start : ℕ) (c : List Slot) (fs : List Frame) (ss : Symbols) (now : Now) (h : Held) → IsValueNow now → SamePlace fs now (released g item end start c fs ss h)
-  released_same item end start c [] [] now (helds.Version true s) i = within_same item start end [] now (goes (fresh system_slots)) (refl, refl)
-  released_same item end start c [] [] now (helds.Version false s) i = tt
-  released_same item end start c [] [] now (helds.Symbol s) i = paid_same item end start c [] [] now (held_payload (helds.Symbol s)) i
-  released_same item end start c [] [] now (helds.Null k) i = paid_same item end start c [] [] now (held_payload (helds.Null k)) i
-  released_same item end start c [] [] now (helds.Truth b) i = paid_same item end start c [] [] now (held_payload (helds.Truth b)) i
-  released_same item end start c [] [] now helds.Nan i = tt
-  released_same item end start c [] (s ∷ ss) now h i = paid_same item end start c [] (s ∷ ss) now (held_payload h) i
-  released_same item end start c (f ∷ fs) ss now h i = paid_same item end start c (f ∷ fs) ss now (held_payload h) i
+  released_same : (spot : Spot) (fs : List Frame) (ss : Symbols) (now : Now) (h : Held) → IsValueNow now → SamePlace fs now (released (under g l) spot fs ss h)
+  released_same spot [] [] now (helds.Version true s) i = within_same l.item spot.start spot.end [] now (goes (fresh system_slots)) (refl, refl)
+  released_same spot [] [] now (helds.Version false s) i = tt
+  released_same spot [] [] now (helds.Symbol s) i = paid_same spot [] [] now (held_payload (helds.Symbol s)) i
+  released_same spot [] [] now (helds.Null k) i = paid_same spot [] [] now (held_payload (helds.Null k)) i
+  released_same spot [] [] now (helds.Truth b) i = paid_same spot [] [] now (held_payload (helds.Truth b)) i
+  released_same spot [] [] now helds.Nan i = tt
+  released_same spot [] (s ∷ ss) now h i = paid_same spot [] (s ∷ ss) now (held_payload h) i
+  released_same spot (f ∷ fs) ss now h i = paid_same spot (f ∷ fs) ss now (held_payload h) i
 
   keyed_same : (fs : List Frame) (w : List ℕ) (s : Option (List ℕ)) → place_in fs (nows.Keyed s) ≡ place_in fs (nows.LongName w)
   keyed_same [] w s = refl
@@ -145,8 +145,8 @@ module _ (g : Catalog) (l : Limits) where
 
   -- What waited is settled where it stands.
   pub settle_same : (start : ℕ) (c : List Slot) (fs : List Frame) (ss : Symbols) (now : Now) → SamePlace fs now (settle g l (at start c fs ss now))
-  settle_same start c fs ss (nows.Pending h end) = released_same l.item end start c fs ss (nows.Pending h end) h tt
-  settle_same start c fs ss (nows.Long w end) = ended_same l.item end start c fs (nows.Long w end) _ tt
+  settle_same start c fs ss (nows.Pending h end) = released_same (spot_at end start c) fs ss (nows.Pending h end) h tt
+  settle_same start c fs ss (nows.Long w end) = ended_same (spot_at end start c) fs (nows.Long w end) _ tt
   settle_same start c fs ss (nows.LongName w) = (keyed_same fs w (Some w), refl)
   settle_same start c fs ss nows.Ready = (refl, refl)
   settle_same start c fs ss nows.After = (refl, refl)
@@ -169,30 +169,30 @@ module _ (g : Catalog) (l : Limits) where
   top_still item start end c v (Err e) true = tt
   top_still item start end c v d false = within_still item start end (gives v (fresh c)) refl
 
-  ended_still : (item end start : ℕ) (c : List Slot) (fs : List Frame) (v : Value) → Still (ended g item end start c fs v)
-  ended_still item end start c [] v = top_still item start end c v (next c v g) (is_table v)
-  ended_still item end start c (frames.List ss vs ∷ fs) v = refl
-  ended_still item end start c (frames.Sexp ss vs ∷ fs) v = refl
-  ended_still item end start c (frames.Named ss ms s ∷ fs) v = refl
-  ended_still item end start c (frames.Fields ss ms ∷ fs) v = tt
+  ended_still : (spot : Spot) (fs : List Frame) (v : Value) → Still (ended (under g l) spot fs v)
+  ended_still spot [] v = top_still l.item spot.start spot.end spot.context v (next spot.context v g) (is_table v)
+  ended_still spot (frames.List ss vs ∷ fs) v = refl
+  ended_still spot (frames.Sexp ss vs ∷ fs) v = refl
+  ended_still spot (frames.Named ss ms s ∷ fs) v = refl
+  ended_still spot (frames.Fields ss ms ∷ fs) v = tt
 
-  paid_still : (item end start : ℕ) (c : List Slot) (fs : List Frame) (ss : Symbols) (q : Result Payload Reason) → Still (paid g item end start c fs ss q)
-  paid_still item end start c fs ss (Ok q) = ended_still item end start c fs _
-  paid_still item end start c fs ss (Err e) = tt
+  paid_still : (spot : Spot) (fs : List Frame) (ss : Symbols) (q : Result Payload Reason) → Still (paid (under g l) spot fs ss q)
+  paid_still spot fs ss (Ok q) = ended_still spot fs _
+  paid_still spot fs ss (Err e) = tt
 
-  released_still : (item end start : ℕ) (c : List Slot) (fs : List Frame) (ss : Symbols) (h : Held) → Still (released g item end start c fs ss h)
-  released_still item end start c [] [] (helds.Version true s) = within_still item start end (goes (fresh system_slots)) refl
-  released_still item end start c [] [] (helds.Version false s) = tt
-  released_still item end start c [] [] (helds.Symbol s) = paid_still item end start c [] [] (held_payload (helds.Symbol s))
-  released_still item end start c [] [] (helds.Null k) = paid_still item end start c [] [] (held_payload (helds.Null k))
-  released_still item end start c [] [] (helds.Truth b) = paid_still item end start c [] [] (held_payload (helds.Truth b))
-  released_still item end start c [] [] helds.Nan = tt
-  released_still item end start c [] (s ∷ ss) h = paid_still item end start c [] (s ∷ ss) (held_payload h)
-  released_still item end start c (f ∷ fs) ss h = paid_still item end start c (f ∷ fs) ss (held_payload h)
+  released_still : (spot : Spot) (fs : List Frame) (ss : Symbols) (h : Held) → Still (released (under g l) spot fs ss h)
+  released_still spot [] [] (helds.Version true s) = within_still l.item spot.start spot.end (goes (fresh system_slots)) refl
+  released_still spot [] [] (helds.Version false s) = tt
+  released_still spot [] [] (helds.Symbol s) = paid_still spot [] [] (held_payload (helds.Symbol s))
+  released_still spot [] [] (helds.Null k) = paid_still spot [] [] (held_payload (helds.Null k))
+  released_still spot [] [] (helds.Truth b) = paid_still spot [] [] (held_payload (helds.Truth b))
+  released_still spot [] [] helds.Nan = tt
+  released_still spot [] (s ∷ ss) h = paid_still spot [] (s ∷ ss) (held_payload h)
+  released_still spot (f ∷ fs) ss h = paid_still spot (f ∷ fs) ss (held_payload h)
 
   pub settle_still : (start : ℕ) (c : List Slot) (fs : List Frame) (ss : Symbols) (now : Now) → Still (settle g l (at start c fs ss now))
-  settle_still start c fs ss (nows.Pending h end) = released_still l.item end start c fs ss h
-  settle_still start c fs ss (nows.Long w end) = ended_still l.item end start c fs _
+  settle_still start c fs ss (nows.Pending h end) = released_still (spot_at end start c) fs ss h
+  settle_still start c fs ss (nows.Long w end) = ended_still (spot_at end start c) fs _
   settle_still start c fs ss (nows.LongName w) = refl
   settle_still start c fs ss nows.Ready = refl
   settle_still start c fs ss nows.After = refl

@@ -22,7 +22,7 @@ use Rattle.ion_text.specs.declared.state.Now.{Now}
 use Rattle.ion_text.specs.declared.state.Now.TheVariants as nows
 use Rattle.ion_text.specs.declared.state.Frame.{Frame}
 use Rattle.ion_tokens.specs.machine.Said.{said}
-use Rattle.ion_text.specs.machine.EachToken.{Reading, goes, Symbols, at, settle, turn_now}
+use Rattle.ion_text.specs.machine.EachToken.{under, token_at, Reading, goes, Symbols, at, settle, turn_now}
 use Rattle.ion_text.specs.machine.Run.{uses, noticed, shut, reaches, longest_top, is_long_begun, with_scan, token_of, is_top, is_fresh}
 use Rattle.ion_text.specs.machine.TokenLists.{continues}
 use Rattle.ion_tokens.specs.machine.Ahead.{is_quoting, is_sane, is_closing, is_long_form}
@@ -119,7 +119,7 @@ module _ (g : Catalog) (l : Limits) where
   abbrev ClosingSaid : Content → Type 0
   ClosingSaid c = (m : Mark) × (c ≡ Mark' m) × (is_closing (kinds.Mark m) ≡ true)
 
-  shut_said : (begin end start : ℕ) (slots : List Slot) (fs : List Frame) (ss : Symbols) (c : Content) (now : Now) (ts : List Placed) (all : List Value) → shut now ≡ true → TurnGoes g l (turn_now g l begin end start slots fs ss c now) ts all → ClosingSaid c
+  shut_said : (begin end start : ℕ) (slots : List Slot) (fs : List Frame) (ss : Symbols) (c : Content) (now : Now) (ts : List Placed) (all : List Value) → shut now ≡ true → TurnGoes g l (turn_now (under g l) (at start slots fs ss now) (token_at begin end c) now) ts all → ClosingSaid c
   shut_said begin end start slots fs ss (Mark' marks.Comma) nows.After ts all h d = (marks.Comma, refl, refl)
   shut_said begin end start slots fs ss (Mark' marks.ListClose) nows.After ts all h d = (marks.ListClose, refl, refl)
   shut_said begin end start slots fs ss (Mark' marks.FieldsClose) nows.After ts all h d = (marks.FieldsClose, refl, refl)

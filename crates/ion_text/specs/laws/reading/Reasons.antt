@@ -39,7 +39,7 @@ use Rattle.ion_text.specs.declared.state.Now.TheVariants as nows
 use Rattle.ion_text.specs.declared.state.Frame.{Frame}
 use Rattle.ion_text.specs.declared.state.Frame.TheVariants as frames
 use Rattle.ion_text.specs.Grammar.{is_keyword}
-use Rattle.ion_text.specs.machine.EachToken.{Reading, Turn, goes, gives, refuses, late, Token, Symbols, at, fresh, place, settle, turn, turn_now, ended, within, turned, held_symbol, held_payload, released, begun_at, on_ready, on_after, on_name, on_pending, on_long, on_long_name, on_keyed, on_comma, struct_closed, list_closed, sexp_closed, bare_close, deeper, paid, noted, resolved, keyed, named}
+use Rattle.ion_text.specs.machine.EachToken.{Setting, Spot, under, spot_at, spot_in, token_at, Reading, Turn, goes, gives, refuses, late, Token, Symbols, at, fresh, place, settle, turn, turn_now, ended, within, turned, held_symbol, held_payload, released, begun_at, on_ready, on_after, on_name, on_pending, on_long, on_long_name, on_keyed, on_comma, struct_closed, list_closed, sexp_closed, bare_close, deeper, paid, noted, resolved, keyed, named}
 use Rattle.ion_text.specs.machine.Run.{State, Effect, uses, tells, leaves, fails, begun, eats, takes, unsettled, noticed, shut, reaches, lesser, or_worse, on_scan, on_settled, on_said, behind_given, behind_left, with_scan, token_of, Run, run, run_on, once_more, trace, ends_of, refused_of, cut_short, end_late, end_settled, end_turned, end_said, end_waiting, end_ready, end_now, is_fresh}
 
 abbrev pub TurnDecides : Turn → Type 0
@@ -60,12 +60,12 @@ top_decides item start end c v (Ok d) true h = within_decides item start end (go
 top_decides item start end c v (Err e) true h = h
 top_decides item start end c v d false h = within_decides item start end (gives v (fresh c)) tt
 
-ended_decides : (g : Catalog) (item end start : ℕ) (c : List Slot) (fs : List Frame) (v : Value) → TurnDecides (ended g item end start c fs v)
-ended_decides g item end start c [] v = top_decides item start end c v (next c v g) (is_table v) (next_decides c v g)
-ended_decides g item end start c (frames.List ss vs ∷ fs) v = tt
-ended_decides g item end start c (frames.Sexp ss vs ∷ fs) v = tt
-ended_decides g item end start c (frames.Named ss ms s ∷ fs) v = tt
-ended_decides g item end start c (frames.Fields ss ms ∷ fs) v = tt
+ended_decides : (setting : Setting) (spot : Spot) (fs : List Frame) (v : Value) → TurnDecides (ended setting spot fs v)
+ended_decides setting spot [] v = top_decides setting.limits.item spot.start spot.end spot.context v (next spot.context v setting.catalog) (is_table v) (next_decides spot.context v setting.catalog)
+ended_decides setting spot (frames.List ss vs ∷ fs) v = tt
+ended_decides setting spot (frames.Sexp ss vs ∷ fs) v = tt
+ended_decides setting spot (frames.Named ss ms s ∷ fs) v = tt
+ended_decides setting spot (frames.Fields ss ms ∷ fs) v = tt
 
 payload_decides : (h : Held) → Decides (held_payload h)
 payload_decides (helds.Symbol s) = tt
@@ -81,19 +81,19 @@ symbol_decides (helds.Null k) = tt
 symbol_decides (helds.Truth b) = tt
 symbol_decides helds.Nan = tt
 
-paid_decides : (g : Catalog) (item end start : ℕ) (c : List Slot) (fs : List Frame) (ss : Symbols) (q : Result Payload Reason) → Decides q → TurnDecides (paid g item end start c fs ss q)
-paid_decides g item end start c fs ss (Ok q) h = ended_decides g item end start c fs _
-paid_decides g item end start c fs ss (Err e) h = h
+paid_decides : (setting : Setting) (spot : Spot) (fs : List Frame) (ss : Symbols) (q : Result Payload Reason) → Decides q → TurnDecides (paid setting spot fs ss q)
+paid_decides setting spot fs ss (Ok q) h = ended_decides setting spot fs _
+paid_decides setting spot fs ss (Err e) h = h
 
-released_decides : (g : Catalog) (item end start : ℕ) (c : List Slot) (fs : List Frame) (ss : Symbols) (h : Held) → TurnDecides (released g item end start c fs ss h)
-released_decides g item end start c [] [] (helds.Version true s) = within_decides item start end _ tt
-released_decides g item end start c [] [] (helds.Version false s) = tt
-released_decides g item end start c [] [] (helds.Symbol s) = paid_decides g item end start c [] [] (held_payload (helds.Symbol s)) tt
-released_decides g item end start c [] [] (helds.Null k) = paid_decides g item end start c [] [] (held_payload (helds.Null k)) tt
-released_decides g item end start c [] [] (helds.Truth b) = paid_decides g item end start c [] [] (held_payload (helds.Truth b)) tt
-released_decides g item end start c [] [] helds.Nan = tt
-released_decides g item end start c [] (s ∷ ss) h = paid_decides g item end start c [] (s ∷ ss) (held_payload h) (payload_decides h)
-released_decides g item end start c (f ∷ fs) ss h = paid_decides g item end start c (f ∷ fs) ss (held_payload h) (payload_decides h)
+released_decides : (setting : Setting) (spot : Spot) (fs : List Frame) (ss : Symbols) (h : Held) → TurnDecides (released setting spot fs ss h)
+released_decides setting spot [] [] (helds.Version true s) = within_decides setting.limits.item spot.start spot.end _ tt
+released_decides setting spot [] [] (helds.Version false s) = tt
+released_decides setting spot [] [] (helds.Symbol s) = paid_decides setting spot [] [] (held_payload (helds.Symbol s)) tt
+released_decides setting spot [] [] (helds.Null k) = paid_decides setting spot [] [] (held_payload (helds.Null k)) tt
+released_decides setting spot [] [] (helds.Truth b) = paid_decides setting spot [] [] (held_payload (helds.Truth b)) tt
+released_decides setting spot [] [] helds.Nan = tt
+released_decides setting spot [] (s ∷ ss) h = paid_decides setting spot [] (s ∷ ss) (held_payload h) (payload_decides h)
+released_decides setting spot (f ∷ fs) ss h = paid_decides setting spot (f ∷ fs) ss (held_payload h) (payload_decides h)
 
 resolved_decides : (r : Result (Option (List ℕ)) Reason) (f : Option (List ℕ) → Turn) → Decides r → ((s : Option (List ℕ)) → TurnDecides (f s)) → TurnDecides (resolved r f)
 resolved_decides (Ok s) f h k = k s
@@ -106,52 +106,52 @@ deeper_decides depth fs t deep h k = go (nat_lt (length fs) depth)
     go true = h
     go false = k
 
-list_decides : (g : Catalog) (item end start : ℕ) (c : List Slot) (fs : List Frame) → TurnDecides (list_closed g item end start c fs)
-list_decides g item end start c (frames.List ss vs ∷ fs) = ended_decides g item end start c fs _
-list_decides g item end start c (frames.Sexp ss vs ∷ fs) = tt
-list_decides g item end start c (frames.Fields ss vs ∷ fs) = tt
-list_decides g item end start c (frames.Named ss vs s ∷ fs) = tt
-list_decides g item end start c [] = tt
+list_decides : (setting : Setting) (spot : Spot) (fs : List Frame) → TurnDecides (list_closed setting spot fs)
+list_decides setting spot (frames.List ss vs ∷ fs) = ended_decides setting spot fs _
+list_decides setting spot (frames.Sexp ss vs ∷ fs) = tt
+list_decides setting spot (frames.Fields ss vs ∷ fs) = tt
+list_decides setting spot (frames.Named ss vs s ∷ fs) = tt
+list_decides setting spot [] = tt
 
-sexp_decides : (g : Catalog) (item end start : ℕ) (c : List Slot) (fs : List Frame) → TurnDecides (sexp_closed g item end start c fs)
-sexp_decides g item end start c (frames.Sexp ss vs ∷ fs) = ended_decides g item end start c fs _
-sexp_decides g item end start c (frames.List ss vs ∷ fs) = tt
-sexp_decides g item end start c (frames.Fields ss vs ∷ fs) = tt
-sexp_decides g item end start c (frames.Named ss vs s ∷ fs) = tt
-sexp_decides g item end start c [] = tt
+sexp_decides : (setting : Setting) (spot : Spot) (fs : List Frame) → TurnDecides (sexp_closed setting spot fs)
+sexp_decides setting spot (frames.Sexp ss vs ∷ fs) = ended_decides setting spot fs _
+sexp_decides setting spot (frames.List ss vs ∷ fs) = tt
+sexp_decides setting spot (frames.Fields ss vs ∷ fs) = tt
+sexp_decides setting spot (frames.Named ss vs s ∷ fs) = tt
+sexp_decides setting spot [] = tt
 
-struct_decides : (g : Catalog) (item end start : ℕ) (c : List Slot) (fs : List Frame) → TurnDecides (struct_closed g item end start c fs)
-struct_decides g item end start c (frames.Fields ss vs ∷ fs) = ended_decides g item end start c fs _
-struct_decides g item end start c (frames.List ss vs ∷ fs) = tt
-struct_decides g item end start c (frames.Sexp ss vs ∷ fs) = tt
-struct_decides g item end start c (frames.Named ss vs s ∷ fs) = tt
-struct_decides g item end start c [] = tt
+struct_decides : (setting : Setting) (spot : Spot) (fs : List Frame) → TurnDecides (struct_closed setting spot fs)
+struct_decides setting spot (frames.Fields ss vs ∷ fs) = ended_decides setting spot fs _
+struct_decides setting spot (frames.List ss vs ∷ fs) = tt
+struct_decides setting spot (frames.Sexp ss vs ∷ fs) = tt
+struct_decides setting spot (frames.Named ss vs s ∷ fs) = tt
+struct_decides setting spot [] = tt
 
 bare_decides : (ss : Symbols) (t : Turn) → TurnDecides t → TurnDecides (bare_close ss t)
 bare_decides [] t h = h
 bare_decides (s ∷ ss) t h = tt
 
 module _ (g : Catalog) (l : Limits) where
-  ready_decides : (end start : ℕ) (c : List Slot) (fs : List Frame) (ss : Symbols) (x : Content) → TurnDecides (on_ready g l.depth l.item end start c fs ss x)
-  ready_decides end start c fs ss (Word w) = tt
-  ready_decides end start c fs ss (Id id) = resolved_decides (resolve c id) _ (resolve_decides c id) (λ s. tt)
-  ready_decides end start c fs ss (Quoted w) = tt
-  ready_decides end start c fs ss (TypedNull k) = tt
-  ready_decides end start c fs ss (Long w) = tt
-  ready_decides end start c fs ss (Short w) = ended_decides g l.item end start c fs _
-  ready_decides end start c fs ss (Number' n) = ended_decides g l.item end start c fs _
-  ready_decides end start c fs ss (Operator w) = ended_decides g l.item end start c fs _
-  ready_decides end start c fs ss (Clob w) = ended_decides g l.item end start c fs _
-  ready_decides end start c fs ss (Blob w) = ended_decides g l.item end start c fs _
-  ready_decides end start c fs ss (Mark' marks.ListOpen) = deeper_decides l.depth fs _ _ tt tt
-  ready_decides end start c fs ss (Mark' marks.SexpOpen) = deeper_decides l.depth fs _ _ tt tt
-  ready_decides end start c fs ss (Mark' marks.FieldsOpen) = deeper_decides l.depth fs _ _ tt tt
-  ready_decides end start c fs ss (Mark' marks.ListClose) = bare_decides ss _ (list_decides g l.item end start c fs)
-  ready_decides end start c fs ss (Mark' marks.SexpClose) = bare_decides ss _ (sexp_decides g l.item end start c fs)
-  ready_decides end start c fs ss (Mark' marks.FieldsClose) = tt
-  ready_decides end start c fs ss (Mark' marks.Comma) = tt
-  ready_decides end start c fs ss (Mark' marks.Colon) = tt
-  ready_decides end start c fs ss (Mark' marks.Colons) = tt
+  ready_decides : (spot : Spot) (fs : List Frame) (ss : Symbols) (x : Content) → TurnDecides (on_ready (under g l) spot fs ss x)
+  ready_decides spot fs ss (Word w) = tt
+  ready_decides spot fs ss (Id id) = resolved_decides (resolve spot.context id) _ (resolve_decides spot.context id) (λ s. tt)
+  ready_decides spot fs ss (Quoted w) = tt
+  ready_decides spot fs ss (TypedNull k) = tt
+  ready_decides spot fs ss (Long w) = tt
+  ready_decides spot fs ss (Short w) = ended_decides (under g l) spot fs _
+  ready_decides spot fs ss (Number' n) = ended_decides (under g l) spot fs _
+  ready_decides spot fs ss (Operator w) = ended_decides (under g l) spot fs _
+  ready_decides spot fs ss (Clob w) = ended_decides (under g l) spot fs _
+  ready_decides spot fs ss (Blob w) = ended_decides (under g l) spot fs _
+  ready_decides spot fs ss (Mark' marks.ListOpen) = deeper_decides l.depth fs _ _ tt tt
+  ready_decides spot fs ss (Mark' marks.SexpOpen) = deeper_decides l.depth fs _ _ tt tt
+  ready_decides spot fs ss (Mark' marks.FieldsOpen) = deeper_decides l.depth fs _ _ tt tt
+  ready_decides spot fs ss (Mark' marks.ListClose) = bare_decides ss _ (list_decides (under g l) spot fs)
+  ready_decides spot fs ss (Mark' marks.SexpClose) = bare_decides ss _ (sexp_decides (under g l) spot fs)
+  ready_decides spot fs ss (Mark' marks.FieldsClose) = tt
+  ready_decides spot fs ss (Mark' marks.Comma) = tt
+  ready_decides spot fs ss (Mark' marks.Colon) = tt
+  ready_decides spot fs ss (Mark' marks.Colons) = tt
 
   noted_decides : (start : ℕ) (c : List Slot) (fs : List Frame) (ss : Symbols) (r : Result (Option (List ℕ)) Reason) → Decides r → TurnDecides (noted start c fs ss r)
   noted_decides start c fs ss (Ok s) h = tt
@@ -161,9 +161,9 @@ module _ (g : Catalog) (l : Limits) where
   pending_decides start c fs ss h (Mark' marks.Colons) = noted_decides start c fs ss (held_symbol h) (symbol_decides h)
   pending_decides start c fs ss h _ = tt
 
-  long_decides : (end start : ℕ) (c : List Slot) (fs : List Frame) (ss : Symbols) (v : List ℕ) (x : Content) → TurnDecides (on_long end start c fs ss v x)
-  long_decides end start c fs ss v (Long w) = tt
-  long_decides end start c fs ss v _ = tt
+  long_decides : (spot : Spot) (fs : List Frame) (ss : Symbols) (v : List ℕ) (x : Content) → TurnDecides (on_long spot fs ss v x)
+  long_decides spot fs ss v (Long w) = tt
+  long_decides spot fs ss v _ = tt
 
   comma_decides : (start : ℕ) (c : List Slot) (fs : List Frame) → TurnDecides (on_comma start c fs)
   comma_decides start c (frames.List ss vs ∷ fs) = tt
@@ -172,25 +172,25 @@ module _ (g : Catalog) (l : Limits) where
   comma_decides start c (frames.Named ss ms s ∷ fs) = tt
   comma_decides start c [] = tt
 
-  after_decides : (end start : ℕ) (c : List Slot) (fs : List Frame) (x : Content) → TurnDecides (on_after g l.item end start c fs x)
-  after_decides end start c fs (Mark' marks.Comma) = comma_decides start c fs
-  after_decides end start c fs (Mark' marks.ListClose) = list_decides g l.item end start c fs
-  after_decides end start c fs (Mark' marks.FieldsClose) = struct_decides g l.item end start c fs
-  after_decides end start c fs _ = tt
+  after_decides : (spot : Spot) (fs : List Frame) (x : Content) → TurnDecides (on_after (under g l) spot fs x)
+  after_decides spot fs (Mark' marks.Comma) = comma_decides spot.start spot.context fs
+  after_decides spot fs (Mark' marks.ListClose) = list_decides (under g l) spot fs
+  after_decides spot fs (Mark' marks.FieldsClose) = struct_decides (under g l) spot fs
+  after_decides spot fs _ = tt
 
-  name_decides : (end start : ℕ) (c : List Slot) (fs : List Frame) (x : Content) → TurnDecides (on_name g l.item end start c fs x)
-  name_decides end start c fs (Word w) = go (is_keyword w)
+  name_decides : (spot : Spot) (fs : List Frame) (x : Content) → TurnDecides (on_name (under g l) spot fs x)
+  name_decides spot fs (Word w) = go (is_keyword w)
     where
-      go : (b : Bool) → TurnDecides (if b then late reasons.KeywordAsName (keyed start c fs (Some w)) else goes (keyed start c fs (Some w)))
+      go : (b : Bool) → TurnDecides (if b then late reasons.KeywordAsName (keyed spot.start spot.context fs (Some w)) else goes (keyed spot.start spot.context fs (Some w)))
       go true = tt
       go false = tt
-  name_decides end start c fs (TypedNull k) = tt
-  name_decides end start c fs (Id id) = resolved_decides (resolve c id) _ (resolve_decides c id) (λ s. tt)
-  name_decides end start c fs (Quoted w) = tt
-  name_decides end start c fs (Short w) = tt
-  name_decides end start c fs (Long w) = tt
-  name_decides end start c fs (Mark' marks.FieldsClose) = struct_decides g l.item end start c fs
-  name_decides end start c fs _ = tt
+  name_decides spot fs (TypedNull k) = tt
+  name_decides spot fs (Id id) = resolved_decides (resolve spot.context id) _ (resolve_decides spot.context id) (λ s. tt)
+  name_decides spot fs (Quoted w) = tt
+  name_decides spot fs (Short w) = tt
+  name_decides spot fs (Long w) = tt
+  name_decides spot fs (Mark' marks.FieldsClose) = struct_decides (under g l) spot fs
+  name_decides spot fs _ = tt
 
   long_name_decides : (start : ℕ) (c : List Slot) (fs : List Frame) (v : List ℕ) (x : Content) → TurnDecides (on_long_name start c fs v x)
   long_name_decides start c fs v (Long w) = tt
@@ -207,12 +207,12 @@ module _ (g : Catalog) (l : Limits) where
   keyed_decides start c fs s (Mark' marks.Colon) = named_decides start c fs s
   keyed_decides start c fs s _ = tt
 
-  now_decides : (begin end start : ℕ) (c : List Slot) (fs : List Frame) (ss : Symbols) (x : Content) (now : Now) → TurnDecides (turn_now g l begin end start c fs ss x now)
-  now_decides begin end start c fs ss x nows.Ready = ready_decides end (begun_at start begin fs ss) c fs ss x
+  now_decides : (begin end start : ℕ) (c : List Slot) (fs : List Frame) (ss : Symbols) (x : Content) (now : Now) → TurnDecides (turn_now (under g l) (at start c fs ss now) (token_at begin end x) now)
+  now_decides begin end start c fs ss x nows.Ready = ready_decides (spot_at end (begun_at start begin fs ss) c) fs ss x
   now_decides begin end start c fs ss x (nows.Pending h e) = pending_decides start c fs ss h x
-  now_decides begin end start c fs ss x (nows.Long w e) = long_decides end start c fs ss w x
-  now_decides begin end start c fs ss x nows.After = after_decides end start c fs x
-  now_decides begin end start c fs ss x nows.Name = name_decides end start c fs x
+  now_decides begin end start c fs ss x (nows.Long w e) = long_decides (spot_at end start c) fs ss w x
+  now_decides begin end start c fs ss x nows.After = after_decides (spot_at end start c) fs x
+  now_decides begin end start c fs ss x nows.Name = name_decides (spot_at end start c) fs x
   now_decides begin end start c fs ss x (nows.LongName w) = long_name_decides start c fs w x
   now_decides begin end start c fs ss x (nows.Keyed s) = keyed_decides start c fs s x
 
@@ -223,8 +223,8 @@ module _ (g : Catalog) (l : Limits) where
   settle_decides r = go r.now
     where
       go : (n : Now) → TurnDecides (settle g l (at r.start r.context r.frames r.notes n))
-      go (nows.Pending h e) = released_decides g l.item e r.start r.context r.frames r.notes h
-      go (nows.Long w e) = ended_decides g l.item e r.start r.context r.frames _
+      go (nows.Pending h e) = released_decides (under g l) (spot_in r e) r.frames r.notes h
+      go (nows.Long w e) = ended_decides (under g l) (spot_in r e) r.frames _
       go (nows.LongName w) = tt
       go nows.Ready = tt
       go nows.After = tt

@@ -25,7 +25,7 @@ use Rattle.ion_text.specs.declared.state.Now.{Now}
 use Rattle.ion_text.specs.declared.state.Now.TheVariants as nows
 use Rattle.ion_text.specs.declared.state.Frame.{Frame}
 use Rattle.ion_text.specs.declared.state.Frame.TheVariants as frames
-use Rattle.ion_text.specs.machine.EachToken.{Reading, Turn, goes, gives, refuses, late, Symbols, at, fresh, place, place_in, settle, turn, turn_now}
+use Rattle.ion_text.specs.machine.EachToken.{under, token_at, Reading, Turn, goes, gives, refuses, late, Symbols, at, fresh, place, place_in, settle, turn, turn_now}
 use Rattle.ion_text.specs.machine.Run.{State, Effect, uses, tells, leaves, fails, begun, eats, takes, waits, waits_now, in_segment, unsettled, noticed, shut, reaches, or_worse, on_scan, on_settled, on_said, behind_given, behind_left, with_scan, token_of, is_top, Run, run, run_on, once_more, trace, ends_of, cut_short, end_late, end_settled, end_turned, end_said, end_waiting, end_ready, end_now, is_fresh}
 use Rattle.ion_text.specs.laws.reading.Held.{or_parts}
 use Rattle.ion_text.specs.laws.reading.Segments.{NotRefused, unsettled_waits}
@@ -356,7 +356,7 @@ module _ (g : Catalog) (l : Limits) where
         subst (λ n. Came from used o (behind_left again t (turn g l n (token_of x c)))) (sym e)
         (subst (λ b. Came from used o (behind_left again t (turn g l (fresh r.context) (token_of x b)))) (sym k) tt)
 
-    operator_gives : (begin end start : ℕ) (c : List Slot) (fs : List Frame) (ss : Symbols) (now : Now) (w : List ℕ) → is_top fs ≡ false → GivesNone (turn_now g l begin end start c fs ss (Operator w) now)
+    operator_gives : (begin end start : ℕ) (c : List Slot) (fs : List Frame) (ss : Symbols) (now : Now) (w : List ℕ) → is_top fs ≡ false → GivesNone (turn_now (under g l) (at start c fs ss now) (token_at begin end (Operator w)) now)
     operator_gives begin end start c [] ss now w h = absurd cc
     operator_gives begin end start c (frames.List xs vs ∷ fs) ss nows.Ready w h = tt
     operator_gives begin end start c (frames.Sexp xs vs ∷ fs) ss nows.Ready w h = tt

@@ -30,7 +30,7 @@ use Rattle.ion_text.specs.declared.state.Now.TheVariants as nows
 use Rattle.ion_text.specs.declared.state.Frame.{Frame}
 use Rattle.ion_text.specs.declared.state.Frame.TheVariants as frames
 use Rattle.ion_text.specs.Grammar.{Says, IsSymbol, is_word, is_id, is_quoted, IsScalar, is_null, is_typed_null, is_true, is_false, is_int, is_decimal, is_timestamp, is_symbol, is_operator, is_short, is_clob, is_blob, Annotations, no_annotation, one_annotation, Segments, segment, joined, IsName, by_symbol, by_short, by_long, no_field, field, field_comma, close_place, Plain, one_token, long_string, is_list, is_sexp, is_struct, Means, means, Elements, no_element, element, comma, Row, no_item, item, Members, is_long, ends_long, begins_long, is_keyword, is_version, is_version_word, the_marker}
-use Rattle.ion_text.specs.machine.EachToken.{Reading, Turn, goes, gives, refuses, late, Symbols, at, fresh, place_in, settle, turn, ended, within, turned, held_word, held_symbol, held_payload, released, begun_at, on_ready, on_after, on_name, paid, noted, resolved, keyed}
+use Rattle.ion_text.specs.machine.EachToken.{under, spot_at, Reading, Turn, goes, gives, refuses, late, Symbols, at, fresh, place_in, settle, turn, ended, within, turned, held_word, held_symbol, held_payload, released, begun_at, on_ready, on_after, on_name, paid, noted, resolved, keyed}
 use Rattle.ion_text.specs.machine.Run.{token_of}
 use Rattle.ion_text.specs.laws.reading.Complete.{depth-list, depth-sexp, depth-struct}
 use Rattle.ion_text.specs.laws.reading.MarkerWords.{other_word, id_no_word, more_words, segments_no_word, noted_no_word, is_unmarked, word_no_word}
@@ -279,9 +279,9 @@ module _ (g : Catalog) (l : Limits) where
   top_sounds c us v start end false d m h k w q = within_sounds c us start end (gives v (fresh c)) (nat_le end (start + l.item)) refl (λ i. (m, h, w, q, i, refl))
 
   -- A value is whole.
-  pub ended_sounds : (c : List Slot) (fs : List Frame) (front us : List Placed) (v : Value) (start end : ℕ) → (o : Opened c fs front true) → Receives fs → Means c (value_place fs) us v → (long_behind c fs front o && begins_long us) ≡ false → (fs ≡ [] → is_version_word us ≡ false) → (fs ≡ [] → depth v ≤ l.depth) → Sounds c start end (front ++ us) (ended g l.item end start c fs v)
+  pub ended_sounds : (c : List Slot) (fs : List Frame) (front us : List Placed) (v : Value) (start end : ℕ) → (o : Opened c fs front true) → Receives fs → Means c (value_place fs) us v → (long_behind c fs front o && begins_long us) ≡ false → (fs ≡ [] → is_version_word us ≡ false) → (fs ≡ [] → depth v ≤ l.depth) → Sounds c start end (front ++ us) (ended (under g l) (spot_at end start c) fs v)
   ended_sounds c [] front us v start end o r m a n q =
-      subst (λ x. Sounds c start end (x ++ us) (ended g l.item end start c [] v)) (sym o) (top_sounds c us v start end (is_table v) (next c v g) m refl refl (n refl) (q refl))
+      subst (λ x. Sounds c start end (x ++ us) (ended (under g l) (spot_at end start c) [] v)) (sym o) (top_sounds c us v start end (is_table v) (next c v g) m refl refl (n refl) (q refl))
   ended_sounds c (frames.List ss vs ∷ fs) front us v start end o r m a n q =
       inl (
         (
@@ -363,17 +363,17 @@ module _ (g : Catalog) (l : Limits) where
   ended_sounds c (frames.Fields ss ms ∷ fs) front us v start end o r m a n q = absurd r
 
   -- a payload behind its annotations is whole
-  plain_sounds : (c : List Slot) (fs : List Frame) (ss : Symbols) (before us : List Placed) (q : Payload) (start end : ℕ) → (d : ReadyFor c fs ss before) → Plain c (value_place fs) us q → (long_behind c fs d.front d.outer && begins_long (d.notes ++ us)) ≡ false → (fs ≡ [] → ss ≡ [] → is_version_word us ≡ false) → (fs ≡ [] → depth (annotated ss q) ≤ l.depth) → Sounds c start end (before ++ us) (ended g l.item end start c fs (annotated ss q))
+  plain_sounds : (c : List Slot) (fs : List Frame) (ss : Symbols) (before us : List Placed) (q : Payload) (start end : ℕ) → (d : ReadyFor c fs ss before) → Plain c (value_place fs) us q → (long_behind c fs d.front d.outer && begins_long (d.notes ++ us)) ≡ false → (fs ≡ [] → ss ≡ [] → is_version_word us ≡ false) → (fs ≡ [] → depth (annotated ss q) ≤ l.depth) → Sounds c start end (before ++ us) (ended (under g l) (spot_at end start c) fs (annotated ss q))
   plain_sounds c fs ss before us q start end d m a n k =
-      subst (λ x. Sounds c start end x (ended g l.item end start c fs (annotated ss q))) (sym (ap (λ x. x ++ us) d.whole ∙ append_assoc d.front d.notes us))
+      subst (λ x. Sounds c start end x (ended (under g l) (spot_at end start c) fs (annotated ss q))) (sym (ap (λ x. x ++ us) d.whole ∙ append_assoc d.front d.notes us))
       (ended_sounds c fs d.front (d.notes ++ us) (annotated ss q) start end d.outer d.receives (means (value_place fs) d.notes us ss q d.noted m) a (λ i. noted_no_word c (value_place fs) d.notes us ss d.noted (n i)) k)
 
   one_apart : (c : List Slot) (fs : List Frame) (ss : Symbols) (ts : List Placed) (t : Placed) (said : Content) (d : ReadyFor c fs ss ts) → Says (value_place fs) t said → ((w : List ℕ) → said ≡ Long w → ⊥) → (long_behind c fs d.front d.outer && begins_long (d.notes ++ t ∷ [])) ≡ false
   one_apart c fs ss ts t said d i n = and_false (long_behind c fs d.front d.outer) (begins_long (d.notes ++ t ∷ [])) (notes_not_long c (value_place fs) d.notes [] ss t d.noted (not_long (value_place fs) t said i n))
 
-  paid_sounds : (c : List Slot) (fs : List Frame) (ss : Symbols) (h : Held) (ts : List Placed) (start end : ℕ) (d : PendingFor c fs ss h ts) (q : Result Payload Reason) → held_payload h ≡ q → (fs ≡ [] → ss ≡ [] → is_version_word (d.token ∷ []) ≡ false) → Sounds c start end ts (paid g l.item end start c fs ss q)
+  paid_sounds : (c : List Slot) (fs : List Frame) (ss : Symbols) (h : Held) (ts : List Placed) (start end : ℕ) (d : PendingFor c fs ss h ts) (q : Result Payload Reason) → held_payload h ≡ q → (fs ≡ [] → ss ≡ [] → is_version_word (d.token ∷ []) ≡ false) → Sounds c start end ts (paid (under g l) (spot_at end start c) fs ss q)
   paid_sounds c fs ss h ts start end d (Ok q) e n =
-      subst (λ x. Sounds c start end x (ended g l.item end start c fs (annotated ss q))) (sym d.whole) (plain_sounds c fs ss d.before (d.token ∷ []) q start end d.ready (one_token (value_place fs) d.token d.said q d.says (d.stood.value q e)) (one_apart c fs ss d.before d.token d.said d.ready d.says d.other) n (λ i. flat_level (annotated ss q) (flat_held ss h q e)))
+      subst (λ x. Sounds c start end x (ended (under g l) (spot_at end start c) fs (annotated ss q))) (sym d.whole) (plain_sounds c fs ss d.before (d.token ∷ []) q start end d.ready (one_token (value_place fs) d.token d.said q d.says (d.stood.value q e)) (one_apart c fs ss d.before d.token d.said d.ready d.says d.other) n (λ i. flat_level (annotated ss q) (flat_held ss h q e)))
   paid_sounds c fs ss h ts start end d (Err x) e n = tt
 
   pub no_note : (c : List Slot) (p : Place) (notes : List Placed) → Annotations c p notes [] → notes ≡ []
@@ -392,7 +392,7 @@ module _ (g : Catalog) (l : Limits) where
   top_token c h ts d = d.whole ∙ ap (λ x. x ++ d.token ∷ []) (d.ready.whole ∙ (ap (λ x. x ++ d.ready.notes) d.ready.outer ∙ no_note c places.Top d.ready.notes d.ready.noted))
 
   -- what waited is whole
-  pub released_sounds : (c : List Slot) (fs : List Frame) (ss : Symbols) (h : Held) (ts : List Placed) (start end : ℕ) → PendingFor c fs ss h ts → Sounds c start end ts (released g l.item end start c fs ss h)
+  pub released_sounds : (c : List Slot) (fs : List Frame) (ss : Symbols) (h : Held) (ts : List Placed) (start end : ℕ) → PendingFor c fs ss h ts → Sounds c start end ts (released (under g l) (spot_at end start c) fs ss h)
   released_sounds c [] [] (helds.Version true s) ts start end d =
       within_sounds c ts start end (goes (fresh system_slots)) (nat_le end (start + l.item)) refl (λ i. inr (inr (d.token, top_token c _ ts d, subst (Says places.Top d.token) (d.stood.marker s refl) d.says, i, refl)))
   released_sounds c [] [] (helds.Version false s) ts start end d = tt
@@ -403,9 +403,9 @@ module _ (g : Catalog) (l : Limits) where
   released_sounds c [] (x ∷ ss) h ts start end d = paid_sounds c [] (x ∷ ss) h ts start end d _ refl (λ i j. absurd cc)
   released_sounds c (f ∷ fs) ss h ts start end d = paid_sounds c (f ∷ fs) ss h ts start end d _ refl (λ i j. absurd cc)
 
-  pub long_sounds : (c : List Slot) (fs : List Frame) (ss : Symbols) (w : List ℕ) (ts : List Placed) (start end : ℕ) → LongFor c fs ss w ts → Sounds c start end ts (ended g l.item end start c fs (annotated ss (payloads.Str w)))
+  pub long_sounds : (c : List Slot) (fs : List Frame) (ss : Symbols) (w : List ℕ) (ts : List Placed) (start end : ℕ) → LongFor c fs ss w ts → Sounds c start end ts (ended (under g l) (spot_at end start c) fs (annotated ss (payloads.Str w)))
   long_sounds c fs ss w ts start end d =
-      subst (λ x. Sounds c start end x (ended g l.item end start c fs (annotated ss (payloads.Str w)))) (sym d.whole) (plain_sounds c fs ss d.before d.segments (payloads.Str w) start end d.ready (long_string (value_place fs) d.segments w d.are) d.apart (λ i j. segments_no_word (value_place fs) d.segments w d.are) (λ i. flat_level (annotated ss (payloads.Str w)) (flat_text ss w)))
+      subst (λ x. Sounds c start end x (ended (under g l) (spot_at end start c) fs (annotated ss (payloads.Str w)))) (sym d.whole) (plain_sounds c fs ss d.before d.segments (payloads.Str w) start end d.ready (long_string (value_place fs) d.segments w d.are) d.apart (λ i j. segments_no_word (value_place fs) d.segments w d.are) (λ i. flat_level (annotated ss (payloads.Str w)) (flat_text ss w)))
 
   -- the words of keywords, and what else is held
   word_stood : (c : List Slot) (w : List ℕ) → Stood c (Word w) (held_word w)
@@ -481,9 +481,9 @@ module _ (g : Catalog) (l : Limits) where
         tt,
       )
 
-  sexp_closes : (c : List Slot) (fs : List Frame) (ss : Symbols) (vs : List Value) (ts : List Placed) (t : Placed) (start end : ℕ) → Deep l.depth (frames.Sexp ss vs ∷ fs) → Opened c (frames.Sexp ss vs ∷ fs) ts true → Says places.Sexp t (Mark' marks.SexpClose) → Sounds c start end (ts ++ t ∷ []) (ended g l.item end start c fs (annotated ss (payloads.Sexp vs)))
+  sexp_closes : (c : List Slot) (fs : List Frame) (ss : Symbols) (vs : List Value) (ts : List Placed) (t : Placed) (start end : ℕ) → Deep l.depth (frames.Sexp ss vs ∷ fs) → Opened c (frames.Sexp ss vs ∷ fs) ts true → Says places.Sexp t (Mark' marks.SexpClose) → Sounds c start end (ts ++ t ∷ []) (ended (under g l) (spot_at end start c) fs (annotated ss (payloads.Sexp vs)))
   sexp_closes c fs ss vs ts t start end dd o i =
-      subst (λ x. Sounds c start end x (ended g l.item end start c fs (annotated ss (payloads.Sexp vs))))
+      subst (λ x. Sounds c start end x (ended (under g l) (spot_at end start c) fs (annotated ss (payloads.Sexp vs))))
       (sym (ap (λ x. x ++ t ∷ []) o.whole ∙ (append_assoc o.front (o.notes ++ (o.open' ∷ o.body)) (t ∷ []) ∙ ap (λ x. o.front ++ x) (append_assoc o.notes (o.open' ∷ o.body) (t ∷ [])))))
       (ended_sounds c fs o.front (o.notes ++ (o.open' ∷ (o.body ++ t ∷ []))) (annotated ss (payloads.Sexp vs)) start end o.outer o.receives
       (means (value_place fs) o.notes (o.open' ∷ (o.body ++ t ∷ [])) ss (payloads.Sexp vs) o.noted (is_sexp (value_place fs) o.open' t o.body vs o.opens o.items i)) (and_false (long_behind c fs o.front o.outer) _ (notes_not_long c (value_place fs) o.notes (o.body ++ t ∷ []) ss o.open' o.noted (not_long (value_place fs) o.open' _ o.opens (λ w e. cc)))) (λ x. noted_no_word c (value_place fs) o.notes (o.open' ∷ (o.body ++ t ∷ [])) ss o.noted (λ y. more_words o.open' o.body t)) (λ x. let k = dd.0 in let m = depth-sexp ss vs in omega arith))
@@ -493,23 +493,23 @@ module _ (g : Catalog) (l : Limits) where
   struct_opens c fs ss ts t start end true d i =
       inl ((refl, (record { front = d.front; notes = d.notes; body = []; open' = t; whole = ap (λ x. x ++ t ∷ []) d.whole ∙ append_assoc d.front d.notes (t ∷ []); outer = d.outer; receives = d.receives; noted = d.noted; opens = i; items = no_field }, tt)), refl, tt)
 
-  struct_closes : (c : List Slot) (fs : List Frame) (ss : Symbols) (ms : List Field) (ts : List Placed) (t : Placed) (more : Bool) (start end : ℕ) → Deep l.depth (frames.Fields ss ms ∷ fs) → Opened c (frames.Fields ss ms ∷ fs) ts more → Says (close_place more) t (Mark' marks.FieldsClose) → Sounds c start end (ts ++ t ∷ []) (ended g l.item end start c fs (annotated ss (payloads.Fields ms)))
+  struct_closes : (c : List Slot) (fs : List Frame) (ss : Symbols) (ms : List Field) (ts : List Placed) (t : Placed) (more : Bool) (start end : ℕ) → Deep l.depth (frames.Fields ss ms ∷ fs) → Opened c (frames.Fields ss ms ∷ fs) ts more → Says (close_place more) t (Mark' marks.FieldsClose) → Sounds c start end (ts ++ t ∷ []) (ended (under g l) (spot_at end start c) fs (annotated ss (payloads.Fields ms)))
   struct_closes c fs ss ms ts t more start end dd o i =
-      subst (λ x. Sounds c start end x (ended g l.item end start c fs (annotated ss (payloads.Fields ms))))
+      subst (λ x. Sounds c start end x (ended (under g l) (spot_at end start c) fs (annotated ss (payloads.Fields ms))))
       (sym (ap (λ x. x ++ t ∷ []) o.whole ∙ (append_assoc o.front (o.notes ++ (o.open' ∷ o.body)) (t ∷ []) ∙ ap (λ x. o.front ++ x) (append_assoc o.notes (o.open' ∷ o.body) (t ∷ [])))))
       (ended_sounds c fs o.front (o.notes ++ (o.open' ∷ (o.body ++ t ∷ []))) (annotated ss (payloads.Fields ms)) start end o.outer o.receives
       (means (value_place fs) o.notes (o.open' ∷ (o.body ++ t ∷ [])) ss (payloads.Fields ms) o.noted (is_struct (value_place fs) o.open' t o.body ms more o.opens o.items i)) (and_false (long_behind c fs o.front o.outer) _ (notes_not_long c (value_place fs) o.notes (o.body ++ t ∷ []) ss o.open' o.noted (not_long (value_place fs) o.open' _ o.opens (λ w e. cc)))) (λ x. noted_no_word c (value_place fs) o.notes (o.open' ∷ (o.body ++ t ∷ [])) ss o.noted (λ y. more_words o.open' o.body t)) (λ x. let k = dd.0 in let m = depth-struct ss ms in omega arith))
 
   -- behind the last element, or a comma, a list closes
-  list_closes : (c : List Slot) (fs : List Frame) (ss : Symbols) (vs : List Value) (ts : List Placed) (t : Placed) (more : Bool) (start end : ℕ) → Deep l.depth (frames.List ss vs ∷ fs) → Opened c (frames.List ss vs ∷ fs) ts more → Says places.List t (Mark' marks.ListClose) → Sounds c start end (ts ++ t ∷ []) (ended g l.item end start c fs (annotated ss (payloads.List vs)))
+  list_closes : (c : List Slot) (fs : List Frame) (ss : Symbols) (vs : List Value) (ts : List Placed) (t : Placed) (more : Bool) (start end : ℕ) → Deep l.depth (frames.List ss vs ∷ fs) → Opened c (frames.List ss vs ∷ fs) ts more → Says places.List t (Mark' marks.ListClose) → Sounds c start end (ts ++ t ∷ []) (ended (under g l) (spot_at end start c) fs (annotated ss (payloads.List vs)))
   list_closes c fs ss vs ts t more start end dd o i =
-      subst (λ x. Sounds c start end x (ended g l.item end start c fs (annotated ss (payloads.List vs))))
+      subst (λ x. Sounds c start end x (ended (under g l) (spot_at end start c) fs (annotated ss (payloads.List vs))))
       (sym (ap (λ x. x ++ t ∷ []) o.whole ∙ (append_assoc o.front (o.notes ++ (o.open' ∷ o.body)) (t ∷ []) ∙ ap (λ x. o.front ++ x) (append_assoc o.notes (o.open' ∷ o.body) (t ∷ [])))))
       (ended_sounds c fs o.front (o.notes ++ (o.open' ∷ (o.body ++ t ∷ []))) (annotated ss (payloads.List vs)) start end o.outer o.receives
       (means (value_place fs) o.notes (o.open' ∷ (o.body ++ t ∷ [])) ss (payloads.List vs) o.noted (is_list (value_place fs) o.open' t o.body vs more o.opens o.items i)) (and_false (long_behind c fs o.front o.outer) _ (notes_not_long c (value_place fs) o.notes (o.body ++ t ∷ []) ss o.open' o.noted (not_long (value_place fs) o.open' _ o.opens (λ w e. cc)))) (λ x. noted_no_word c (value_place fs) o.notes (o.open' ∷ (o.body ++ t ∷ [])) ss o.noted (λ y. more_words o.open' o.body t)) (λ x. let k = dd.0 in let m = depth-list ss vs in omega arith))
 
   -- a token where a value may come
-  pub ready_sounds : (c : List Slot) (fs : List Frame) (ss : Symbols) (ts : List Placed) (t : Placed) (said : Content) (start : ℕ) → Deep l.depth fs → (d : ReadyFor c fs ss ts) → Says (value_place fs) t said → ((w : List ℕ) → said ≡ Long w → (long_behind c fs d.front d.outer && begins_long (d.notes ++ t ∷ [])) ≡ false) → Sounds c start t.lexeme.end (ts ++ t ∷ []) (on_ready g l.depth l.item t.lexeme.end start c fs ss said)
+  pub ready_sounds : (c : List Slot) (fs : List Frame) (ss : Symbols) (ts : List Placed) (t : Placed) (said : Content) (start : ℕ) → Deep l.depth fs → (d : ReadyFor c fs ss ts) → Says (value_place fs) t said → ((w : List ℕ) → said ≡ Long w → (long_behind c fs d.front d.outer && begins_long (d.notes ++ t ∷ [])) ≡ false) → Sounds c start t.lexeme.end (ts ++ t ∷ []) (on_ready (under g l) (spot_at t.lexeme.end start c) fs ss said)
   ready_sounds c fs ss ts t (Word w) start dd d i n = waits_sounds c fs ss ts t (Word w) (held_word w) start t.lexeme.end d i (word_stood c w) (λ v x. cc) refl refl (λ x. word_no_word t w i.body x)
   ready_sounds c fs ss ts t (Id id) start dd d i n = id_sounds c fs ss ts t id start t.lexeme.end (resolve c id) d i refl
   ready_sounds c fs ss ts t (Quoted w) start dd d i n = waits_sounds c fs ss ts t (Quoted w) (helds.Symbol (Some w)) start t.lexeme.end d i (symbol_stood c (Quoted w) (Some w) (is_quoted w)) (λ v x. cc) refl refl (λ x. other_word t (Quoted w) (λ v e. cc) (λ id e. cc) i.body)
@@ -527,7 +527,7 @@ module _ (g : Catalog) (l : Limits) where
   ready_sounds c fs ss ts t (Mark' marks.FieldsOpen) start dd d i n = struct_opens c fs ss ts t start t.lexeme.end (nat_lt (length fs) l.depth) d i
   ready_sounds c (frames.List rs vs ∷ fs) [] ts t (Mark' marks.ListClose) start dd d i n =
       let e = no_note c places.List d.notes d.noted in
-      subst (λ x. Sounds c start t.lexeme.end (x ++ t ∷ []) (ended g l.item t.lexeme.end start c fs (annotated rs (payloads.List vs)))) (sym (d.whole ∙ (ap (λ x. d.front ++ x) e ∙ append-nil d.front))) (list_closes c fs rs vs d.front t true start t.lexeme.end dd d.outer i)
+      subst (λ x. Sounds c start t.lexeme.end (x ++ t ∷ []) (ended (under g l) (spot_at t.lexeme.end start c) fs (annotated rs (payloads.List vs)))) (sym (d.whole ∙ (ap (λ x. d.front ++ x) e ∙ append-nil d.front))) (list_closes c fs rs vs d.front t true start t.lexeme.end dd d.outer i)
   ready_sounds c [] [] ts t (Mark' marks.ListClose) start dd d i n = tt
   ready_sounds c (frames.Sexp rs vs ∷ fs) [] ts t (Mark' marks.ListClose) start dd d i n = tt
   ready_sounds c (frames.Fields rs vs ∷ fs) [] ts t (Mark' marks.ListClose) start dd d i n = tt
@@ -535,7 +535,7 @@ module _ (g : Catalog) (l : Limits) where
   ready_sounds c fs (s ∷ ss) ts t (Mark' marks.ListClose) start dd d i n = tt
   ready_sounds c (frames.Sexp rs vs ∷ fs) [] ts t (Mark' marks.SexpClose) start dd d i n =
       let e = no_note c places.Sexp d.notes d.noted in
-      subst (λ x. Sounds c start t.lexeme.end (x ++ t ∷ []) (ended g l.item t.lexeme.end start c fs (annotated rs (payloads.Sexp vs)))) (sym (d.whole ∙ (ap (λ x. d.front ++ x) e ∙ append-nil d.front))) (sexp_closes c fs rs vs d.front t start t.lexeme.end dd d.outer i)
+      subst (λ x. Sounds c start t.lexeme.end (x ++ t ∷ []) (ended (under g l) (spot_at t.lexeme.end start c) fs (annotated rs (payloads.Sexp vs)))) (sym (d.whole ∙ (ap (λ x. d.front ++ x) e ∙ append-nil d.front))) (sexp_closes c fs rs vs d.front t start t.lexeme.end dd d.outer i)
   ready_sounds c [] [] ts t (Mark' marks.SexpClose) start dd d i n = tt
   ready_sounds c (frames.List rs vs ∷ fs) [] ts t (Mark' marks.SexpClose) start dd d i n = tt
   ready_sounds c (frames.Fields rs vs ∷ fs) [] ts t (Mark' marks.SexpClose) start dd d i n = tt
@@ -571,7 +571,7 @@ module _ (g : Catalog) (l : Limits) where
   joined_sounds c fs ss ts t v w start end d i = inl ((refl, record { before = d.before; ready = d.ready; segments = d.segments ++ t ∷ []; whole = ap (λ x. x ++ t ∷ []) d.whole ∙ append_assoc d.before d.segments (t ∷ []); are = joined d.segments v w t d.are i; apart = ap (λ x. long_behind c fs d.ready.front d.ready.outer && x) (begins_long_more d.ready.notes d.segments (t ∷ []) (value_place fs) v d.are) ∙ d.apart }), refl, refl)
 
   -- behind an element or a field
-  pub after_sounds : (c : List Slot) (fs : List Frame) (ts : List Placed) (t : Placed) (said : Content) (start end : ℕ) → Deep l.depth fs → Opened c fs ts false → Says (place_in fs nows.After) t said → Sounds c start end (ts ++ t ∷ []) (on_after g l.item end start c fs said)
+  pub after_sounds : (c : List Slot) (fs : List Frame) (ts : List Placed) (t : Placed) (said : Content) (start end : ℕ) → Deep l.depth fs → Opened c fs ts false → Says (place_in fs nows.After) t said → Sounds c start end (ts ++ t ∷ []) (on_after (under g l) (spot_at end start c) fs said)
   after_sounds c (frames.List ss vs ∷ fs) ts t (Mark' marks.Comma) start end dd o i =
       inl (
         (
@@ -620,7 +620,7 @@ module _ (g : Catalog) (l : Limits) where
   after_sounds c (frames.Sexp ss vs ∷ fs) ts t (Mark' marks.FieldsClose) start end dd o i = tt
   after_sounds c (frames.Named ss ms s ∷ fs) ts t (Mark' marks.FieldsClose) start end dd o i = tt
 
-  pub name_sounds : (c : List Slot) (ss : Symbols) (ms : List Field) (fs : List Frame) (ts : List Placed) (t : Placed) (said : Content) (start end : ℕ) → Deep l.depth (frames.Fields ss ms ∷ fs) → Opened c (frames.Fields ss ms ∷ fs) ts true → Says places.Name t said → Sounds c start end (ts ++ t ∷ []) (on_name g l.item end start c (frames.Fields ss ms ∷ fs) said)
+  pub name_sounds : (c : List Slot) (ss : Symbols) (ms : List Field) (fs : List Frame) (ts : List Placed) (t : Placed) (said : Content) (start end : ℕ) → Deep l.depth (frames.Fields ss ms ∷ fs) → Opened c (frames.Fields ss ms ∷ fs) ts true → Says places.Name t said → Sounds c start end (ts ++ t ∷ []) (on_name (under g l) (spot_at end start c) (frames.Fields ss ms ∷ fs) said)
   name_sounds c ss ms fs ts t (Word w) start end dd o i = word_name (is_keyword w) refl
     where
       word_name : (b : Bool) → is_keyword w ≡ b → Sounds c start end (ts ++ t ∷ []) (if b then late reasons.KeywordAsName (keyed start c (frames.Fields ss ms ∷ fs) (Some w)) else goes (keyed start c (frames.Fields ss ms ∷ fs) (Some w)))

@@ -18,7 +18,7 @@ use Rattle.ion_text.specs.declared.state.Now.TheVariants as nows
 use Rattle.ion_text.specs.declared.state.Frame.{Frame}
 use Rattle.ion_text.specs.declared.state.Frame.TheVariants as frames
 use Rattle.ion_text.specs.Grammar.{is_keyword}
-use Rattle.ion_text.specs.machine.EachToken.{Reading, Turn, goes, gives, refuses, late, Token, Symbols, at, fresh, settle, turn, turn_now, ended, within, turned, held_word, held_symbol, held_payload, released, begun_at, on_ready, on_after, on_name, on_pending, on_long, on_long_name, on_keyed, on_comma, struct_closed, list_closed, sexp_closed, bare_close, deeper, paid, noted, resolved, keyed, named}
+use Rattle.ion_text.specs.machine.EachToken.{Setting, Spot, under, spot_at, token_at, Reading, Turn, goes, gives, refuses, late, Token, Symbols, at, fresh, settle, turn, turn_now, ended, within, turned, held_word, held_symbol, held_payload, released, begun_at, on_ready, on_after, on_name, on_pending, on_long, on_long_name, on_keyed, on_comma, struct_closed, list_closed, sexp_closed, bare_close, deeper, paid, noted, resolved, keyed, named}
 use Rattle.ion_text.specs.machine.Run.{is_top, is_fresh}
 use Rattle.ion_text.specs.laws.reading.Sound.{EndsAt, start_now, end_now}
 use Rattle.ion_text.specs.laws.reading.Quotes.{le_of}
@@ -62,16 +62,16 @@ top_spans top said item start end c v (Err e) true h = tt
 top_spans top said item start end c v d false h = within_spans top said item start end (gives v (fresh c)) (λ k. (k, h, refl))
 
 -- a value that ends in these frames, which were below `top` before
-ended_spans : (top : Bool) (said : Content) (g : Catalog) (item end start : ℕ) (c : List Slot) (fs : List Frame) (v : Value) → (is_top fs ≡ true → Closes top said) → Spans top said item start end (ended g item end start c fs v)
-ended_spans top said g item end start c [] v h = top_spans top said item start end c v (next c v g) (is_table v) (h refl)
-ended_spans top said g item end start c (frames.List ss vs ∷ fs) v h = inl (inl refl, refl, tt)
-ended_spans top said g item end start c (frames.Sexp ss vs ∷ fs) v h = inl (inl refl, refl, tt)
-ended_spans top said g item end start c (frames.Named ss ms s ∷ fs) v h = inl (inl refl, refl, tt)
-ended_spans top said g item end start c (frames.Fields ss ms ∷ fs) v h = tt
+ended_spans : (top : Bool) (said : Content) (setting : Setting) (spot : Spot) (fs : List Frame) (v : Value) → (is_top fs ≡ true → Closes top said) → Spans top said setting.limits.item spot.start spot.end (ended setting spot fs v)
+ended_spans top said setting spot [] v h = top_spans top said setting.limits.item spot.start spot.end spot.context v (next spot.context v setting.catalog) (is_table v) (h refl)
+ended_spans top said setting spot (frames.List ss vs ∷ fs) v h = inl (inl refl, refl, tt)
+ended_spans top said setting spot (frames.Sexp ss vs ∷ fs) v h = inl (inl refl, refl, tt)
+ended_spans top said setting spot (frames.Named ss ms s ∷ fs) v h = inl (inl refl, refl, tt)
+ended_spans top said setting spot (frames.Fields ss ms ∷ fs) v h = tt
 
 -- a value of one token, in the frames that stay
-one_spans : (said : Content) (g : Catalog) (item end start : ℕ) (c : List Slot) (fs : List Frame) (v : Value) → Spans (is_top fs) said item start end (ended g item end start c fs v)
-one_spans said g item end start c fs v = ended_spans (is_top fs) said g item end start c fs v (λ e. subst (λ b. Closes b said) (sym e) tt)
+one_spans : (said : Content) (setting : Setting) (spot : Spot) (fs : List Frame) (v : Value) → Spans (is_top fs) said setting.limits.item spot.start spot.end (ended setting spot fs v)
+one_spans said setting spot fs v = ended_spans (is_top fs) said setting spot fs v (λ e. subst (λ b. Closes b said) (sym e) tt)
 
 -- what waits, or a name, is open in all frames
 open_now : (start : ℕ) (c : List Slot) (fs : List Frame) (ss : Symbols) (now : Now) → (is_fresh (at start c [] ss now) ≡ false) → IsTopNow now → OpenAs (is_top fs) (at start c fs ss now)
@@ -89,26 +89,26 @@ deeper_spans top said item start end depth fs t deep h k = go (nat_lt (length fs
     go true = h
     go false = k
 
-list_closes : (g : Catalog) (item end start : ℕ) (c : List Slot) (fs : List Frame) → Spans (is_top fs) (Mark' marks.ListClose) item start end (list_closed g item end start c fs)
-list_closes g item end start c (frames.List ss vs ∷ fs) = ended_spans false (Mark' marks.ListClose) g item end start c fs _ (λ e. tt)
-list_closes g item end start c (frames.Sexp ss vs ∷ fs) = tt
-list_closes g item end start c (frames.Fields ss vs ∷ fs) = tt
-list_closes g item end start c (frames.Named ss vs s ∷ fs) = tt
-list_closes g item end start c [] = tt
+list_closes : (setting : Setting) (spot : Spot) (fs : List Frame) → Spans (is_top fs) (Mark' marks.ListClose) setting.limits.item spot.start spot.end (list_closed setting spot fs)
+list_closes setting spot (frames.List ss vs ∷ fs) = ended_spans false (Mark' marks.ListClose) setting spot fs _ (λ e. tt)
+list_closes setting spot (frames.Sexp ss vs ∷ fs) = tt
+list_closes setting spot (frames.Fields ss vs ∷ fs) = tt
+list_closes setting spot (frames.Named ss vs s ∷ fs) = tt
+list_closes setting spot [] = tt
 
-sexp_closes : (g : Catalog) (item end start : ℕ) (c : List Slot) (fs : List Frame) → Spans (is_top fs) (Mark' marks.SexpClose) item start end (sexp_closed g item end start c fs)
-sexp_closes g item end start c (frames.Sexp ss vs ∷ fs) = ended_spans false (Mark' marks.SexpClose) g item end start c fs _ (λ e. tt)
-sexp_closes g item end start c (frames.List ss vs ∷ fs) = tt
-sexp_closes g item end start c (frames.Fields ss vs ∷ fs) = tt
-sexp_closes g item end start c (frames.Named ss vs s ∷ fs) = tt
-sexp_closes g item end start c [] = tt
+sexp_closes : (setting : Setting) (spot : Spot) (fs : List Frame) → Spans (is_top fs) (Mark' marks.SexpClose) setting.limits.item spot.start spot.end (sexp_closed setting spot fs)
+sexp_closes setting spot (frames.Sexp ss vs ∷ fs) = ended_spans false (Mark' marks.SexpClose) setting spot fs _ (λ e. tt)
+sexp_closes setting spot (frames.List ss vs ∷ fs) = tt
+sexp_closes setting spot (frames.Fields ss vs ∷ fs) = tt
+sexp_closes setting spot (frames.Named ss vs s ∷ fs) = tt
+sexp_closes setting spot [] = tt
 
-struct_closes : (g : Catalog) (item end start : ℕ) (c : List Slot) (fs : List Frame) → Spans (is_top fs) (Mark' marks.FieldsClose) item start end (struct_closed g item end start c fs)
-struct_closes g item end start c (frames.Fields ss vs ∷ fs) = ended_spans false (Mark' marks.FieldsClose) g item end start c fs _ (λ e. tt)
-struct_closes g item end start c (frames.List ss vs ∷ fs) = tt
-struct_closes g item end start c (frames.Sexp ss vs ∷ fs) = tt
-struct_closes g item end start c (frames.Named ss vs s ∷ fs) = tt
-struct_closes g item end start c [] = tt
+struct_closes : (setting : Setting) (spot : Spot) (fs : List Frame) → Spans (is_top fs) (Mark' marks.FieldsClose) setting.limits.item spot.start spot.end (struct_closed setting spot fs)
+struct_closes setting spot (frames.Fields ss vs ∷ fs) = ended_spans false (Mark' marks.FieldsClose) setting spot fs _ (λ e. tt)
+struct_closes setting spot (frames.List ss vs ∷ fs) = tt
+struct_closes setting spot (frames.Sexp ss vs ∷ fs) = tt
+struct_closes setting spot (frames.Named ss vs s ∷ fs) = tt
+struct_closes setting spot [] = tt
 
 bare_spans : (top : Bool) (said : Content) (item start end : ℕ) (ss : Symbols) (t : Turn) → Spans top said item start end t → Spans top said item start end (bare_close ss t)
 bare_spans top said item start end [] t h = h
@@ -123,92 +123,92 @@ any_note [] start c now h = h
 any_note (s ∷ ss) start c now h = refl
 
 module _ (g : Catalog) (l : Limits) where
-  ready_spans : (end start : ℕ) (c : List Slot) (fs : List Frame) (ss : Symbols) (said : Content) → Spans (is_top fs) said l.item start end (on_ready g l.depth l.item end start c fs ss said)
-  ready_spans end start c fs ss (Word w) = inl (open_now start c fs ss (nows.Pending (held_word w) end) (any_note ss start c (nows.Pending (held_word w) end) refl) tt, refl, refl)
-  ready_spans end start c fs ss (Id id) = resolved_spans (is_top fs) (Id id) l.item start end (resolve c id) _ (λ s. inl (open_now start c fs ss (nows.Pending (helds.Symbol s) end) (any_note ss start c (nows.Pending (helds.Symbol s) end) refl) tt, refl, refl))
-  ready_spans end start c fs ss (Quoted w) = inl (open_now start c fs ss (nows.Pending (helds.Symbol (Some w)) end) (any_note ss start c (nows.Pending (helds.Symbol (Some w)) end) refl) tt, refl, refl)
-  ready_spans end start c fs ss (TypedNull k) = inl (open_now start c fs ss (nows.Pending (helds.Null k) end) (any_note ss start c (nows.Pending (helds.Null k) end) refl) tt, refl, refl)
-  ready_spans end start c fs ss (Long w) = inl (open_now start c fs ss (nows.Long w end) (any_note ss start c (nows.Long w end) refl) tt, refl, refl)
-  ready_spans end start c fs ss (Short w) = one_spans (Short w) g l.item end start c fs _
-  ready_spans end start c fs ss (Number' n) = one_spans (Number' n) g l.item end start c fs _
-  ready_spans end start c fs ss (Operator w) = one_spans (Operator w) g l.item end start c fs _
-  ready_spans end start c fs ss (Clob w) = one_spans (Clob w) g l.item end start c fs _
-  ready_spans end start c fs ss (Blob w) = one_spans (Blob w) g l.item end start c fs _
-  ready_spans end start c fs ss (Mark' marks.ListOpen) = deeper_spans (is_top fs) _ l.item start end l.depth fs _ _ (inl (inl refl, refl, tt)) tt
-  ready_spans end start c fs ss (Mark' marks.SexpOpen) = deeper_spans (is_top fs) _ l.item start end l.depth fs _ _ (inl (inl refl, refl, tt)) tt
-  ready_spans end start c fs ss (Mark' marks.FieldsOpen) = deeper_spans (is_top fs) _ l.item start end l.depth fs _ _ (inl (inl refl, refl, tt)) tt
-  ready_spans end start c fs ss (Mark' marks.ListClose) = bare_spans (is_top fs) _ l.item start end ss _ (list_closes g l.item end start c fs)
-  ready_spans end start c fs ss (Mark' marks.SexpClose) = bare_spans (is_top fs) _ l.item start end ss _ (sexp_closes g l.item end start c fs)
-  ready_spans end start c fs ss (Mark' marks.FieldsClose) = tt
-  ready_spans end start c fs ss (Mark' marks.Comma) = tt
-  ready_spans end start c fs ss (Mark' marks.Colon) = tt
-  ready_spans end start c fs ss (Mark' marks.Colons) = tt
+  ready_spans : (spot : Spot) (fs : List Frame) (ss : Symbols) (said : Content) → Spans (is_top fs) said l.item spot.start spot.end (on_ready (under g l) spot fs ss said)
+  ready_spans spot fs ss (Word w) = inl (open_now spot.start spot.context fs ss (nows.Pending (held_word w) spot.end) (any_note ss spot.start spot.context (nows.Pending (held_word w) spot.end) refl) tt, refl, refl)
+  ready_spans spot fs ss (Id id) = resolved_spans (is_top fs) (Id id) l.item spot.start spot.end (resolve spot.context id) _ (λ s. inl (open_now spot.start spot.context fs ss (nows.Pending (helds.Symbol s) spot.end) (any_note ss spot.start spot.context (nows.Pending (helds.Symbol s) spot.end) refl) tt, refl, refl))
+  ready_spans spot fs ss (Quoted w) = inl (open_now spot.start spot.context fs ss (nows.Pending (helds.Symbol (Some w)) spot.end) (any_note ss spot.start spot.context (nows.Pending (helds.Symbol (Some w)) spot.end) refl) tt, refl, refl)
+  ready_spans spot fs ss (TypedNull k) = inl (open_now spot.start spot.context fs ss (nows.Pending (helds.Null k) spot.end) (any_note ss spot.start spot.context (nows.Pending (helds.Null k) spot.end) refl) tt, refl, refl)
+  ready_spans spot fs ss (Long w) = inl (open_now spot.start spot.context fs ss (nows.Long w spot.end) (any_note ss spot.start spot.context (nows.Long w spot.end) refl) tt, refl, refl)
+  ready_spans spot fs ss (Short w) = one_spans (Short w) (under g l) spot fs _
+  ready_spans spot fs ss (Number' n) = one_spans (Number' n) (under g l) spot fs _
+  ready_spans spot fs ss (Operator w) = one_spans (Operator w) (under g l) spot fs _
+  ready_spans spot fs ss (Clob w) = one_spans (Clob w) (under g l) spot fs _
+  ready_spans spot fs ss (Blob w) = one_spans (Blob w) (under g l) spot fs _
+  ready_spans spot fs ss (Mark' marks.ListOpen) = deeper_spans (is_top fs) _ l.item spot.start spot.end l.depth fs _ _ (inl (inl refl, refl, tt)) tt
+  ready_spans spot fs ss (Mark' marks.SexpOpen) = deeper_spans (is_top fs) _ l.item spot.start spot.end l.depth fs _ _ (inl (inl refl, refl, tt)) tt
+  ready_spans spot fs ss (Mark' marks.FieldsOpen) = deeper_spans (is_top fs) _ l.item spot.start spot.end l.depth fs _ _ (inl (inl refl, refl, tt)) tt
+  ready_spans spot fs ss (Mark' marks.ListClose) = bare_spans (is_top fs) _ l.item spot.start spot.end ss _ (list_closes (under g l) spot fs)
+  ready_spans spot fs ss (Mark' marks.SexpClose) = bare_spans (is_top fs) _ l.item spot.start spot.end ss _ (sexp_closes (under g l) spot fs)
+  ready_spans spot fs ss (Mark' marks.FieldsClose) = tt
+  ready_spans spot fs ss (Mark' marks.Comma) = tt
+  ready_spans spot fs ss (Mark' marks.Colon) = tt
+  ready_spans spot fs ss (Mark' marks.Colons) = tt
 
-  noted_spans : (end start : ℕ) (c : List Slot) (fs : List Frame) (ss : Symbols) (r : Result (Option (List ℕ)) Reason) → Spans (is_top fs) (Mark' marks.Colons) l.item start end (noted start c fs ss r)
-  noted_spans end start c fs ss (Ok s) = inl (open_now start c fs (ss ++ s ∷ []) nows.Ready (some_note ss s start c) tt, refl, tt)
-  noted_spans end start c fs ss (Err e) = tt
+  noted_spans : (spot : Spot) (fs : List Frame) (ss : Symbols) (r : Result (Option (List ℕ)) Reason) → Spans (is_top fs) (Mark' marks.Colons) l.item spot.start spot.end (noted spot.start spot.context fs ss r)
+  noted_spans spot fs ss (Ok s) = inl (open_now spot.start spot.context fs (ss ++ s ∷ []) nows.Ready (some_note ss s spot.start spot.context) tt, refl, tt)
+  noted_spans spot fs ss (Err e) = tt
 
-  pending_spans : (end start : ℕ) (c : List Slot) (fs : List Frame) (ss : Symbols) (h : Held) (said : Content) → Spans (is_top fs) said l.item start end (on_pending start c fs ss h said)
-  pending_spans end start c fs ss h (Mark' marks.Colons) = noted_spans end start c fs ss (held_symbol h)
-  pending_spans end start c fs ss h _ = tt
+  pending_spans : (spot : Spot) (fs : List Frame) (ss : Symbols) (h : Held) (said : Content) → Spans (is_top fs) said l.item spot.start spot.end (on_pending spot.start spot.context fs ss h said)
+  pending_spans spot fs ss h (Mark' marks.Colons) = noted_spans spot fs ss (held_symbol h)
+  pending_spans spot fs ss h _ = tt
 
-  long_spans : (end start : ℕ) (c : List Slot) (fs : List Frame) (ss : Symbols) (v : List ℕ) (said : Content) → Spans (is_top fs) said l.item start end (on_long end start c fs ss v said)
-  long_spans end start c fs ss v (Long w) = inl (open_now start c fs ss (nows.Long (v ++ w) end) (any_note ss start c (nows.Long (v ++ w) end) refl) tt, refl, refl)
-  long_spans end start c fs ss v _ = tt
+  long_spans : (spot : Spot) (fs : List Frame) (ss : Symbols) (v : List ℕ) (said : Content) → Spans (is_top fs) said l.item spot.start spot.end (on_long spot fs ss v said)
+  long_spans spot fs ss v (Long w) = inl (open_now spot.start spot.context fs ss (nows.Long (v ++ w) spot.end) (any_note ss spot.start spot.context (nows.Long (v ++ w) spot.end) refl) tt, refl, refl)
+  long_spans spot fs ss v _ = tt
 
-  comma_spans : (end start : ℕ) (c : List Slot) (fs : List Frame) → Spans (is_top fs) (Mark' marks.Comma) l.item start end (on_comma start c fs)
-  comma_spans end start c (frames.List ss vs ∷ fs) = inl (inl refl, refl, tt)
-  comma_spans end start c (frames.Fields ss ms ∷ fs) = inl (inl refl, refl, tt)
-  comma_spans end start c (frames.Sexp ss vs ∷ fs) = tt
-  comma_spans end start c (frames.Named ss ms s ∷ fs) = tt
-  comma_spans end start c [] = tt
+  comma_spans : (spot : Spot) (fs : List Frame) → Spans (is_top fs) (Mark' marks.Comma) l.item spot.start spot.end (on_comma spot.start spot.context fs)
+  comma_spans spot (frames.List ss vs ∷ fs) = inl (inl refl, refl, tt)
+  comma_spans spot (frames.Fields ss ms ∷ fs) = inl (inl refl, refl, tt)
+  comma_spans spot (frames.Sexp ss vs ∷ fs) = tt
+  comma_spans spot (frames.Named ss ms s ∷ fs) = tt
+  comma_spans spot [] = tt
 
-  after_spans : (end start : ℕ) (c : List Slot) (fs : List Frame) (said : Content) → Spans (is_top fs) said l.item start end (on_after g l.item end start c fs said)
-  after_spans end start c fs (Mark' marks.Comma) = comma_spans end start c fs
-  after_spans end start c fs (Mark' marks.ListClose) = list_closes g l.item end start c fs
-  after_spans end start c fs (Mark' marks.FieldsClose) = struct_closes g l.item end start c fs
-  after_spans end start c fs _ = tt
+  after_spans : (spot : Spot) (fs : List Frame) (said : Content) → Spans (is_top fs) said l.item spot.start spot.end (on_after (under g l) spot fs said)
+  after_spans spot fs (Mark' marks.Comma) = comma_spans spot fs
+  after_spans spot fs (Mark' marks.ListClose) = list_closes (under g l) spot fs
+  after_spans spot fs (Mark' marks.FieldsClose) = struct_closes (under g l) spot fs
+  after_spans spot fs _ = tt
 
-  keyed_open : (start end : ℕ) (c : List Slot) (f : Frame) (fs : List Frame) (said : Content) (s : Option (List ℕ)) → Spans false said l.item start end (goes (keyed start c (f ∷ fs) s))
-  keyed_open start end c f fs said s = inl (inl refl, refl, tt)
+  keyed_open : (spot : Spot) (f : Frame) (fs : List Frame) (said : Content) (s : Option (List ℕ)) → Spans false said l.item spot.start spot.end (goes (keyed spot.start spot.context (f ∷ fs) s))
+  keyed_open spot f fs said s = inl (inl refl, refl, tt)
 
-  name_spans : (end start : ℕ) (c : List Slot) (f : Frame) (fs : List Frame) (said : Content) → Spans false said l.item start end (on_name g l.item end start c (f ∷ fs) said)
-  name_spans end start c f fs (Word w) = go (is_keyword w)
+  name_spans : (spot : Spot) (f : Frame) (fs : List Frame) (said : Content) → Spans false said l.item spot.start spot.end (on_name (under g l) spot (f ∷ fs) said)
+  name_spans spot f fs (Word w) = go (is_keyword w)
     where
-      go : (b : Bool) → Spans false (Word w) l.item start end (if b then late reasons.KeywordAsName (keyed start c (f ∷ fs) (Some w)) else goes (keyed start c (f ∷ fs) (Some w)))
+      go : (b : Bool) → Spans false (Word w) l.item spot.start spot.end (if b then late reasons.KeywordAsName (keyed spot.start spot.context (f ∷ fs) (Some w)) else goes (keyed spot.start spot.context (f ∷ fs) (Some w)))
       go true = tt
-      go false = keyed_open start end c f fs (Word w) (Some w)
-  name_spans end start c f fs (TypedNull k) = tt
-  name_spans end start c f fs (Id id) = resolved_spans false (Id id) l.item start end (resolve c id) _ (λ s. keyed_open start end c f fs (Id id) s)
-  name_spans end start c f fs (Quoted w) = keyed_open start end c f fs (Quoted w) (Some w)
-  name_spans end start c f fs (Short w) = keyed_open start end c f fs (Short w) (Some w)
-  name_spans end start c f fs (Long w) = inl (inl refl, refl, tt)
-  name_spans end start c f fs (Mark' marks.FieldsClose) = struct_closes g l.item end start c (f ∷ fs)
-  name_spans end start c f fs _ = tt
+      go false = keyed_open spot f fs (Word w) (Some w)
+  name_spans spot f fs (TypedNull k) = tt
+  name_spans spot f fs (Id id) = resolved_spans false (Id id) l.item spot.start spot.end (resolve spot.context id) _ (λ s. keyed_open spot f fs (Id id) s)
+  name_spans spot f fs (Quoted w) = keyed_open spot f fs (Quoted w) (Some w)
+  name_spans spot f fs (Short w) = keyed_open spot f fs (Short w) (Some w)
+  name_spans spot f fs (Long w) = inl (inl refl, refl, tt)
+  name_spans spot f fs (Mark' marks.FieldsClose) = struct_closes (under g l) spot (f ∷ fs)
+  name_spans spot f fs _ = tt
 
-  long_name_spans : (end start : ℕ) (c : List Slot) (f : Frame) (fs : List Frame) (v : List ℕ) (said : Content) → Spans false said l.item start end (on_long_name start c (f ∷ fs) v said)
-  long_name_spans end start c f fs v (Long w) = inl (inl refl, refl, tt)
-  long_name_spans end start c f fs v _ = tt
+  long_name_spans : (spot : Spot) (f : Frame) (fs : List Frame) (v : List ℕ) (said : Content) → Spans false said l.item spot.start spot.end (on_long_name spot.start spot.context (f ∷ fs) v said)
+  long_name_spans spot f fs v (Long w) = inl (inl refl, refl, tt)
+  long_name_spans spot f fs v _ = tt
 
-  named_spans : (end start : ℕ) (c : List Slot) (fs : List Frame) (s : Option (List ℕ)) → Spans (is_top fs) (Mark' marks.Colon) l.item start end (named start c fs s)
-  named_spans end start c (frames.Fields ss ms ∷ fs) s = inl (inl refl, refl, tt)
-  named_spans end start c (frames.List ss vs ∷ fs) s = tt
-  named_spans end start c (frames.Sexp ss vs ∷ fs) s = tt
-  named_spans end start c (frames.Named ss ms x ∷ fs) s = tt
-  named_spans end start c [] s = tt
+  named_spans : (spot : Spot) (fs : List Frame) (s : Option (List ℕ)) → Spans (is_top fs) (Mark' marks.Colon) l.item spot.start spot.end (named spot.start spot.context fs s)
+  named_spans spot (frames.Fields ss ms ∷ fs) s = inl (inl refl, refl, tt)
+  named_spans spot (frames.List ss vs ∷ fs) s = tt
+  named_spans spot (frames.Sexp ss vs ∷ fs) s = tt
+  named_spans spot (frames.Named ss ms x ∷ fs) s = tt
+  named_spans spot [] s = tt
 
-  keyed_spans : (end start : ℕ) (c : List Slot) (fs : List Frame) (s : Option (List ℕ)) (said : Content) → Spans (is_top fs) said l.item start end (on_keyed start c fs s said)
-  keyed_spans end start c fs s (Mark' marks.Colon) = named_spans end start c fs s
-  keyed_spans end start c fs s _ = tt
+  keyed_spans : (spot : Spot) (fs : List Frame) (s : Option (List ℕ)) (said : Content) → Spans (is_top fs) said l.item spot.start spot.end (on_keyed spot.start spot.context fs s said)
+  keyed_spans spot fs s (Mark' marks.Colon) = named_spans spot fs s
+  keyed_spans spot fs s _ = tt
 
-  now_spans : (begin end start : ℕ) (c : List Slot) (fs : List Frame) (ss : Symbols) (said : Content) (now : Now) → (is_top fs ≡ true → IsTopNow now) → Spans (is_top fs) said l.item (start_now now start begin fs ss) end (turn_now g l begin end start c fs ss said now)
-  now_spans begin end start c fs ss said nows.Ready k = ready_spans end (begun_at start begin fs ss) c fs ss said
-  now_spans begin end start c fs ss said (nows.Pending h e) k = pending_spans end start c fs ss h said
-  now_spans begin end start c fs ss said (nows.Long w e) k = long_spans end start c fs ss w said
-  now_spans begin end start c fs ss said nows.After k = after_spans end start c fs said
-  now_spans begin end start c (f ∷ fs) ss said nows.Name k = name_spans end start c f fs said
-  now_spans begin end start c (f ∷ fs) ss said (nows.LongName w) k = long_name_spans end start c f fs w said
-  now_spans begin end start c fs ss said (nows.Keyed s) k = keyed_spans end start c fs s said
+  now_spans : (begin end start : ℕ) (c : List Slot) (fs : List Frame) (ss : Symbols) (said : Content) (now : Now) → (is_top fs ≡ true → IsTopNow now) → Spans (is_top fs) said l.item (start_now now start begin fs ss) end (turn_now (under g l) (at start c fs ss now) (token_at begin end said) now)
+  now_spans begin end start c fs ss said nows.Ready k = ready_spans (spot_at end (begun_at start begin fs ss) c) fs ss said
+  now_spans begin end start c fs ss said (nows.Pending h e) k = pending_spans (spot_at end start c) fs ss h said
+  now_spans begin end start c fs ss said (nows.Long w e) k = long_spans (spot_at end start c) fs ss w said
+  now_spans begin end start c fs ss said nows.After k = after_spans (spot_at end start c) fs said
+  now_spans begin end start c (f ∷ fs) ss said nows.Name k = name_spans (spot_at end start c) f fs said
+  now_spans begin end start c (f ∷ fs) ss said (nows.LongName w) k = long_name_spans (spot_at end start c) f fs w said
+  now_spans begin end start c fs ss said (nows.Keyed s) k = keyed_spans (spot_at end start c) fs s said
   now_spans begin end start c [] ss said nows.Name k = absurd (k refl)
   now_spans begin end start c [] ss said (nows.LongName w) k = absurd (k refl)
 
@@ -235,26 +235,26 @@ module _ (g : Catalog) (l : Limits) where
   top_settles start end c v (Err e) true = tt
   top_settles start end c v d false = within_settles start end (gives v (fresh c)) (λ k. (refl, k))
 
-  ended_settles : (end start : ℕ) (c : List Slot) (fs : List Frame) (v : Value) → Settles start end fs (ended g l.item end start c fs v)
-  ended_settles end start c [] v = top_settles start end c v (next c v g) (is_table v)
-  ended_settles end start c (frames.List ss vs ∷ fs) v = inl (refl, refl, refl)
-  ended_settles end start c (frames.Sexp ss vs ∷ fs) v = inl (refl, refl, refl)
-  ended_settles end start c (frames.Named ss ms s ∷ fs) v = inl (refl, refl, refl)
-  ended_settles end start c (frames.Fields ss ms ∷ fs) v = tt
+  ended_settles : (spot : Spot) (fs : List Frame) (v : Value) → Settles spot.start spot.end fs (ended (under g l) spot fs v)
+  ended_settles spot [] v = top_settles spot.start spot.end spot.context v (next spot.context v g) (is_table v)
+  ended_settles spot (frames.List ss vs ∷ fs) v = inl (refl, refl, refl)
+  ended_settles spot (frames.Sexp ss vs ∷ fs) v = inl (refl, refl, refl)
+  ended_settles spot (frames.Named ss ms s ∷ fs) v = inl (refl, refl, refl)
+  ended_settles spot (frames.Fields ss ms ∷ fs) v = tt
 
-  paid_settles : (end start : ℕ) (c : List Slot) (fs : List Frame) (ss : Symbols) (q : Result Payload Reason) → Settles start end fs (paid g l.item end start c fs ss q)
-  paid_settles end start c fs ss (Ok q) = ended_settles end start c fs _
-  paid_settles end start c fs ss (Err e) = tt
+  paid_settles : (spot : Spot) (fs : List Frame) (ss : Symbols) (q : Result Payload Reason) → Settles spot.start spot.end fs (paid (under g l) spot fs ss q)
+  paid_settles spot fs ss (Ok q) = ended_settles spot fs _
+  paid_settles spot fs ss (Err e) = tt
 
-  released_settles : (end start : ℕ) (c : List Slot) (fs : List Frame) (ss : Symbols) (h : Held) → Settles start end fs (released g l.item end start c fs ss h)
-  released_settles end start c [] [] (helds.Version true s) = within_settles start end _ (λ k. inr (refl, k))
-  released_settles end start c [] [] (helds.Version false s) = tt
-  released_settles end start c [] [] (helds.Symbol s) = paid_settles end start c [] [] (held_payload (helds.Symbol s))
-  released_settles end start c [] [] (helds.Null k) = paid_settles end start c [] [] (held_payload (helds.Null k))
-  released_settles end start c [] [] (helds.Truth b) = paid_settles end start c [] [] (held_payload (helds.Truth b))
-  released_settles end start c [] [] helds.Nan = tt
-  released_settles end start c [] (s ∷ ss) h = paid_settles end start c [] (s ∷ ss) (held_payload h)
-  released_settles end start c (f ∷ fs) ss h = paid_settles end start c (f ∷ fs) ss (held_payload h)
+  released_settles : (spot : Spot) (fs : List Frame) (ss : Symbols) (h : Held) → Settles spot.start spot.end fs (released (under g l) spot fs ss h)
+  released_settles spot [] [] (helds.Version true s) = within_settles spot.start spot.end _ (λ k. inr (refl, k))
+  released_settles spot [] [] (helds.Version false s) = tt
+  released_settles spot [] [] (helds.Symbol s) = paid_settles spot [] [] (held_payload (helds.Symbol s))
+  released_settles spot [] [] (helds.Null k) = paid_settles spot [] [] (held_payload (helds.Null k))
+  released_settles spot [] [] (helds.Truth b) = paid_settles spot [] [] (held_payload (helds.Truth b))
+  released_settles spot [] [] helds.Nan = tt
+  released_settles spot [] (s ∷ ss) h = paid_settles spot [] (s ∷ ss) (held_payload h)
+  released_settles spot (f ∷ fs) ss h = paid_settles spot (f ∷ fs) ss (held_payload h)
 
   -- a symbol or a long string waits
   abbrev pub IsWaiting : Now → Type 0
@@ -264,8 +264,8 @@ module _ (g : Catalog) (l : Limits) where
 
   -- What waited for more was within the limit.
   pub settle_spans : (start : ℕ) (c : List Slot) (fs : List Frame) (ss : Symbols) (now : Now) (end : ℕ) → IsWaiting now → Settles start (end_now now end) fs (settle g l (at start c fs ss now))
-  settle_spans start c fs ss (nows.Pending h e) end w = released_settles e start c fs ss h
-  settle_spans start c fs ss (nows.Long v e) end w = ended_settles e start c fs _
+  settle_spans start c fs ss (nows.Pending h e) end w = released_settles (spot_at e start c) fs ss h
+  settle_spans start c fs ss (nows.Long v e) end w = ended_settles (spot_at e start c) fs _
   settle_spans start c fs ss nows.Ready end w = absurd w
   settle_spans start c fs ss nows.After end w = absurd w
   settle_spans start c fs ss nows.Name end w = absurd w

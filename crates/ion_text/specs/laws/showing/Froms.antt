@@ -22,7 +22,7 @@ use Rattle.ion_text.specs.declared.state.Now.{Now}
 use Rattle.ion_text.specs.declared.state.Now.TheVariants as nows
 use Rattle.ion_text.specs.declared.state.Frame.{Frame}
 use Rattle.ion_text.specs.declared.state.Frame.TheVariants as frames
-use Rattle.ion_text.specs.machine.EachToken.{Reading, Turn, goes, gives, refuses, late, Token, Symbols, at, fresh, place, settle, turn, turned, ended, paid, released, held_payload, within}
+use Rattle.ion_text.specs.machine.EachToken.{Spot, under, spot_at, Reading, Turn, goes, gives, refuses, late, Token, Symbols, at, fresh, place, settle, turn, turned, ended, paid, released, held_payload, within}
 use Rattle.ion_text.specs.machine.Run.{State, Effect, uses, tells, leaves, fails, eats, takes, waits, waits_now, unsettled, noticed, on_octet, on_scan, on_settled, on_said, behind_given, behind_left, or_worse, with_scan, token_of, is_top, is_fresh, shut, reaches, run, run_on, once_more}
 use Rattle.ion_text.specs.laws.reading.Segments.{NotRefused, unsettled_waits}
 use Rattle.ion_text.specs.machine.TokenLists.{Walk, walked, stopped, adds, on_turn, on_placed, on_judged, continues, reads}
@@ -68,30 +68,30 @@ module _ (g : Catalog) (l : Limits) where
   top_freed item start end c v (Err e) true = tt
   top_freed item start end c v d false = within_freed start item start end (gives v (fresh c)) (tt, inl refl)
 
-  ended_freed : (end start : ℕ) (c : List Slot) (fs : List Frame) (v : Value) → Leading g l (Freed start) (ended g l.item end start c fs v)
-  ended_freed end start c [] v = top_freed l.item start end c v (next c v g) (is_table v)
-  ended_freed end start c (frames.List ss vs ∷ fs) v = (tt, inr (refl, refl))
-  ended_freed end start c (frames.Sexp ss vs ∷ fs) v = (tt, inr (refl, refl))
-  ended_freed end start c (frames.Named ss ms s ∷ fs) v = (tt, inr (refl, refl))
-  ended_freed end start c (frames.Fields ss ms ∷ fs) v = tt
+  ended_freed : (spot : Spot) (fs : List Frame) (v : Value) → Leading g l (Freed spot.start) (ended (under g l) spot fs v)
+  ended_freed spot [] v = top_freed l.item spot.start spot.end spot.context v (next spot.context v g) (is_table v)
+  ended_freed spot (frames.List ss vs ∷ fs) v = (tt, inr (refl, refl))
+  ended_freed spot (frames.Sexp ss vs ∷ fs) v = (tt, inr (refl, refl))
+  ended_freed spot (frames.Named ss ms s ∷ fs) v = (tt, inr (refl, refl))
+  ended_freed spot (frames.Fields ss ms ∷ fs) v = tt
 
-  paid_freed : (end start : ℕ) (c : List Slot) (fs : List Frame) (ss : Symbols) (q : Result Payload Reason) → Leading g l (Freed start) (paid g l.item end start c fs ss q)
-  paid_freed end start c fs ss (Ok q) = ended_freed end start c fs _
-  paid_freed end start c fs ss (Err e) = tt
+  paid_freed : (spot : Spot) (fs : List Frame) (ss : Symbols) (q : Result Payload Reason) → Leading g l (Freed spot.start) (paid (under g l) spot fs ss q)
+  paid_freed spot fs ss (Ok q) = ended_freed spot fs _
+  paid_freed spot fs ss (Err e) = tt
 
-  released_freed : (end start : ℕ) (c : List Slot) (fs : List Frame) (ss : Symbols) (h : Held) → Leading g l (Freed start) (released g l.item end start c fs ss h)
-  released_freed end start c [] [] (helds.Version true s) = within_freed start l.item start end (goes (fresh system_slots)) (tt, inl refl)
-  released_freed end start c [] [] (helds.Version false s) = tt
-  released_freed end start c [] [] (helds.Symbol s) = paid_freed end start c [] [] (held_payload (helds.Symbol s))
-  released_freed end start c [] [] (helds.Null k) = paid_freed end start c [] [] (held_payload (helds.Null k))
-  released_freed end start c [] [] (helds.Truth b) = paid_freed end start c [] [] (held_payload (helds.Truth b))
-  released_freed end start c [] [] helds.Nan = tt
-  released_freed end start c [] (s ∷ ss) h = paid_freed end start c [] (s ∷ ss) (held_payload h)
-  released_freed end start c (f ∷ fs) ss h = paid_freed end start c (f ∷ fs) ss (held_payload h)
+  released_freed : (spot : Spot) (fs : List Frame) (ss : Symbols) (h : Held) → Leading g l (Freed spot.start) (released (under g l) spot fs ss h)
+  released_freed spot [] [] (helds.Version true s) = within_freed spot.start l.item spot.start spot.end (goes (fresh system_slots)) (tt, inl refl)
+  released_freed spot [] [] (helds.Version false s) = tt
+  released_freed spot [] [] (helds.Symbol s) = paid_freed spot [] [] (held_payload (helds.Symbol s))
+  released_freed spot [] [] (helds.Null k) = paid_freed spot [] [] (held_payload (helds.Null k))
+  released_freed spot [] [] (helds.Truth b) = paid_freed spot [] [] (held_payload (helds.Truth b))
+  released_freed spot [] [] helds.Nan = tt
+  released_freed spot [] (s ∷ ss) h = paid_freed spot [] (s ∷ ss) (held_payload h)
+  released_freed spot (f ∷ fs) ss h = paid_freed spot (f ∷ fs) ss (held_payload h)
 
   pub waiting_freed : (start : ℕ) (c : List Slot) (fs : List Frame) (ss : Symbols) (now : Now) → IsWaiting g l now → Leading g l (Freed start) (settle g l (at start c fs ss now))
-  waiting_freed start c fs ss (nows.Pending h end) w = released_freed end start c fs ss h
-  waiting_freed start c fs ss (nows.Long v end) w = ended_freed end start c fs _
+  waiting_freed start c fs ss (nows.Pending h end) w = released_freed (spot_at end start c) fs ss h
+  waiting_freed start c fs ss (nows.Long v end) w = ended_freed (spot_at end start c) fs _
   waiting_freed start c fs ss nows.Ready w = absurd w
   waiting_freed start c fs ss nows.After w = absurd w
   waiting_freed start c fs ss nows.Name w = absurd w

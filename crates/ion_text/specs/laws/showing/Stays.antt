@@ -18,7 +18,7 @@ use Rattle.ion_text.specs.declared.state.Now.TheVariants as nows
 use Rattle.ion_text.specs.declared.state.Frame.{Frame}
 use Rattle.ion_text.specs.declared.state.Frame.TheVariants as frames
 use Rattle.ion_text.specs.Grammar.{Says, IsName, by_symbol, by_short, by_long, Annotations, no_annotation, one_annotation, Segments, Elements, no_element, comma, Members, no_field, field_comma, is_long, end_of, ends_long, begins_long}
-use Rattle.ion_text.specs.machine.EachToken.{Reading, Token, goes, Symbols, at, fresh, place, place_in, settle, begun_at, on_ready, resolved}
+use Rattle.ion_text.specs.machine.EachToken.{under, spot_at, Reading, Token, goes, Symbols, at, fresh, place, place_in, settle, begun_at, on_ready, resolved}
 use Rattle.ion_text.specs.machine.Run.{is_fresh, is_top}
 use Rattle.ion_text.specs.machine.TokenLists.{done, on_turn, reads, first_token}
 use Rattle.ion_text.specs.laws.reading.Places.{Leading, settle_same, pending_at, long_at}
@@ -257,7 +257,7 @@ module _ (g : Catalog) (l : Limits) where
   ready_outer c fs ss ts deep d = outer c fs d.front d.receives (opened_read c fs d.front true deep d.outer)
 
   -- what may be a symbol waits for `::`
-  symbol_waits : (end start : ℕ) (c : List Slot) (fs : List Frame) (ss : Symbols) (said : Content) (h : Held) → symbol_said said ≡ true → IsHeld c said h → on_ready g l.depth l.item end start c fs ss said ≡ goes (at start c fs ss (nows.Pending h end))
+  symbol_waits : (end start : ℕ) (c : List Slot) (fs : List Frame) (ss : Symbols) (said : Content) (h : Held) → symbol_said said ≡ true → IsHeld c said h → on_ready (under g l) (spot_at end start c) fs ss said ≡ goes (at start c fs ss (nows.Pending h end))
   symbol_waits end start c fs ss (Word w) h e k = ap (λ x. goes (at start c fs ss (nows.Pending x end))) (sym k)
   symbol_waits end start c fs ss (Id id) h e k =
       ap (λ r. resolved r (λ s. goes (at start c fs ss (nows.Pending (helds.Symbol s) end)))) k.1

@@ -23,7 +23,7 @@ use Rattle.ion_text.specs.declared.state.Now.{Now}
 use Rattle.ion_text.specs.declared.state.Now.TheVariants as nows
 use Rattle.ion_text.specs.declared.state.Frame.{Frame}
 use Rattle.ion_text.specs.Grammar.{is_keyword}
-use Rattle.ion_text.specs.machine.EachToken.{Reading, Turn, goes, gives, refuses, late, Symbols, at, place, place_in, settle, turn, turn_now, resolved, keyed, begun_at, held_word}
+use Rattle.ion_text.specs.machine.EachToken.{under, token_at, Reading, Turn, goes, gives, refuses, late, Symbols, at, place, place_in, settle, turn, turn_now, resolved, keyed, begun_at, held_word}
 use Rattle.ion_text.specs.machine.Run.{State, Effect, uses, tells, leaves, fails, eats, takes, waits, waits_now, in_segment, unsettled, noticed, on_octet, on_scan, on_settled, on_said, behind_given, behind_left, or_worse, with_scan, token_of, is_top, is_fresh, shut, reaches, run, run_on, once_more}
 use Rattle.ion_text.specs.machine.Passed.{said_body}
 use Rattle.ion_text.specs.laws.reading.Places.{Leading, settle_same}
@@ -80,7 +80,7 @@ module _ (g : Catalog) (l : Limits) where
   keyword_unfresh start c fs w true = tt
   keyword_unfresh start c fs w false = keyed_unfresh start c fs [] (Some w)
 
-  symbol_unfresh : (begin end start : ℕ) (c : List Slot) (fs : List Frame) (ss : Symbols) (said : Content) (now : Now) → symbol_said said ≡ true → Unfresh (turn_now g l begin end start c fs ss said now)
+  symbol_unfresh : (begin end start : ℕ) (c : List Slot) (fs : List Frame) (ss : Symbols) (said : Content) (now : Now) → symbol_said said ≡ true → Unfresh (turn_now (under g l) (at start c fs ss now) (token_at begin end said) now)
   symbol_unfresh begin end start c fs ss (Word w) nows.Ready h = pending_unfresh (begun_at start begin fs ss) c fs ss (held_word w) end
   symbol_unfresh begin end start c fs ss (Id id) nows.Ready h = resolved_unfresh (resolve c id) _ (λ s. pending_unfresh (begun_at start begin fs ss) c fs ss (helds.Symbol s) end)
   symbol_unfresh begin end start c fs ss (Quoted w) nows.Ready h = pending_unfresh (begun_at start begin fs ss) c fs ss (helds.Symbol (Some w)) end

@@ -3,7 +3,7 @@ use Rattle.ion_tokens.specs.declared.mode.TokenKind.TheVariants as kinds
 use Rattle.ion_tokens.specs.machine.Rests.{past_token}
 use Rattle.ion_text.specs.declared.state.Effect.{Effect}
 use Rattle.ion_text.specs.machine.Nested.{closed}
-use Rattle.ion_text.specs.machine.Views.{open_frames, Does}
+use Rattle.ion_text.specs.machine.Views.{setting_of, spot_of, open_frames, Does}
 use Rattle.ion_text.proofs.Arms.{Moved}
 use Rattle.ion_text.proofs.Nested.{close_strides}
 use Rattle.ion_text.proofs.reader.TextReader.take_close.Goals as goal
@@ -17,4 +17,4 @@ returns-in-Ok-Goes-clause-strides c =
     let move : Moved old.scanner c.move_to.new.self c.past_token.result = record { rests = c.move_to.ensures.rests; failure = c.move_to.ensures.failure; steady = c.move_to.ensures.steady } in
     close_strides old new c.move_to.new.self c.args.rest c.past_token.result c.args.octets.now m c.requires.inside c.requires.rests move c.in-Ok-Goes.ensures.setting more c.in-Some.ensures
     (c.past_token.ensures ∙ ap (λ p. past_token p c.args.rest (kinds.Mark m) 1) c.place-here.ensures)
-    (subst (λ (e : Effect). Does (closed m old.catalog.now old.limits.item (c.args.rest.used + 1) old.start old.context (open_frames old)) (Ok e) new) c.in-Ok-Goes.field-0-is c.in-Ok-Goes.ensures.does)
+    (subst (λ (e : Effect). Does (closed m (setting_of old) (spot_of old (c.args.rest.used + 1)) (open_frames old)) (Ok e) new) c.in-Ok-Goes.field-0-is c.in-Ok-Goes.ensures.does)

@@ -7,7 +7,7 @@ use Rattle.ion_tokens.specs.Places.{is_name}
 use Rattle.ion_tokens.specs.machine.Rests.{past_token}
 use Rattle.ion_text.specs.declared.state.Effect.{Effect}
 use Rattle.ion_text.specs.machine.EachToken.{ended, goes, number_payload, place}
-use Rattle.ion_text.specs.machine.Views.{open_frames, reading_of, Does}
+use Rattle.ion_text.specs.machine.Views.{setting_of, spot_of, open_frames, reading_of, Does}
 use Rattle.ion_text.proofs.Arms.{value_strides, number_says, Moved}
 use Rattle.ion_text.proofs.reader.TextReader.take_number.Goals as goal
 
@@ -24,5 +24,5 @@ returns-in-Ok-Goes-clause-strides c =
     let same : Ok c.in-Ok.read ≡ number_read (take n octets) = c.in-Ok.ensures.only (number_read (take n octets)) (number_reads (take n octets)) in
     value_strides old new c.move_to.new.self c.args.rest c.past_token.result octets kinds.Number (take n octets) n true (Number' c.in-Ok.read) v c.requires.inside c.requires.rests move c.in-Ok-Goes.ensures.setting more
     (c.past_token.ensures ∙ ap (λ p. past_token p c.args.rest kinds.Number n) c.requires.here) c.requires.stage (c.in-Some.ensures (place (reading_of old)) c.args.rest values) (number_says (take n octets) c.in-Ok.read same) refl
-    (subst (λ p. ended old.catalog.now old.limits.item (c.args.rest.used + n) old.start old.context (open_frames old) (annotated old.notes p) ≡ goes (reading_of new)) c.number_payload.ensures
-    (subst (λ (e : Effect). Does (ended old.catalog.now old.limits.item (c.args.rest.used + n) old.start old.context (open_frames old) (annotated old.notes c.number_payload.result)) (Ok e) new) c.in-Ok-Goes.field-0-is c.in-Ok-Goes.ensures.does))
+    (subst (λ p. ended (setting_of old) (spot_of old (c.args.rest.used + n)) (open_frames old) (annotated old.notes p) ≡ goes (reading_of new)) c.number_payload.ensures
+    (subst (λ (e : Effect). Does (ended (setting_of old) (spot_of old (c.args.rest.used + n)) (open_frames old) (annotated old.notes c.number_payload.result)) (Ok e) new) c.in-Ok-Goes.field-0-is c.in-Ok-Goes.ensures.does))

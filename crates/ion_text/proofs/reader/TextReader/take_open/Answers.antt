@@ -5,7 +5,7 @@ use Rattle.ion_tokens.specs.Places.{is_name}
 use Rattle.ion_tokens.specs.machine.Rests.{past_token}
 use Rattle.ion_text.specs.declared.state.Effect.{Effect}
 use Rattle.ion_text.specs.machine.EachToken.{on_ready, place}
-use Rattle.ion_text.specs.machine.Views.{open_frames, reading_of, Does}
+use Rattle.ion_text.specs.machine.Views.{setting_of, spot_of, open_frames, reading_of, Does}
 use Rattle.ion_text.proofs.Arms.{Moved}
 use Rattle.ion_text.proofs.Nested.{open_strides}
 use Rattle.ion_text.proofs.reader.TextReader.take_open.Goals as goal
@@ -20,4 +20,4 @@ returns-in-Ok-Goes-clause-strides c =
     let move : Moved old.scanner c.move_to.new.self c.past_token.result = record { rests = c.move_to.ensures.rests; failure = c.move_to.ensures.failure; steady = c.move_to.ensures.steady } in
     open_strides old new c.move_to.new.self c.args.rest c.past_token.result c.args.octets.now m c.requires.inside c.requires.rests move c.in-Ok-Goes.ensures.setting more c.in-Some.ensures values
     (c.past_token.ensures ∙ ap (λ p. past_token p c.args.rest (kinds.Mark m) 1) c.requires.here) c.requires.stage
-    (subst (λ (e : Effect). Does (on_ready old.catalog.now old.limits.depth old.limits.item (c.args.rest.used + 1) old.start old.context (open_frames old) old.notes (Mark' m)) (Ok e) new) c.in-Ok-Goes.field-0-is c.in-Ok-Goes.ensures.does)
+    (subst (λ (e : Effect). Does (on_ready (setting_of old) (spot_of old (c.args.rest.used + 1)) (open_frames old) old.notes (Mark' m)) (Ok e) new) c.in-Ok-Goes.field-0-is c.in-Ok-Goes.ensures.does)

@@ -7,7 +7,7 @@ use Rattle.ion_tokens.specs.Bodies.{Short}
 use Rattle.ion_tokens.specs.machine.Rests.{past_token}
 use Rattle.ion_text.specs.declared.state.Effect.{Effect}
 use Rattle.ion_text.specs.machine.EachToken.{ended, goes, place}
-use Rattle.ion_text.specs.machine.Views.{open_frames, reading_of, Does}
+use Rattle.ion_text.specs.machine.Views.{setting_of, spot_of, open_frames, reading_of, Does}
 use Rattle.ion_text.proofs.Arms.{value_strides, short_says, Moved}
 use Rattle.ion_text.proofs.reader.TextReader.take_string.Goals as goal
 
@@ -24,5 +24,5 @@ returns-in-Ok-Goes-clause-strides c =
     let text : c.from_string.result ≡ kept = c.from_string.ensures ∙ (c.in_ok-text.ensures.ok ∙ (c.from_utf8_unchecked.ensures ∙ ap (take (n - 2)) (take_rest octets 1))) in
     value_strides old new c.move_to.new.self c.args.rest c.past_token.result octets kinds.ShortString kept n false (Short kept) v c.requires.inside c.requires.rests move c.in-Ok-Goes.ensures.setting more
     (c.past_token.ensures ∙ ap (λ p. past_token p c.args.rest kinds.ShortString n) c.requires.here) c.requires.stage (c.in-Some.ensures.found (place (reading_of old)) c.args.rest) (short_says kept c.in-Some.ensures.text) refl
-    (subst (λ p. ended old.catalog.now old.limits.item (c.args.rest.used + n) old.start old.context (open_frames old) (annotated old.notes (payloads.Str p)) ≡ goes (reading_of new)) text
-    (subst (λ (e : Effect). Does (ended old.catalog.now old.limits.item (c.args.rest.used + n) old.start old.context (open_frames old) (annotated old.notes (payloads.Str c.from_string.result))) (Ok e) new) c.in-Ok-Goes.field-0-is c.in-Ok-Goes.ensures.does))
+    (subst (λ p. ended (setting_of old) (spot_of old (c.args.rest.used + n)) (open_frames old) (annotated old.notes (payloads.Str p)) ≡ goes (reading_of new)) text
+    (subst (λ (e : Effect). Does (ended (setting_of old) (spot_of old (c.args.rest.used + n)) (open_frames old) (annotated old.notes (payloads.Str c.from_string.result))) (Ok e) new) c.in-Ok-Goes.field-0-is c.in-Ok-Goes.ensures.does))

@@ -4,7 +4,7 @@ use Rattle.ion_tokens.specs.machine.Rests.{past_token, past_blank}
 use Rattle.ion_text.specs.declared.state.Effect.{Effect}
 use Rattle.ion_text.specs.laws.reading.FrontTokens.{BeginsSymbol}
 use Rattle.ion_text.specs.machine.EachToken.{ended}
-use Rattle.ion_text.specs.machine.Views.{open_frames, Does}
+use Rattle.ion_text.specs.machine.Views.{setting_of, spot_of, open_frames, Does}
 use Rattle.ion_text.proofs.Arms.{Moved}
 use Rattle.ion_text.proofs.Symbols.{symbol_strides}
 use Rattle.ion_text.proofs.reader.TextReader.take_symbol.Goals as goal
@@ -19,4 +19,4 @@ returns-in-Ok-Goes-clause-strides c =
     symbol_strides old c.whole.new.self c.move_to.new.self c.args.rest c.past_blank-behind.result octets token c.requires.inside c.requires.rests move c.in-Ok-Goes.ensures.setting m c.args.payload c.in-Some.ensures.within
     (c.past_blank-behind.ensures ∙ ap (λ r. past_blank r m) (c.past_token.ensures ∙ ap (λ p. past_token p c.args.rest token.kind token.count) c.requires.here)) c.requires.stage
     (subst (λ p. BeginsSymbol p c.args.rest octets token c.args.payload) c.requires.here c.requires.token) c.in-Some.ensures.passed c.in-Some.ensures.ends
-    (subst (λ (e : Effect). Does (ended old.catalog.now old.limits.item (c.args.rest.used + token.count) old.start old.context (open_frames old) (annotated old.notes c.args.payload)) (Ok e) c.whole.new.self) c.in-Ok-Goes.field-0-is c.in-Ok-Goes.ensures.does)
+    (subst (λ (e : Effect). Does (ended (setting_of old) (spot_of old (c.args.rest.used + token.count)) (open_frames old) (annotated old.notes c.args.payload)) (Ok e) c.whole.new.self) c.in-Ok-Goes.field-0-is c.in-Ok-Goes.ensures.does)

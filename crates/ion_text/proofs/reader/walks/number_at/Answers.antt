@@ -15,6 +15,6 @@ returns c = λ here rest value.
       payload = number_payload c.in-Ok.read;
       found = c.in_ok-count.ensures here rest value;
       says = number_says kept c.in-Ok.read same;
-      is = λ g depth item end start slots fs ss. refl;
+      is = λ setting spot fs ss. refl;
       flat = c.number_kind.ensures;
     }

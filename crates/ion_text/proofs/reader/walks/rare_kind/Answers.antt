@@ -14,13 +14,13 @@ pub returns-in-TypedNull : goal.returns-in-TypedNull
 returns-in-TypedNull c = (payloads.Null c.in-TypedNull.kind, subst (λ b. Pays (held_of (content b)) (payloads.Null c.in-TypedNull.kind)) (sym c.in-TypedNull.is) refl, flat_null c.in-TypedNull.kind)
 
 pub returns-in-Short : goal.returns-in-Short
-returns-in-Short c = (payloads.Str c.in-Short.field-0, λ g depth item end start slots fs ss. ap (λ b. on_ready g depth item end start slots fs ss (content b)) c.in-Short.is, flat_text c.in-Short.field-0)
+returns-in-Short c = (payloads.Str c.in-Short.field-0, λ setting spot fs ss. ap (λ b. on_ready setting spot fs ss (content b)) c.in-Short.is, flat_text c.in-Short.field-0)
 
 pub returns-in-Operator : goal.returns-in-Operator
-returns-in-Operator c = (payloads.Symbol (Some (cow_str_bytes c.in-Operator.field-0)), λ g depth item end start slots fs ss. ap (λ b. on_ready g depth item end start slots fs ss (content b)) c.in-Operator.is, flat_symbol (Some (cow_str_bytes c.in-Operator.field-0)))
+returns-in-Operator c = (payloads.Symbol (Some (cow_str_bytes c.in-Operator.field-0)), λ setting spot fs ss. ap (λ b. on_ready setting spot fs ss (content b)) c.in-Operator.is, flat_symbol (Some (cow_str_bytes c.in-Operator.field-0)))
 
 pub returns-in-Clob : goal.returns-in-Clob
-returns-in-Clob c = (payloads.Clob c.in-Clob.field-0, λ g depth item end start slots fs ss. ap (λ b. on_ready g depth item end start slots fs ss (content b)) c.in-Clob.is, flat_clob c.in-Clob.field-0)
+returns-in-Clob c = (payloads.Clob c.in-Clob.field-0, λ setting spot fs ss. ap (λ b. on_ready setting spot fs ss (content b)) c.in-Clob.is, flat_clob c.in-Clob.field-0)
 
 pub returns-in-Blob : goal.returns-in-Blob
-returns-in-Blob c = (payloads.Blob c.in-Blob.field-0, λ g depth item end start slots fs ss. ap (λ b. on_ready g depth item end start slots fs ss (content b)) c.in-Blob.is, flat_blob c.in-Blob.field-0)
+returns-in-Blob c = (payloads.Blob c.in-Blob.field-0, λ setting spot fs ss. ap (λ b. on_ready setting spot fs ss (content b)) c.in-Blob.is, flat_blob c.in-Blob.field-0)

@@ -14,6 +14,6 @@ returns c = λ here rest.
       payload = payloads.Str kept;
       found = c.in_ok-count.ensures.found here rest;
       says = short_says kept c.in_ok-count.ensures.text;
-      is = λ g depth item end start slots fs ss. refl;
+      is = λ setting spot fs ss. refl;
       flat = flat_text kept;
     }
