@@ -12,4 +12,6 @@ pub mod Fronts
 pub mod Wholes
 pub mod Slotted
 pub mod Walks
+pub mod Transcriptions
+pub mod KnownNames
 pub mod Alikes

@@ -3,6 +3,7 @@ pub mod Opening
 pub mod HeaderRows
 pub mod Output
 pub mod Writing
+pub mod Carrying
 pub mod machine
 pub mod writer
 pub mod laws

@@ -7,4 +7,5 @@ pub mod Pieces
 pub mod AtOnce
 pub mod Framed
 pub mod Walked
+pub mod Transcribed
 pub mod Alike

@@ -8,9 +8,10 @@ mod reader;
 mod scalar;
 mod slots;
 mod state;
+mod transcription;
 mod walk;
 mod whole;
 mod writer;
 
-pub use reader::BinaryReader;
+pub use reader::{BinaryReader, Carried};
 pub use writer::BinaryWriter;

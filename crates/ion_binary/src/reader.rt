@@ -11,6 +11,8 @@ use ion_scalar::Size;
 use ion_symtab::{Catalog, Context, Limits};
 use std::alloc::Global;
 
+pub use passing::Carried;
+
 mod bodies;
 mod frames;
 mod inside;

@@ -1,25 +1,31 @@
 //! The writer of binary documents.
-ghost use Rattle.std.specs.Prelude.{◌≡◌, ◌++◌, Some, None, Ok, Err, true, false, MatchResult, OnOk, OnErr, IfErr, IsOkUnless};
+ghost use Rattle.std.specs.Prelude.{◌≡◌, ◌++◌, Some, None, Ok, Err, true, false, MatchResult, OnOk, OnErr, IfErr, IfSome, IsNone, IsOkUnless};
 ghost use Rattle.ion_model.specs.Kept.{IsKept};
+ghost use Rattle.ion_model.specs.declared.value.Value.{Value as AnyValue};
 ghost use Rattle.ion_symtab.specs.declared.fault.Fault.{Fault as AnyFault};
 ghost use Rattle.ion_symtab.specs.declared.fault.Fault.TheVariants as faults;
 ghost use Rattle.ion_symtab.specs.Took.{Took, TookFront};
 ghost use Rattle.ion_binary.specs.Output.{nothing_yet, adds, after, opening, names_after, table_from};
 ghost use Rattle.ion_binary.specs.Writing.{IsWritingFault};
+ghost use Rattle.ion_binary.specs.Carrying.{WritesValue};
+ghost use Rattle.ion_binary.specs.machine.Transcribed.{IsAdmitted};
 
+use crate::transcription::transcribe;
+use crossings::Crossings;
 use encoding::put_value;
 use guesses::Guesses;
 use ion_model::Value;
-use ion_symtab::{Fault, Outlet, flushed, write_whole};
+use ion_symtab::{Context, Fault, Outlet, flushed, write_whole};
 use names::Names;
 use std::alloc::Global;
 use std::marker::Model;
 use table::put_table;
 
+pub(crate) mod crossings;
 mod encoding;
-mod framing;
+pub(crate) mod framing;
 mod guesses;
-mod names;
+pub(crate) mod names;
 mod table;
 
 /// The marker of Ion 1.0 (Ion 1.0, "Ion Binary Encoding", "Value Streams").
@@ -35,6 +41,7 @@ pub struct BinaryWriter {
     alloc: Global,
     names: Names,
     guesses: Guesses,
+    crossings: Crossings,
     /// The octets of the value that was written last; those of the next value take their memory.
     octets: Vec<u8>,
     /// What was written before them.
@@ -62,6 +69,7 @@ impl BinaryWriter {
             alloc,
             names: Names::system(alloc)?,
             guesses: Guesses::new(alloc),
+            crossings: Crossings::new(alloc),
             octets: Vec::new(alloc),
             front: Vec::new(alloc),
             begun: false,
@@ -88,6 +96,37 @@ impl BinaryWriter {
         }
         let answer = self.put_next(out, value);
         self.note(answer)
+    }
+
+    /// Writes the value that these octets are, of at most so many levels, without building it; its ids stand
+    /// for what they do in this context. The answer is that of `put`.
+    ///
+    /// `None`, with nothing written, where that isn't so or isn't seen: where the value isn't whole, is
+    /// refused, is a local symbol table, has a symbol without an id yet, or the writer has answered a fault.
+    pub(crate) fn put_octets<W: Outlet>(
+        &mut self,
+        out: &mut W,
+        context: &Context,
+        octets: &[u8],
+        level: u32,
+    ) -> Option<Result<(), Fault>>
+        ensures writes { IfSome result (λ answer. (v : AnyValue)
+            × IsAdmitted context.now level octets.now v
+            × WritesValue W.Outlet self.old self.new out.old out.new v answer) }
+        ensures stays { IsNone result → (self.new ≡ self.old) × (out.new ≡ out.old) }
+    {
+        if self.failed.is_some() {
+            return None;
+        }
+        self.octets.clear();
+        let (names, crossings) = (&self.names, &mut self.crossings);
+        let count = transcribe(context, names, crossings, octets, level, &mut self.octets)?;
+        if count < octets.len() {
+            return None;
+        }
+        let answer = put_opened(out, self.begun, &self.octets);
+        self.begun = true;
+        Some(self.note(answer))
     }
 
     /// Writes the version marker where no value was put, and makes the device pass on all that it took.
@@ -142,6 +181,19 @@ impl BinaryWriter {
         write_whole(out, &self.front)?;
         write_whole(out, &self.octets)
     }
+}
+
+// Writes octets, behind the marker where none is out. The only fault is `Write`.
+fn put_opened<W: Outlet>(out: &mut W, begun: bool, octets: &[u8]) -> Result<(), Fault>
+    ensures ok { OnOk result (Took W.took W.written out.old out.new (opening begun ++ octets.now)) }
+    ensures front { OnErr result (TookFront W.took W.written out.old out.new (opening begun ++ octets.now)) }
+    ensures cause { IfErr result (λ fault. (fault ≡ faults.Write) × (W.has_failed out.new ≡ true)) }
+{
+    if begun {
+        return write_whole(out, octets);
+    }
+    write_whole(out, &MARKER)?;
+    write_whole(out, octets)
 }
 
 // Appends what stands before a value: the marker where none is out, and the table of the names from an id

@@ -5,12 +5,25 @@ ghost use Rattle.ion_model.specs.Outlines.{outline_of};
 ghost use Rattle.ion_binary.specs.machine.Run.{Advances};
 ghost use Rattle.ion_binary.specs.machine.Views.{machine_of, run_of, open_frames, SameSetting};
 ghost use Rattle.ion_binary.specs.declared.state.Phase.TheVariants as phases;
+ghost use Rattle.ion_binary.specs.Carrying.{TookUp, WritesValue};
 
 use super::BinaryReader;
 use crate::alike::alike_value;
 use crate::form::Form;
 use crate::walk::{Tally, walk_value};
+use crate::whole::extent;
+use crate::writer::BinaryWriter;
 use ion_model::Outline;
+use ion_symtab::{Fault, Outlet};
+
+/// What became of a value that was carried from a reader to a writer.
+#[derive(Clone, Copy, Debug, Drop)]
+pub struct Carried {
+    /// How many octets of the piece the reader took up.
+    pub used: usize,
+    /// What the writer answered.
+    pub written: Result<(), Fault>,
+}
 
 impl BinaryReader<'_> {
     /// Whether a value of the top level may begin with the next octet and wasn't tried whole yet.
@@ -93,5 +106,42 @@ impl BinaryReader<'_> {
         other.used = other_used;
         other.start = other_used;
         Some((count, other_count))
+    }
+
+    /// Takes up the octets of the value at the front of a piece, and writes it by a writer, without
+    /// building it. The answer is that of `BinaryWriter::put`.
+    ///
+    /// `None`, with nothing taken up and nothing written, where a container is open, or the value isn't
+    /// whole, may not stand here, has a symbol that the writer didn't write yet, or is in any way
+    /// unusual, and where the reader or the writer has failed.
+    pub fn carry<W: Outlet>(
+        &mut self,
+        piece: &[u8],
+        writer: &mut BinaryWriter,
+        out: &mut W,
+    ) -> Option<Carried>
+        requires room { self.old.used + length piece.now < 2 ^ 63 }
+        ensures carries { IfSome result (λ carried. (v : Value)
+            × TookUp self.old self.new piece.now carried.used v
+            × WritesValue W.Outlet writer.old writer.new out.old out.new v carried.written) }
+        ensures stays { IsNone result →
+            (self.new ≡ self.old) × (writer.new ≡ writer.old) × (out.new ≡ out.old) }
+    {
+        if self.failed.is_some() || !self.may_walk() {
+            return None;
+        }
+        let count = extent(piece);
+        let used = self.used + count as u64;
+        if count == 0 || self.unfit(Form::Wrapper, used).is_some() {
+            return None;
+        }
+        let octets = &piece[..count];
+        let written = writer.put_octets(out, &self.context, octets, self.limits.depth)?;
+        self.used = used;
+        self.start = used;
+        Some(Carried {
+            used: count,
+            written,
+        })
     }
 }

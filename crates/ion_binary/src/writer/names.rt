@@ -1,10 +1,11 @@
 //! The ids that a writer has given to symbols (Ion 1.0, "Symbols", "Symbol IDs").
-ghost use Rattle.std.specs.Prelude.{◌≡◌, ◌<◌, ◌≤◌, ◌^◌, Some, true, length, map, drop, MatchResult, IfErr, IfOk, OnOk};
+ghost use Rattle.std.specs.Prelude.{◌≡◌, ◌<◌, ◌≤◌, ◌^◌, Some, true, length, map, drop, MatchResult, IfErr, IfOk, IfSome, OnOk};
 ghost use Rattle.ion_model.specs.Symbols.{symbol_same};
 ghost use Rattle.ion_symtab.specs.declared.fault.Fault.TheVariants as faults;
 ghost use Rattle.ion_binary.specs.Output.{Names as SymbolsById, system_names, id_of, with_name, with_names};
 ghost use Rattle.ion_binary.specs.Writing.{IsNumberingFault};
 ghost use Rattle.ion_binary.specs.writer.Later.{IsLater};
+ghost use Rattle.ion_binary.specs.machine.Transcribed.{HasId};
 
 use super::guesses::Guesses;
 use ion_model::Symbol;
@@ -87,8 +88,8 @@ impl Names {
         Ok(id as u64)
     }
 
-    // Whether this is the symbol's id. Takes no look by its text.
-    fn stands_at(&self, id: usize, symbol: &Symbol) -> bool
+    /// Whether this is the symbol's id. Takes no look by its text.
+    pub(crate) fn stands_at(&self, id: usize, symbol: &Symbol) -> bool
         ensures id { result ≡ true → id ≡ id_of self.now symbol.now }
         ensures small { result ≡ true → id < 2 ^ 63 }
         ensures named { result ≡ true → with_name self.now symbol.now ≡ self.now }
@@ -130,6 +131,14 @@ impl Names {
         self.ids.insert(key, next)?;
         self.symbols.push(symbol)?;
         Ok(next)
+    }
+
+    /// The id of a symbol, if it has one.
+    #[inline(never)]
+    pub(crate) fn known_id(&self, symbol: &Symbol) -> Option<usize>
+        ensures { IfSome result (λ id. HasId self.now symbol.now id) }
+    {
+        self.ids.get(symbol).copied()
     }
 
     /// The id of a text, or how many symbols there are, where it has none. The only fault is `Memory`.

@@ -16,11 +16,11 @@ use Rattle.ion_binary.specs.declared.form.Listing.TheVariants as listings
 use Rattle.ion_binary.specs.Grammar.{IsScalar, is_int, is_negative, is_decimal, is_timestamp, is_symbol, is_string, is_clob, is_blob, Ids, no_ids, one_id, listed, Plain, is_null, is_truth, is_scalar, is_listing, is_struct, is_ordered, Binary, unannotated, wrapped, Sequence, nothing, one_more, padded, Fields, one_field, padded_field}
 use Rattle.ion_binary.specs.Grammar as grammar
 
-negative_whole : (n : ℕ) → n < 2 ^ 127 → IsWhole (neg_ℤ (pos n))
+pub negative_whole : (n : ℕ) → n < 2 ^ 127 → IsWhole (neg_ℤ (pos n))
 negative_whole zero h = omega arith
 negative_whole (suc n) h = omega arith
 
-kept_listed : (x : Listing) (vs : List Value) → KeptItems vs → KeptPayload (listed x vs)
+pub kept_listed : (x : Listing) (vs : List Value) → KeptItems vs → KeptPayload (listed x vs)
 kept_listed listings.List vs h = kept_list vs h
 kept_listed listings.Sexp vs h = kept_sexp vs h
 
