@@ -11,3 +11,4 @@ pub mod Conversions
 pub mod Loads
 pub mod Described
 pub mod Tables
+pub mod Carrying

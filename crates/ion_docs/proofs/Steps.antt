@@ -1,5 +1,5 @@
 -- How far a document has been read, step by step.
-use Rattle.std.proofs.Common.{◌≡◌, ℕ, ◌+◌, ◌^◌, ◌≤◌, List, [], ◌∷◌, ◌++◌, length, refl, ap, sym, subst, ◌∙◌, arith, Bool, true, false, Option, Some, None, option_map, option_to_list, append-nil, length-append, Result, Ok, Err, IfOk, OnErr}
+use Rattle.std.proofs.Common.{◌≡◌, ℕ, ◌+◌, ◌^◌, ◌≤◌, List, [], ◌∷◌, ◌++◌, length, refl, ap, sym, subst, ◌∙◌, arith, Bool, true, false, Option, Some, None, option_map, option_to_list, append-nil, length-append, Result, Ok, Err, OnErr}
 use Rattle.std.proofs.lemmas.List.{map-append}
 use Rattle.ion_model.specs.declared.value.Value.{Value}
 use Rattle.ion_model.specs.declared.refusal.Refusal.{Refusal}
@@ -14,13 +14,12 @@ use Rattle.ion_symtab.specs.laws.Causes.{WereMade-nil}
 use Rattle.ion_docs.specs.Formats.{format_of}
 use Rattle.ion_docs.specs.reading.Read.{left_of, Begins, IsReady, IsWithin, Went, GaveEach, GaveSoFar, Reads, ReadsEach}
 use Rattle.ion_docs.specs.Outcomes.{EndsWell, EndsRefused, ToldDocument, ToldRefused, ToldEach, ToldRefusedEach}
-use Rattle.ion_docs.specs.reading.Standing.{IfOpen, MatchClosed, Stood, StoodEach}
+use Rattle.ion_docs.specs.reading.Standing.{IfOpen, MatchClosed, work_of, Stood, StoodEach}
 use Rattle.ion_docs.specs.reading.Reached.{Reaches}
 use Rattle.ion_docs.specs.declared.source.Source.{Source}
 use Rattle.ion_docs.specs.declared.source.Reached.TheVariants.{Value as AValue}
 use Rattle.ion_docs.specs.declared.source.Standing.{Standing}
 use Rattle.ion_docs.specs.declared.source.Standing.TheVariants as TheStanding
-use Rattle.ion_symtab.specs.declared.fault.Fault.{Fault}
 
 pub on_err : {A E : Type 0} (result : Result A E) (P : Type 0) → P → OnErr result P
 on_err (Ok a) P p = tt
@@ -132,18 +131,17 @@ module _ {S X : Type 0} (R : Inlet S) (I : Items X) (g : Catalog) (l : Limits) w
   stood_plain first now TheStanding.Ended given h = record { octets = h.octets; told = h.told; heard = h.heard; denoted = h.ends.denoted }
   stood_plain first now (TheStanding.Refused refusal) given h = record { octets = h.octets; ended = h.ended; heard = h.heard; refused = λ more may. (h.ends more may).refused }
 
-  -- the values alone, also of the next one
-  pub stood_next : (first old now : S) (source : Source X) (place : Standing X) (found : Option (Value × ℕ)) (value : Option Value) (s : List Value) → option_map (λ (x : Value × ℕ). x.0) found ≡ value →
-      ((given : List (Value × ℕ)) → ReadsEach R I g l first old source given → StoodEach R I g l first now place (given ++ option_to_list found)) →
-      Reads R I g l first old source s → Stood R I g l first now place (s ++ option_to_list value)
-  stood_next first old now source place found value s same go h =
-      subst (λ (x : List Value). Stood R I g l first now place x) (plain_next h.given found value s h.values same) (stood_plain first now place (h.given ++ option_to_list found) (go h.given h.each))
-
   -- a document that can't be read on and isn't refused was one
   pub stood_ended : (first now : S) (place : Standing X) (s : List Value) → IfOpen place (λ source. ⊥) → ((r : Refusal) → place ≡ TheStanding.Refused r → ⊥) → Stood R I g l first now place s → ToldDocument R (format_of I g l) first now s
   stood_ended first now (TheStanding.Open source) s closed other h = absurd closed
   stood_ended first now TheStanding.Ended s closed other h = h
   stood_ended first now (TheStanding.Refused r) s closed other h = absurd (other r refl)
+
+  -- the same with the total of octets used when each value came
+  pub each_ended : (first now : S) (place : Standing X) (given : List (Value × ℕ)) → IfOpen place (λ source. ⊥) → ((r : Refusal) → place ≡ TheStanding.Refused r → ⊥) → StoodEach R I g l first now place given → ToldEach R (format_of I g l) first now given
+  each_ended first now (TheStanding.Open source) given closed other h = absurd closed
+  each_ended first now TheStanding.Ended given closed other h = h
+  each_ended first now (TheStanding.Refused r) given closed other h = absurd (other r refl)
 
   -- the values alone before a refusal
   pub refused_plain : (first now : S) (refusal : Refusal) (given : List (Value × ℕ)) (s : List Value) → plain given ≡ s → ToldRefusedEach R (format_of I g l) first now given refusal → ToldRefused R (format_of I g l) first now s refusal
@@ -154,6 +152,11 @@ module _ {S X : Type 0} (R : Inlet S) (I : Items X) (g : Catalog) (l : Limits) w
       (v : Value) × (of v ≡ found) × Reads R I g l first now after (s ++ v ∷ [])
   reads_more of first old now source after s found h w =
       (w.0, w.1, record { given = h.given ++ (w.0, after.used) ∷ []; each = w.2; values = plain_next h.given (Some (w.0, after.used)) (Some w.0) s h.values refl })
+
+  -- the next value is the one that is told
+  pub each_next : (first now : S) (after : Source X) (given : List (Value × ℕ)) (v : Value) → Reaches (λ (x : Value). x) R I g l first now after given (AValue v) →
+      ReadsEach R I g l first now after (given ++ (v, after.used) ∷ [])
+  each_next first now after given v w = subst (λ (x : Value). ReadsEach R I g l first now after (given ++ (x, after.used) ∷ [])) w.1 w.2
 
   pub reads_next : (first old now : S) (source after : Source X) (s : List Value) (v : Value) (h : Reads R I g l first old source s) → Reaches (λ (x : Value). x) R I g l first now after h.given (AValue v) →
       Reads R I g l first now after (s ++ v ∷ [])
@@ -169,13 +172,16 @@ module _ {S X : Type 0} (R : Inlet S) (I : Items X) (g : Catalog) (l : Limits) w
   stood_last first now source place found value given s same values empty ends h =
       subst (λ (x : List Value). Stood R I g l first now place x) (plain_next given found value s values same) (stood_plain first now place (given ++ option_to_list found) (last_gives first now source given place found empty ends h))
 
-pub last_for : {S X : Type 0} (R : Inlet S) (I : Items X) (now : S) (source : Source X) (result : Result (Standing X × Option (Value × ℕ)) Fault) → left_of source ≡ [] →
-    IfOk result (λ next. (u : List ℕ) (given : List (Value × ℕ)) → I.stands source.items u given → MatchClosed next.0 (EndsWell (format_of I (I.catalog source.items) (I.limits source.items)) u (given ++ option_to_list next.1))
-    (λ r. (next.1 ≡ None) × EndsRefused (format_of I (I.catalog source.items) (I.limits source.items)) u given r)) →
-    (Q : Catalog → Limits → S → List (Value × ℕ) → Type 0) → ((g : Catalog) (l : Limits) (first : S) (given : List (Value × ℕ)) → Q g l first given → GaveEach R I g l first now source.items (left_of source) true given) →
-    IfOk result (λ next. (g : Catalog) (l : Limits) (first : S) (given : List (Value × ℕ)) → Q g l first given → StoodEach R I g l first now next.0 (given ++ option_to_list next.1))
-last_for R I now source (Err e) empty ends Q start = tt
-last_for R I now source (Ok next) empty ends Q start = λ g l first given q. last_gives R I g l first now source given next.0 next.1 empty ends (start g l first given q)
+-- of a document that can't be read on
+pub closed_open : {X : Type 0} (place : Standing X) (P : Source X → Type 0) → IfOpen place (λ source. ⊥) → IfOpen place P
+closed_open (TheStanding.Open source) P closed = absurd closed
+closed_open TheStanding.Ended P closed = tt
+closed_open (TheStanding.Refused r) P closed = tt
+
+pub closed_work : {X : Type 0} (I : Items X) (place : Standing X) → IfOpen place (λ source. ⊥) → work_of I place ≡ 0
+closed_work I (TheStanding.Open source) closed = absurd closed
+closed_work I TheStanding.Ended closed = refl
+closed_work I (TheStanding.Refused r) closed = refl
 
 -- nothing was read yet
 pub each_begun : {S X : Type 0} (R : Inlet S) (I : Items X) (now : S) (source : Source X) (items : X) → I.stands items [] [] → source.items ≡ items → left_of source ≡ [] →

@@ -7,7 +7,7 @@ ghost use Rattle.ion_docs.specs.reading.Read.{IsFresh};
 ghost use Rattle.ion_docs.specs.Loaded.{added, catalog_of, IsLoaded};
 
 use crate::doc_reader::DocReader;
-use crate::source::{Source, Standing, next_placed};
+use crate::source::{Reached, Source, Standing, last};
 use ion_model::{Reason, Refusal, Value};
 use ion_symtab::{Catalog, Fault, Inlet, Items, Limits, SharedTable};
 use std::alloc::Global;
@@ -54,15 +54,24 @@ pub fn load_items<I: Items + Drop, R: Inlet>(
     let mut source = Source::new(alloc, items, reads)?;
     let mut catalog = Catalog::new(alloc);
     loop {
-        let (place, found) = next_placed(source, reader)?;
-        match add_found(alloc, &mut catalog, found)? {
-            Err(refusal) => return Ok(Err(refusal)),
-            Ok(()) => {}
-        }
-        match place {
-            Standing::Open(after) => source = after,
-            Standing::Ended => return Ok(Ok(catalog)),
-            Standing::Refused(refusal) => return Ok(Err(refusal)),
+        match source.read_on(reader)? {
+            Reached::Value(value) => {
+                let found = Some((value, source.offset()));
+                if let Err(refusal) = add_found(alloc, &mut catalog, found)? {
+                    return Ok(Err(refusal));
+                }
+            }
+            Reached::Refused(refusal) => return Ok(Err(refusal)),
+            Reached::End => {
+                let (place, found) = last(source)?;
+                if let Err(refusal) = add_found(alloc, &mut catalog, found)? {
+                    return Ok(Err(refusal));
+                }
+                if let Standing::Refused(refusal) = place {
+                    return Ok(Err(refusal));
+                }
+                return Ok(Ok(catalog));
+            }
         }
     }
 }

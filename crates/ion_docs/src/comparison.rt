@@ -8,7 +8,7 @@ ghost use Rattle.ion_docs.specs.reading.Read.{IsFresh, IsReady};
 ghost use Rattle.ion_docs.specs.Compared.{IsCompared};
 ghost use Rattle.ion_docs.specs.reading.Courses.{IsMet, count_of, verdict_of};
 
-use crate::source::{Source, Standing, advance};
+use crate::source::{Source, Standing};
 use ion_model::{Path, Refusal, Value, parting};
 use ion_symtab::{Fault, Inlet, Items};
 use std::alloc::Global;
@@ -180,20 +180,18 @@ pub fn compare_items<I: Items + Drop, L: Inlet, R: Inlet>(
         if go_alike(&mut course, &mut left_place, &mut right_place) {
             continue;
         }
-        let (left_now, left_value) = advance(left_place, left)?;
-        if let Standing::Refused(refusal) = left_now {
+        let left_value = left_place.advance(left)?;
+        if let Standing::Refused(refusal) = left_place {
             return Ok(Verdict::Refused {
                 side: Side::Left,
                 refusal,
             });
         }
-        let (right_now, right_value) = advance(right_place, right)?;
+        let right_value = right_place.advance(right)?;
         course = match course.meet(alloc, left_value, right_value) {
             Err(fault) => return Err(fault),
             Ok(course) => course,
         };
-        left_place = left_now;
-        right_place = right_now;
         if !left_place.is_open() && !right_place.is_open() {
             return Ok(course.verdict(right_place));
         }

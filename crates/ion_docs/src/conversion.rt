@@ -9,6 +9,7 @@ ghost use Rattle.ion_docs.specs.reading.Read.{IsFresh};
 ghost use Rattle.ion_docs.specs.Conversion.{WritesKept};
 ghost use Rattle.ion_docs.specs.Converted.{IsConverted, ReadSoFar, ConvertsSoFar, IsConvertCause};
 
+use crate::carriers::{Building, Carrier};
 use crate::source::{Reached, Source, counted, last, value_of};
 use crate::writers::Encoder;
 use ion_model::{Refusal, Value};
@@ -88,10 +89,49 @@ pub fn convert_items<E: Encoder + Drop, I: Items + Drop, R: Inlet, W: Outlet>(
         (ReadSoFar R.Inlet I.Items (I.catalog items) (I.limits items) reader.old reader.new)
         (W.has_failed writer.new) fault) }
 {
+    convert_by::<Building, E, I, R, W>(alloc, encoder, items, reads, reader, writer)
+}
+
+/// The same, where `C` carries values.
+pub(crate) fn convert_by<C: Carrier<I, E>, E: Encoder + Drop, I: Items + Drop, R: Inlet, W: Outlet>(
+    alloc: Global,
+    encoder: E,
+    items: I,
+    reads: u64,
+    reader: &mut R,
+    writer: &mut W,
+) -> Result<Result<u64, Refusal>, Fault>
+    requires begins { E.has_put encoder [] }
+    requires fresh { IsFresh I.Items items }
+    requires reads { reads ≤ 2 ^ 32 }
+    ensures converted { IfOk result (IsConverted R.Inlet W.Outlet E.encoding
+        (format_of I.Items (I.catalog items) (I.limits items))
+        reader.old reader.new writer.old writer.new) }
+    ensures kept { IfOk result (WritesKept R.Inlet W.Outlet E.encoding
+        (format_of I.Items (I.catalog items) (I.limits items))
+        reader.old reader.new writer.old writer.new) }
+    ensures passed_on { OnOk result (W.passed writer.new ≡ W.written writer.new) }
+    ensures fine { OnOk result (W.has_failed writer.new ≡ false) }
+    ensures so_far { OnErr result (ConvertsSoFar E.encoding
+        (ReadSoFar R.Inlet I.Items (I.catalog items) (I.limits items) reader.old reader.new)
+        W.Outlet writer.old writer.new) }
+    ensures cause { IfErr result (λ fault.
+        IsReadCause R.Inlet reads reader.old reader.new fault ⊎ IsConvertCause E.encoding
+        (ReadSoFar R.Inlet I.Items (I.catalog items) (I.limits items) reader.old reader.new)
+        (W.has_failed writer.new) fault) }
+{
     let mut source = Source::new(alloc, items, reads)?;
     let mut encoder = encoder;
     let mut values: u64 = 0;
     loop {
+        match source.carry::<C, E, W>(&mut encoder, writer) {
+            None => {}
+            Some(Err(fault)) => return Err(fault),
+            Some(Ok(())) => {
+                values += 1;
+                continue;
+            }
+        }
         match source.read_on(reader)? {
             Reached::Value(value) => {
                 values = convert_next(&mut encoder, writer, values, Some(value))?;

@@ -1,14 +1,17 @@
 //! The reader that the first octet chooses.
-ghost use Rattle.std.specs.Prelude.{◌≡◌, ℕ, ◌+◌, ◌*◌, ◌^◌, ◌<◌, ◌≤◌, List, [], ◌∷◌, ◌++◌, length, take, drop, IfOk, IfErr, IfSome, IsSome, None, Some};
+ghost use Rattle.std.specs.Prelude.{◌≡◌, ℕ, ◌+◌, ◌*◌, ◌^◌, ◌<◌, ◌≤◌, List, [], ◌∷◌, ◌++◌, length, take, drop, IfOk, IfErr, IfSome, IsNone, IsSome, None, Some};
 ghost use Rattle.ion_symtab.specs.Trace.{Answers, UsesAll, given_at};
 ghost use Rattle.ion_docs.specs.reading.Chosen.{chosen};
 ghost use Rattle.ion_docs.specs.reading.DocStands.{DocStands, taken_of, failed_of, awaits_of, pending_of};
 ghost use Rattle.ion_model.specs.declared.refusal.Reason.TheVariants.{Memory};
 ghost use Rattle.ion_model.specs.declared.value.Value.{Value as AnyValue};
+ghost use Rattle.ion_model.specs.Kept.{IsKept};
+ghost use Rattle.ion_binary.specs.Carrying.{WritesValue};
+ghost use Rattle.ion_docs.specs.Carried.{TookUp};
 
-use ion_binary::BinaryReader;
+use ion_binary::{BinaryReader, BinaryWriter, Carried};
 use ion_model::{Reason, Refusal, Value};
-use ion_symtab::{Catalog, Items, Limits, Passed, Step};
+use ion_symtab::{Catalog, Items, Limits, Outlet, Passed, Step};
 use ion_text::TextReader;
 use std::alloc::Global;
 
@@ -118,6 +121,29 @@ impl<'a> DocReader<'a> {
                     result
                 }
             },
+        }
+    }
+}
+
+impl<'a> DocReader<'a> {
+    /// Takes up the octets of the value at the front of a piece and writes it, without building it, as
+    /// `BinaryReader::carry` does. `None`, with all as it was, also where the document isn't binary.
+    pub(crate) fn carry<W: Outlet>(
+        &mut self,
+        piece: &[u8],
+        writer: &mut BinaryWriter,
+        out: &mut W,
+    ) -> Option<Carried>
+        requires room { taken_of self.old.format + length piece.now < 2 ^ 63 }
+        ensures carries { IfSome result (λ carried. (v : AnyValue) × IsKept v
+            × TookUp ⟦<DocReader<'a> as Items>⟧ self.old self.new piece.now carried.used v
+            × WritesValue W.Outlet writer.old writer.new out.old out.new v carried.written) }
+        ensures stays { IsNone result →
+            (self.new ≡ self.old) × (writer.new ≡ writer.old) × (out.new ≡ out.old) }
+    {
+        match &mut self.format {
+            Format::Binary(reader) => reader.carry(piece, writer, out),
+            _ => None,
         }
     }
 }

@@ -9,9 +9,10 @@ ghost use Rattle.ion_docs.specs.Conversion.{KeepsStream};
 ghost use Rattle.ion_docs.specs.Converted.{IsConverted, ReadSoFar, ConvertsSoFar, IsConvertCause};
 ghost use Rattle.ion_docs.specs.Listing.{IsShown, IsWriteCause, ShowsSoFar};
 
+use crate::carriers::Transcribing;
 use crate::checking::check_items;
 use crate::comparison::{Verdict, compare_items};
-use crate::conversion::{Target, convert_items};
+use crate::conversion::{Target, convert_by, convert_items};
 use crate::doc_reader::DocReader;
 use crate::listing::show_items;
 use ion_binary::BinaryWriter;
@@ -108,7 +109,10 @@ pub fn convert<R: Inlet, W: Outlet>(
     match target {
         Target::Binary => {
             let encoder = BinaryWriter::new(alloc)?;
-            convert_items(alloc, encoder, items, limits.reads(), reader, writer)
+            let reads = limits.reads();
+            convert_by::<Transcribing, BinaryWriter, DocReader<'_>, R, W>(
+                alloc, encoder, items, reads, reader, writer,
+            )
         }
         Target::Text => {
             let encoder = TextWriter::new(alloc);

@@ -2,6 +2,7 @@
 //! equivalent streams, and the conversion of one.
 #![tactic(auto)]
 
+mod carriers;
 mod catalogs;
 mod checking;
 mod comparison;

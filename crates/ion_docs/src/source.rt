@@ -10,13 +10,15 @@ ghost use Rattle.ion_docs.specs.Formats.{format_of};
 ghost use Rattle.ion_docs.specs.reading.Read.{left_of, IsReady, IsWithin, work, Went, GaveEach, Reads, ReadsEach, GaveSoFar};
 ghost use Rattle.ion_docs.specs.reading.Reached.{IfValue, IfEnd, IsSpent, Reaches};
 ghost use Rattle.ion_docs.specs.Outcomes.{EndsWell, EndsRefused};
-ghost use Rattle.ion_docs.specs.reading.Standing.{IfOpen, IsOpen, IfClosed, MatchClosed, work_of, Stood, StoodEach};
+ghost use Rattle.ion_docs.specs.reading.Standing.{IfOpen, IsOpen, IfClosed, MatchClosed, work_of, Stood};
 
 use ion_model::{Reason, Refusal, Value};
 use ion_symtab::{Fault, Inlet, Items, Step};
 use std::alloc::Global;
+use std::mem;
 
 mod alike;
+mod carrying;
 mod passing;
 
 pub(crate) use passing::{counted, pass_all};
@@ -61,6 +63,13 @@ impl<I: Items + Drop> Source<I> {
             reads,
             used: 0,
         })
+    }
+
+    /// How many octets of the document are used.
+    pub(crate) fn offset(&self) -> u64
+        ensures { result ≡ self.now.used }
+    {
+        self.used
     }
 
     /// Takes up octets of the piece, up to the next value or to the piece's end.
@@ -239,34 +248,70 @@ impl<I> Standing<I> {
     }
 }
 
-/// Reads on up to the next value, or to the end: where the document stands then, and the value, if
-/// there is one. Without a value the document isn't open any more.
-///
-/// Faults are `Memory`, `Read` and `TooManyReads`.
-pub fn next_value<I: Items + Drop, R: Inlet>(
-    source: Source<I>,
-    reader: &mut R,
-) -> Result<(Standing<I>, Option<Value>), Fault>
-    requires { IsReady I.Items source }
-    ensures gives { IfOk result (λ next. (g : Catalog) (l : Limits) (first : R) (s : List Value) →
-        Reads R.Inlet I.Items g l first reader.old source s →
-        Stood R.Inlet I.Items g l first reader.new next.0 (s ++ option_to_list next.1)) }
-    ensures ready { IfOk result (λ next. IfOpen next.0 (IsReady I.Items)) }
-    ensures none { IfOk result (λ next. next.1 ≡ Option.None → IfOpen next.0 (λ after. ⊥)) }
-    ensures less { IfOk result (λ next. work_of I.Items next.0 < work I.Items source + 1) }
-    ensures within { IfOk result (λ next. (first : R) (reads : ℕ) →
-        IsWithin R.Inlet reads first reader.old source →
-        IfOpen next.0 (IsWithin R.Inlet reads first reader.new)) }
-    ensures cause { IfErr result (λ fault. (first : R) (reads : ℕ) →
-        IsWithin R.Inlet reads first reader.old source →
-        IsReadCause R.Inlet reads first reader.new fault) }
-    ensures kept { OnErr result ((g : Catalog) (l : Limits) (first : R) (s : List Value) →
-        Reads R.Inlet I.Items g l first reader.old source s →
-        GaveSoFar R.Inlet I.Items g l first reader.new s) }
-{
-    match next_placed(source, reader) {
-        Err(fault) => Err(fault),
-        Ok((place, found)) => Ok((place, value_of(found))),
+impl<I: Items + Drop> Standing<I> {
+    /// Reads on up to the next value, or to the end, where the document is open; else it stays
+    /// where it stands. Without a value the document isn't open any more.
+    ///
+    /// Faults are `Memory`, `Read` and `TooManyReads`.
+    pub(crate) fn advance<R: Inlet>(&mut self, reader: &mut R) -> Result<Option<Value>, Fault>
+        requires { IfOpen self.old (IsReady I.Items) }
+        ensures gives { IfOk result (λ value.
+            (g : Catalog) (l : Limits) (first : R) (s : List Value) →
+            Stood R.Inlet I.Items g l first reader.old self.old s →
+            Stood R.Inlet I.Items g l first reader.new self.new (s ++ option_to_list value)) }
+        ensures ready { IfOk result (λ value. IfOpen self.new (IsReady I.Items)) }
+        ensures none { IfOk result (λ value. value ≡ Option.None → IfOpen self.new (λ after. ⊥)) }
+        ensures less { IfOk result (λ value.
+            IfOpen self.old (λ source. work_of I.Items self.new < work_of I.Items self.old)) }
+        ensures closed { IfOk result (λ value.
+            IfClosed self.old ((self.new ≡ self.old) × (value ≡ Option.None))) }
+        ensures within { IfOk result (λ value. (first : R) (reads : ℕ) →
+            IfOpen self.old (IsWithin R.Inlet reads first reader.old) →
+            IfOpen self.new (IsWithin R.Inlet reads first reader.new)) }
+        ensures cause { IfErr result (λ fault. (first : R) (reads : ℕ) →
+            IfOpen self.old (IsWithin R.Inlet reads first reader.old) →
+            IsReadCause R.Inlet reads first reader.new fault) }
+    {
+        match self {
+            Standing::Open(source) => match source.read_on(reader)? {
+                Reached::Value(value) => Ok(Some(value)),
+                Reached::Refused(refusal) => {
+                    *self = Standing::Refused(refusal);
+                    Ok(None)
+                }
+                Reached::End => Ok(value_of(self.close()?)),
+            },
+            Standing::Ended => Ok(None),
+            Standing::Refused(_) => Ok(None),
+        }
+    }
+
+    /// Closes a document whose octets were all used: it stands where `last` says, and gives what
+    /// that gives.
+    fn close(&mut self) -> Result<Option<(Value, u64)>, Fault>
+        requires { IfOpen self.old (IsSpent I.Items) }
+        ensures ends { IfOk result (λ found. IfOpen self.old (λ source.
+            (u : List ℕ) (given : List (Value × ℕ)) → I.stands source.items u given →
+            MatchClosed self.new
+            (EndsWell (format_of I.Items (I.catalog source.items) (I.limits source.items)) u
+            (given ++ option_to_list found))
+            (λ refusal. (found ≡ Option.None) × EndsRefused
+            (format_of I.Items (I.catalog source.items) (I.limits source.items))
+            u given refusal))) }
+        ensures closed { IfOk result (λ found. IfOpen self.new (λ source. ⊥)) }
+        ensures cause { IfErr result (λ fault. fault ≡ Fault.Memory) }
+    {
+        match mem::replace(self, Standing::Ended) {
+            Standing::Open(source) => {
+                let (place, found) = last(source)?;
+                *self = place;
+                Ok(found)
+            }
+            closed => {
+                *self = closed;
+                Ok(None)
+            }
+        }
     }
 }
 
@@ -277,40 +322,6 @@ pub(crate) fn value_of(found: Option<(Value, u64)>) -> Option<Value>
     match found {
         None => None,
         Some((value, _)) => Some(value),
-    }
-}
-
-/// Reads on as `next_value` does. The value comes with the number of octets that were used by then:
-/// those of all pieces where only the end showed it to be whole.
-pub fn next_placed<I: Items + Drop, R: Inlet>(
-    mut source: Source<I>,
-    reader: &mut R,
-) -> Result<(Standing<I>, Option<(Value, u64)>), Fault>
-    requires { IsReady I.Items source }
-    ensures gives { IfOk result (λ next.
-        (g : Catalog) (l : Limits) (first : R) (given : List (Value × ℕ)) →
-        ReadsEach R.Inlet I.Items g l first reader.old source given →
-        StoodEach R.Inlet I.Items g l first reader.new next.0 (given ++ option_to_list next.1)) }
-    ensures ready { IfOk result (λ next. IfOpen next.0 (IsReady I.Items)) }
-    ensures none { IfOk result (λ next. next.1 ≡ Option.None → IfOpen next.0 (λ after. ⊥)) }
-    ensures less { IfOk result (λ next. work_of I.Items next.0 < work I.Items source + 1) }
-    ensures within { IfOk result (λ next. (first : R) (reads : ℕ) →
-        IsWithin R.Inlet reads first reader.old source →
-        IfOpen next.0 (IsWithin R.Inlet reads first reader.new)) }
-    ensures cause { IfErr result (λ fault. (first : R) (reads : ℕ) →
-        IsWithin R.Inlet reads first reader.old source →
-        IsReadCause R.Inlet reads first reader.new fault) }
-    ensures kept { OnErr result ((g : Catalog) (l : Limits) (first : R) (s : List Value) →
-        Reads R.Inlet I.Items g l first reader.old source s →
-        GaveSoFar R.Inlet I.Items g l first reader.new s) }
-{
-    match source.read_on(reader)? {
-        Reached::Value(value) => {
-            let used = source.used;
-            Ok((Standing::Open(source), Some((value, used))))
-        }
-        Reached::Refused(refusal) => Ok((Standing::Refused(refusal), None)),
-        Reached::End => last(source),
     }
 }
 
@@ -340,34 +351,5 @@ pub(crate) fn last<I: Items + Drop>(
             },
         ) => Err(Fault::Memory),
         Err(refusal) => Ok((Standing::Refused(refusal), None)),
-    }
-}
-
-/// Reads on as `next_value` does, where the document is open; else it stands where it stood.
-pub fn advance<I: Items + Drop, R: Inlet>(
-    place: Standing<I>,
-    reader: &mut R,
-) -> Result<(Standing<I>, Option<Value>), Fault>
-    requires { IfOpen place (IsReady I.Items) }
-    ensures gives { IfOk result (λ next. (g : Catalog) (l : Limits) (first : R) (s : List Value) →
-        Stood R.Inlet I.Items g l first reader.old place s →
-        Stood R.Inlet I.Items g l first reader.new next.0 (s ++ option_to_list next.1)) }
-    ensures ready { IfOk result (λ next. IfOpen next.0 (IsReady I.Items)) }
-    ensures none { IfOk result (λ next. next.1 ≡ Option.None → IfOpen next.0 (λ after. ⊥)) }
-    ensures less { IfOk result (λ next.
-        IfOpen place (λ source. work_of I.Items next.0 < work_of I.Items place)) }
-    ensures closed { IfOk result (λ next.
-        IfClosed place ((next.0 ≡ place) × (next.1 ≡ Option.None))) }
-    ensures within { IfOk result (λ next. (first : R) (reads : ℕ) →
-        IfOpen place (IsWithin R.Inlet reads first reader.old) →
-        IfOpen next.0 (IsWithin R.Inlet reads first reader.new)) }
-    ensures cause { IfErr result (λ fault. (first : R) (reads : ℕ) →
-        IfOpen place (IsWithin R.Inlet reads first reader.old) →
-        IsReadCause R.Inlet reads first reader.new fault) }
-{
-    match place {
-        Standing::Open(source) => next_value(source, reader),
-        Standing::Ended => Ok((Standing::Ended, None)),
-        Standing::Refused(refusal) => Ok((Standing::Refused(refusal), None)),
     }
 }

@@ -7,7 +7,7 @@ ghost use Rattle.ion_docs.specs.reading.Read.{IsFresh};
 ghost use Rattle.ion_docs.specs.Outcomes.{ToldDocument, ToldRefused};
 
 use crate::doc_reader::DocReader;
-use crate::source::{Source, Standing, next_value};
+use crate::source::{Reached, Source, Standing, last, value_of};
 use ion_model::{Refusal, Value};
 use ion_symtab::{Catalog, Fault, Inlet, Items, Limits};
 use std::alloc::Global;
@@ -54,12 +54,17 @@ pub fn read_items<I: Items + Drop, R: Inlet>(
     let mut source = Source::new(alloc, items, reads)?;
     let mut values = Vec::new(alloc);
     loop {
-        let (place, value) = next_value(source, reader)?;
-        keep_next(&mut values, value)?;
-        match place {
-            Standing::Open(after) => source = after,
-            Standing::Ended => return Ok(Ok(values)),
-            Standing::Refused(refusal) => return Ok(Err(refusal)),
+        match source.read_on(reader)? {
+            Reached::Value(value) => keep_next(&mut values, Some(value))?,
+            Reached::Refused(refusal) => return Ok(Err(refusal)),
+            Reached::End => {
+                let (place, found) = last(source)?;
+                keep_next(&mut values, value_of(found))?;
+                if let Standing::Refused(refusal) = place {
+                    return Ok(Err(refusal));
+                }
+                return Ok(Ok(values));
+            }
         }
     }
 }

@@ -42,8 +42,8 @@ returns-in-Refused-clause-verdict g c =
     let right_stood : Stood g.R.Inlet g.I.Items (g.I.Items.catalog c.args.right_items) (g.I.Items.limits c.args.right_items) c.args.right.now c.loop-left_place.right c.go_alike.new.right i.1 = rw stays.2 i.3 in
     left_refused g.L.Inlet g.I.Items g.R.Inlet g.I.Items
     (g.I.Items.catalog c.args.left_items) (g.I.Items.catalog c.args.right_items) (g.I.Items.limits c.args.left_items) (g.I.Items.limits c.args.right_items)
-    c.args.left.now c.advance.new.reader c.args.right.now c.loop-left_place.right c.go_alike.new.right (i.0 ++ option_to_list c.in_ok-left_now.left_value) i.1 c.in-Refused.refusal
-    (rw c.in-Refused.is at (c.in_ok-left_now.ensures.gives _ _ _ i.0 left_stood)) right_stood
+    c.args.left.now c.advance.new.reader c.args.right.now c.loop-left_place.right c.go_alike.new.right (i.0 ++ option_to_list c.in_ok-left_value.left_value) i.1 c.in-Refused.refusal
+    (rw c.in-Refused.is at (c.in_ok-left_value.ensures.gives _ _ _ i.0 left_stood)) right_stood
 
 pub returns-then-not-is_open-2 : goal.returns-then-not-is_open-2
 returns-then-not-is_open-2 g c =
@@ -52,14 +52,14 @@ returns-then-not-is_open-2 g c =
     let left_stood : Stood g.L.Inlet g.I.Items (g.I.Items.catalog c.args.left_items) (g.I.Items.limits c.args.left_items) c.args.left.now c.loop-left_place.left c.go_alike.new.left i.0 = rw stays.1 i.2 in
     let right_stood : Stood g.R.Inlet g.I.Items (g.I.Items.catalog c.args.right_items) (g.I.Items.limits c.args.right_items) c.args.right.now c.loop-left_place.right c.go_alike.new.right i.1 = rw stays.2 i.3 in
     let meets : Meets c.go_alike.new.course c.go_alike.new.left c.go_alike.new.right i.0 i.1 = rw (stays.0, stays.1, stays.2) i.4 in
-    let l = c.in_ok-left_now.ensures in
-    let r = c.in_ok-right_now.ensures in
+    let l = c.in_ok-left_value.ensures in
+    let r = c.in_ok-right_value.ensures in
     let verdict = closed_verdict g.L.Inlet g.I.Items g.R.Inlet g.I.Items
     (g.I.Items.catalog c.args.left_items) (g.I.Items.catalog c.args.right_items) (g.I.Items.limits c.args.left_items) (g.I.Items.limits c.args.right_items)
-    c.args.left.now c.advance.new.reader c.args.right.now c.advance-in-loop-left_place.new.reader c.in_ok-left_now.left_now c.in_ok-right_now.right_now c.in-Ok.course
-    (i.0 ++ option_to_list c.in_ok-left_now.left_value) (i.1 ++ option_to_list c.in_ok-right_now.right_value)
+    c.args.left.now c.advance.new.reader c.args.right.now c.advance-in-loop-left_place.new.reader c.advance.new.self c.advance-in-loop-left_place.new.self c.in-Ok.course
+    (i.0 ++ option_to_list c.in_ok-left_value.left_value) (i.1 ++ option_to_list c.in_ok-right_value.right_value)
     (l.gives _ _ _ i.0 left_stood) (r.gives _ _ _ i.1 right_stood)
-    (meets_more c.go_alike.new.course c.in-Ok.course c.go_alike.new.left c.in_ok-left_now.left_now c.go_alike.new.right c.in_ok-right_now.right_now i.0 i.1 c.in_ok-left_now.left_value c.in_ok-right_now.right_value c.in-Ok.ensures meets l.closed r.closed l.none r.none)
+    (meets_more c.go_alike.new.course c.in-Ok.course c.go_alike.new.left c.advance.new.self c.go_alike.new.right c.advance-in-loop-left_place.new.self i.0 i.1 c.in_ok-left_value.left_value c.in_ok-right_value.right_value c.in-Ok.ensures meets l.closed r.closed l.none r.none)
     c.in_default.not-Refused (false_case c.is_open.result _ _ c.is_open.ensures (search rules)) (false_case c.is_open-then-not-is_open.result _ _ c.is_open-then-not-is_open.ensures (search rules)) in
     record { verdict = rw c.verdict.ensures verdict; cause = tt }
 
@@ -103,14 +103,14 @@ loop-left_place-preserved g c =
     let left_within : IfOpen c.go_alike.new.left (IsWithin g.L.Inlet c.args.reads c.args.left.now c.loop-left_place.left) = rw stays.1 i.left_within in
     let right_within : IfOpen c.go_alike.new.right (IsWithin g.R.Inlet c.args.reads c.args.right.now c.loop-left_place.right) = rw stays.2 i.right_within in
     let open_still : IsOpen c.go_alike.new.left ⊎ IsOpen c.go_alike.new.right = rw (stays.1, stays.2) i.open_still in
-    let l = c.in_ok-left_now.ensures in
-    let r = c.in_ok-right_now.ensures in
+    let l = c.in_ok-left_value.ensures in
+    let r = c.in_ok-right_value.ensures in
     let bound = i.bound in
-    let less = works_less g.I.Items g.I.Items c.go_alike.new.left c.in_ok-left_now.left_now c.go_alike.new.right c.in_ok-right_now.right_now _ _ open_still l.less l.closed r.less r.closed in
+    let less = works_less g.I.Items g.I.Items c.go_alike.new.left c.advance.new.self c.go_alike.new.right c.advance-in-loop-left_place.new.self _ _ open_still l.less l.closed r.less r.closed in
     let left_work = ap (λ (x : Standing _). work_of g.I.Items x) stays.1 in
     let right_work = ap (λ (x : Standing _). work_of g.I.Items x) stays.2 in
     let counted = ap count_of stays.0 in
-    let count = count_met c.go_alike.new.course c.in-Ok.course c.in_ok-left_now.left_value c.in_ok-right_now.right_value c.in-Ok.ensures in
+    let count = count_met c.go_alike.new.course c.in-Ok.course c.in_ok-left_value.left_value c.in_ok-right_value.right_value c.in-Ok.ensures in
     record {
       left_ready = l.ready;
       right_ready = r.ready;
@@ -122,10 +122,10 @@ loop-left_place-preserved g c =
         | else-not-is_open-via-else-not-is_open w ↦ inl (true_case c.is_open.result _ _ c.is_open.ensures (search rules))
       ];
       stood = (
-        i.stood.0 ++ option_to_list c.in_ok-left_now.left_value,
-        i.stood.1 ++ option_to_list c.in_ok-right_now.right_value,
+        i.stood.0 ++ option_to_list c.in_ok-left_value.left_value,
+        i.stood.1 ++ option_to_list c.in_ok-right_value.right_value,
         l.gives _ _ _ i.stood.0 left_stood,
         r.gives _ _ _ i.stood.1 right_stood,
-        meets_more c.go_alike.new.course c.in-Ok.course c.go_alike.new.left c.in_ok-left_now.left_now c.go_alike.new.right c.in_ok-right_now.right_now i.stood.0 i.stood.1 c.in_ok-left_now.left_value c.in_ok-right_now.right_value c.in-Ok.ensures meets l.closed r.closed l.none r.none,
+        meets_more c.go_alike.new.course c.in-Ok.course c.go_alike.new.left c.advance.new.self c.go_alike.new.right c.advance-in-loop-left_place.new.self i.stood.0 i.stood.1 c.in_ok-left_value.left_value c.in_ok-right_value.right_value c.in-Ok.ensures meets l.closed r.closed l.none r.none,
       );
     }

@@ -1,0 +1,73 @@
+-- Values that go from a reader to an encoder without being built.
+use Rattle.std.proofs.Common.{◌≡◌, ◌∙◌, ◌+◌, ◌*◌, ◌≤◌, ◌^◌, ℕ, List, [], ◌∷◌, ◌++◌, length, length-append, arith, refl, Option, Some, None, IfSome, Result, Ok, Err, OnErr, IfErr, ap, sym, subst}
+use Rattle.ion_model.specs.declared.value.Value.{Value}
+use Rattle.ion_model.specs.Kept.{IsKept, AreKept}
+use Rattle.ion_model.specs.laws.Kept.{kept_last}
+use Rattle.ion_symtab.specs.declared.catalog.Catalog.{Catalog}
+use Rattle.ion_symtab.specs.declared.limits.Limits.{Limits}
+use Rattle.ion_symtab.specs.declared.fault.Fault.{Fault}
+use Rattle.ion_symtab.specs.declared.inlet.Inlet.{Ghosts as Inlet}
+use Rattle.ion_symtab.specs.declared.items.Items.{Ghosts as Items}
+use Rattle.ion_symtab.specs.declared.outlet.Outlet.{Ghosts as Outlet}
+use Rattle.ion_symtab.specs.Took.{Took, TookFront}
+use Rattle.ion_binary.specs.declared.writer.BinaryWriter.{BinaryWriter}
+use Rattle.ion_binary.specs.Carrying.{WritesValue}
+use Rattle.ion_binary.specs.Output.{Progress, nothing_yet, adds, after}
+use Rattle.ion_binary.specs.writer.Puts.{puts, behind}
+use Rattle.ion_binary.specs.Writing.{Writing}
+use Rattle.ion_docs.specs.declared.source.Source.{Source}
+use Rattle.ion_docs.specs.declared.writers.Encoder.{Ghosts as Encoder}
+use Rattle.ion_docs.specs.Carried.{PutValue}
+use Rattle.ion_docs.specs.Encodings.{TookBehind, TookSomeBehind, IsPuttingFault, binary_encoding}
+use Rattle.ion_docs.specs.laws.Encodings.{puts_one, behind_one, binary_fault}
+use Rattle.ion_docs.specs.reading.Alongside.{WentPast}
+use Rattle.ion_docs.specs.reading.Read.{IsReady, IsWithin, work, Reads}
+use Rattle.ion_docs.proofs.Steps.{plain_next, reads_went}
+use Rattle.ion_docs.proofs.Conversions.{took_whole}
+
+pub some_each : {A : Type 0} {P Q : A → Type 0} (o : Option A) → ((x : A) → P x → Q x) → IfSome o P → IfSome o Q
+some_each None f p = tt
+some_each (Some x) f p = f x p
+
+-- where nothing was carried, all is as it was
+pub as_it_was : {A B C : Type 0} {a now : A} {b encoder : B} {c writer : C} (P : A → B → C → Type 0) → (now ≡ a) × (encoder ≡ b) × (writer ≡ c) → P a b c → P now encoder writer
+as_it_was P same p = rw (same.0, same.1, same.2) p
+
+-- the values s were put by a writer of binary documents
+abbrev HasPut : Writing → List Value → Type 0
+HasPut w s = w ≡ record { progress = behind nothing_yet s; failed = None }
+
+-- what such a writer wrote, as an encoder puts it
+module _ {T : Type 0} (W : Outlet T) (old new : Writing) (before now : T) (v : Value) where
+  pub wrote : (answer : Result (Unit {0}) Fault) → WritesValue W old new before now v answer → Rattle.std.specs.Result.OnOk answer ((s : List Value) → HasPut old s → TookBehind W before now (puts nothing_yet s) (puts nothing_yet (s ++ v ∷ [])))
+  wrote (Ok x) h = λ s put. (adds (behind nothing_yet s) v, puts_one nothing_yet s v, subst (λ (w : Writing). Took W.took W.written before now (adds w.progress v)) put h.ok)
+  wrote (Err fault) h = tt
+
+  pub still_put : (answer : Result (Unit {0}) Fault) → WritesValue W old new before now v answer → Rattle.std.specs.Result.OnOk answer ((s : List Value) → HasPut old s → HasPut new (s ++ v ∷ []))
+  still_put (Ok x) h = λ s put. h.goes_on ∙ ap (λ (p : Progress). record { progress = p; failed = None }) (ap (λ (w : Writing). after w.progress v) put ∙ behind_one nothing_yet s v)
+  still_put (Err fault) h = tt
+
+  pub front : (answer : Result (Unit {0}) Fault) → WritesValue W old new before now v answer → OnErr answer ((s : List Value) → HasPut old s → TookSomeBehind W before now (puts nothing_yet s) (puts nothing_yet (s ++ v ∷ [])))
+  front (Ok x) h = tt
+  front (Err fault) h = λ s put. (adds (behind nothing_yet s) v, puts_one nothing_yet s v, subst (λ (w : Writing). TookFront W.took W.written before now (adds w.progress v)) put h.front)
+
+  pub cause : (answer : Result (Unit {0}) Fault) → WritesValue W old new before now v answer → (s : List Value) → HasPut old s → IfErr answer (IsPuttingFault binary_encoding (s ++ v ∷ []) (W.has_failed now))
+  cause (Ok x) h = λ s put. tt
+  cause (Err fault) h = λ s put. binary_fault s v (W.has_failed now) fault (rw put at h.cause)
+
+-- where a conversion stands: these values were read and put, one after another
+module _ {S X Y T : Type 0} (R : Inlet S) (I : Items X) (E : Encoder Y) (W : Outlet T) (g : Catalog) (l : Limits) (first : S) (device : T) where
+  abbrev pub Done : S → ℕ → Source X → Y → T → Type 0
+  Done now values source encoder writer =
+      (s : List Value) × Reads R I g l first now source s × (length s ≡ values) × E.has_put encoder s × Took W.took W.written device writer (E.puts s) × AreKept s
+
+  -- one more was read
+  pub reads_past : (now : S) (before after : Source X) (v : Value) (s : List Value) → WentPast I before after v → Reads R I g l first now before s → Reads R I g l first now after (s ++ v ∷ [])
+  reads_past now before after v s past h = record {
+    given = h.given ++ (v, after.used) ∷ [];
+    each = reads_went R I g l first now before after h.given (Some v) h.each past.went past.under past.within;
+    values = plain_next h.given (Some (v, after.used)) (Some v) s h.values refl;
+  }
+
+pub within_past : {S X : Type 0} (R : Inlet S) (I : Items X) (reads : ℕ) (first now : S) (before after : Source X) (v : Value) → WentPast I before after v → IsWithin R reads first now before → IsWithin R reads first now after
+within_past R I reads first now before after v past w = let rest = w.rest in record { made = w.made; were = w.were; rest = omega (arith, rest, past.reads) }
