@@ -2,7 +2,6 @@
 //! compared as they stand, judged once, and not built. What is cut, refused, unusual or spelled in
 //! different ways isn't told here: the readers take it up.
 ghost use Rattle.std.specs.Prelude.{◌≡◌, ◌-◌, ◌≤◌, ◌<◌, true, length, take, get_or, Ok, IfSome};
-ghost use Rattle.ion_model.specs.Kinds.{names_table};
 ghost use Rattle.ion_scalar.specs.binary.Fields.{VarUInt};
 ghost use Rattle.ion_symtab.specs.Slots.{resolve};
 ghost use Rattle.ion_binary.specs.Opening.{opening_of};
@@ -13,7 +12,7 @@ ghost use Rattle.ion_binary.specs.machine.Alike.{Alike, AlikePlain, AlikeBody, A
 
 use crate::form::{Form, Opening, Scalar, opening_of};
 use crate::slots::small_uint;
-use crate::walk::{is_scalar, names_table};
+use crate::walk::is_scalar;
 use crate::whole::{lengths, number, pad_of};
 use ion_model::Symbol;
 use ion_scalar::Size;
@@ -102,7 +101,7 @@ fn alike_annotations(
         let Some(symbol) = same_symbol(context, other_context, id, other_id) else {
             return false;
         };
-        if names_table(symbol) {
+        if symbol.names_table() {
             return false;
         }
         at += used;

@@ -1,17 +1,15 @@
 //! The reader of binary documents: what it holds, and what each octet does.
 ghost use Rattle.std.specs.Prelude.{◌≡◌, ◌+◌, ◌-◌, ◌<◌, ◌^◌};
-ghost use Rattle.ion_model.specs.Measures.{bare};
 ghost use Rattle.ion_binary.specs.machine.EachOctet.{marks, one_octet, on_descriptor, on_marker, feed};
 ghost use Rattle.ion_binary.specs.machine.Views.{setting_of, spot_of, machine_of, open_frames, Does, SameSetting};
 
 use crate::form::{Form, Opening, opening_of};
 use crate::state::{Effect, Frame, Mark, Phase};
-use ion_model::{Payload, Reason, Refusal, Sequence, Value};
+use ion_model::{Payload, Reason, Refusal, Value};
 use ion_scalar::Size;
 use ion_symtab::{Catalog, Context, Limits};
-use std::alloc::Global;
-
 pub use passing::Carried;
+use std::alloc::Global;
 
 mod bodies;
 mod frames;
@@ -53,16 +51,6 @@ pub struct BinaryReader<'a> {
 }
 
 impl BinaryReader<'_> {
-    /// A value without annotations.
-    fn bare(&self, payload: Payload) -> Value
-        ensures { result ≡ bare payload }
-    {
-        Value {
-            annotations: Sequence::new(self.alloc),
-            payload,
-        }
-    }
-
     /// Delivers a value of one octet, for which there has to be room.
     fn one_octet(&mut self, payload: Payload) -> Result<Effect, Reason>
         ensures does { Does
@@ -74,7 +62,7 @@ impl BinaryReader<'_> {
         match self.unfit(Form::Struct, self.used) {
             Some(reason) => Err(reason),
             None => {
-                let value = self.bare(payload);
+                let value = Value::bare(self.alloc, payload);
                 self.deliver(value)
             }
         }

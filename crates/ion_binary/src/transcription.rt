@@ -15,7 +15,6 @@ ghost use Rattle.ion_binary.specs.machine.Transcribed.{HasId, Transcribed, Trans
 
 use crate::form::{Form, Listing, Opening, Scalar, opening_of};
 use crate::slots::{put_scalar, small_uint};
-use crate::walk::names_table;
 use crate::whole::{lengths, number, pad_of};
 use crate::writer::crossings::Crossings;
 use crate::writer::framing::{
@@ -126,7 +125,7 @@ fn put_annotations(
         let Ok(symbol) = context.symbol(id) else {
             return None;
         };
-        if names_table(symbol) {
+        if symbol.names_table() {
             return None;
         }
         symbol.kept();

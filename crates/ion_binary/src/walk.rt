@@ -2,7 +2,6 @@
 //! is cut, refused or unusual isn't told here: the reader takes it up octet by octet.
 ghost use Rattle.std.specs.Prelude.{◌≡◌, ◌+◌, ◌-◌, ◌≤◌, ◌<◌, ◌^◌, true, List, length, take, get_or, IfSome};
 ghost use Rattle.std.specs.Str.{IsUtf8};
-ghost use Rattle.ion_model.specs.Kinds.{names_table};
 ghost use Rattle.ion_symtab.specs.Slots.{Slot};
 ghost use Rattle.ion_binary.specs.Opening.{opening_of};
 ghost use Rattle.ion_binary.specs.declared.form.Scalar.TheVariants as scalars;
@@ -11,7 +10,7 @@ ghost use Rattle.ion_binary.specs.machine.Walked.{Walked, WalkedPlain, WalkedBod
 use crate::form::{Form, Opening, Scalar, kind_of, opening_of};
 use crate::slots::{magnitude_of, small_uint};
 use crate::whole::{lengths, number, pad_of};
-use ion_model::{Kind, Outline, Symbol};
+use ion_model::{Kind, Outline};
 use ion_scalar::{is_decimal_body, is_timestamp_body, is_uint};
 use ion_symtab::Context;
 
@@ -133,16 +132,6 @@ fn is_text(body: &[u8]) -> bool
     simdutf8::is_utf8(body)
 }
 
-/// Whether a symbol is the name of local symbol tables.
-pub(crate) fn names_table(symbol: &Symbol) -> bool
-    ensures { result ≡ names_table symbol.now }
-{
-    match symbol.text() {
-        None => false,
-        Some(text) => text == "$ion_symbol_table",
-    }
-}
-
 /// How many annotations these octets are the ids of, if none of them is the name of local symbol tables.
 fn annotations(context: &Context, ids: &[u8]) -> Option<u64>
     ensures { IfSome result (λ count. WalkedIds context.now ids.now count) }
@@ -157,7 +146,7 @@ fn annotations(context: &Context, ids: &[u8]) -> Option<u64>
         let Ok(symbol) = context.symbol(id) else {
             return None;
         };
-        if names_table(symbol) {
+        if symbol.names_table() {
             return None;
         }
         at += used;

@@ -103,10 +103,7 @@ pub(crate) fn pad_of(octets: &[u8]) -> Option<usize>
 pub(crate) fn blank(alloc: Global) -> Value
     ensures { result.annotations ≡ [] }
 {
-    Value {
-        annotations: Sequence::new(alloc),
-        payload: Payload::Null(Kind::Null),
-    }
+    Value::bare(alloc, Payload::Null(Kind::Null))
 }
 
 /// A list or an s-expression of these items.

@@ -1,6 +1,7 @@
 //! Symbols: texts that name things, of which some are unknown.
 ghost use Rattle.std.specs.Prelude.{◌≡◌, Some, None, MatchResult, option_map};
 ghost use Rattle.ion_model.specs.declared.refusal.Reason.TheVariants as reasons;
+ghost use Rattle.ion_model.specs.Kinds.{names_table};
 ghost use Rattle.ion_model.specs.Symbols.{IsText, symbol_same, symbol_cmp};
 
 use crate::refusal::Reason;
@@ -59,6 +60,17 @@ impl Symbol {
         match &self.text {
             None => None,
             Some(text) => Some(text.as_str()),
+        }
+    }
+
+    /// Whether the symbol is the name of local symbol tables, `$ion_symbol_table` (Ion 1.0, "Symbols",
+    /// "Local Symbol Tables"). Takes no memory.
+    pub fn names_table(&self) -> bool
+        ensures { result ≡ names_table self.now }
+    {
+        match self.text() {
+            None => false,
+            Some(text) => text == "$ion_symbol_table",
         }
     }
 

@@ -1,6 +1,6 @@
 //! Values, as the Ion data model has them.
 ghost use Rattle.std.specs.Prelude.{◌≡◌};
-ghost use Rattle.ion_model.specs.Kinds.{kind_of, names_table, is_table};
+ghost use Rattle.ion_model.specs.Kinds.{kind_of, is_table};
 ghost use Rattle.ion_model.specs.Measures.{bare};
 
 use crate::decimal::Decimal;
@@ -102,16 +102,7 @@ impl Value {
     {
         match self.annotations.as_slice().first() {
             None => false,
-            Some(symbol) => names_table(symbol) && self.kind() == Kind::Fields,
+            Some(symbol) => symbol.names_table() && self.kind() == Kind::Fields,
         }
-    }
-}
-
-fn names_table(symbol: &Symbol) -> bool
-    ensures { result ≡ names_table symbol.now }
-{
-    match symbol.text() {
-        None => false,
-        Some(text) => text == "$ion_symbol_table",
     }
 }

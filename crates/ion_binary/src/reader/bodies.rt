@@ -11,7 +11,7 @@ use super::BinaryReader;
 use crate::form::{Form, Listing, Scalar};
 use crate::scalar::judge;
 use crate::state::{Effect, Frame, Phase, Purpose};
-use ion_model::{Payload, Reason, Sequence};
+use ion_model::{Payload, Reason, Sequence, Value};
 
 impl BinaryReader<'_> {
     /// Delivers the scalar that a body was judged to be.
@@ -24,7 +24,7 @@ impl BinaryReader<'_> {
     {
         match answer {
             Ok(payload) => {
-                let value = self.bare(payload);
+                let value = Value::bare(self.alloc, payload);
                 self.deliver(value)
             }
             Err(reason) => Err(reason),

@@ -1,6 +1,5 @@
 //! Containers that end.
 ghost use Rattle.std.specs.Prelude.{◌≡◌, [], ◌∷◌, IfOk, IfSome};
-ghost use Rattle.ion_model.specs.Measures.{bare};
 ghost use Rattle.ion_binary.specs.declared.state.Frame.TheVariants as frames;
 ghost use Rattle.ion_binary.specs.machine.EachOctet.{deliver, proceed};
 ghost use Rattle.ion_binary.specs.machine.Views.{setting_of, spot_of, open_frames, Does, Puts, SameSetting};
@@ -99,7 +98,7 @@ impl BinaryReader<'_> {
         let mut items = items;
         items.push(item)?;
         if self.used == end {
-            return Ok(Some(self.bare(listed(listing, items))));
+            return Ok(Some(Value::bare(self.alloc, listed(listing, items))));
         }
         self.phase = Phase::Ready;
         self.frames.push(Frame::Items {
@@ -131,7 +130,7 @@ impl BinaryReader<'_> {
         let mut fields = fields;
         fields.push(Field { name, value })?;
         if self.used == end {
-            return Ok(Some(self.bare(Payload::Fields(fields))));
+            return Ok(Some(Value::bare(self.alloc, Payload::Fields(fields))));
         }
         self.phase = Phase::InNumber(Purpose::FieldName, 0);
         self.frames.push(Frame::Fields { end, fields })?;
@@ -192,7 +191,7 @@ impl BinaryReader<'_> {
         ensures setting { SameSetting self.old self.new }
     {
         if self.used == end {
-            let value = self.bare(listed(listing, items));
+            let value = Value::bare(self.alloc, listed(listing, items));
             return self.deliver(value);
         }
         self.phase = Phase::Ready;
@@ -214,7 +213,7 @@ impl BinaryReader<'_> {
         ensures setting { SameSetting self.old self.new }
     {
         if self.used == end {
-            let value = self.bare(Payload::Fields(fields));
+            let value = Value::bare(self.alloc, Payload::Fields(fields));
             return self.deliver(value);
         }
         self.phase = Phase::InNumber(Purpose::FieldName, 0);
