@@ -17,17 +17,27 @@ needed_option id = record (option id) { required = true }
 abbrev pub with_options : App → App
 with_options app = with_rule (with_rule (with_rule app (option (codes "catalog"))) (option (codes "depth"))) (option (codes "item"))
 
+-- a command over one document
+abbrev pub over_one : Text → App
+over_one name = with_options (with_rule (new_app name) (place (codes "FILE")))
+
+abbrev pub converting : App
+converting = with_options (with_rule (with_rule (new_app (codes "convert")) (place (codes "FILE"))) (needed_option (codes "to")))
+
+abbrev pub comparing : App
+comparing = with_options (with_rule (with_rule (new_app (codes "compare")) (place (codes "LEFT"))) (place (codes "RIGHT")))
+
 abbrev pub check : Shape
-check = (with_options (with_rule (new_app (codes "check")) (place (codes "FILE")))).top
+check = (over_one (codes "check")).top
 
 abbrev pub show : Shape
-show = (with_options (with_rule (new_app (codes "show")) (place (codes "FILE")))).top
+show = (over_one (codes "show")).top
 
 abbrev pub convert : Shape
-convert = (with_options (with_rule (with_rule (new_app (codes "convert")) (place (codes "FILE"))) (needed_option (codes "to")))).top
+convert = converting.top
 
 abbrev pub compare : Shape
-compare = (with_options (with_rule (with_rule (new_app (codes "compare")) (place (codes "LEFT"))) (place (codes "RIGHT")))).top
+compare = comparing.top
 
 -- a program that is no command itself
 abbrev pub bare : App

@@ -1,7 +1,7 @@
 //! The words of the command line, as its library is told of them.
 ghost use Rattle.std.specs.Prelude.{◌≡◌, false, IfOk};
 ghost use Rattle.clap.specs.Words.{rule_of, app_of};
-ghost use Rattle.ion_words.specs.Program.{program, place, option, needed_option, with_options};
+ghost use Rattle.ion_words.specs.Program.{program, over_one, converting, comparing, place, option, needed_option, with_options};
 
 use clap::{Arg, Command};
 use std::alloc::{AllocError, Global};
@@ -10,21 +10,37 @@ use std::alloc::{AllocError, Global};
 pub fn command_line<'a>(alloc: Global) -> Result<Command<'a>, AllocError>
     ensures { IfOk result (λ command. app_of command ≡ program) }
 {
-    let check = Command::new(alloc, "check").arg(place(alloc, "FILE"))?;
-    let show = Command::new(alloc, "show").arg(place(alloc, "FILE"))?;
-    let convert = Command::new(alloc, "convert")
-        .arg(place(alloc, "FILE"))?
-        .arg(needed_option(alloc, "to"))?;
-    let compare = Command::new(alloc, "compare")
-        .arg(place(alloc, "LEFT"))?
-        .arg(place(alloc, "RIGHT"))?;
     Command::new(alloc, "ion_cmd")
         .no_binary_name(true)
         .subcommand_required(true)
-        .subcommand(with_options(alloc, check)?)?
-        .subcommand(with_options(alloc, show)?)?
-        .subcommand(with_options(alloc, convert)?)?
-        .subcommand(with_options(alloc, compare)?)
+        .subcommand(over_one(alloc, "check")?)?
+        .subcommand(over_one(alloc, "show")?)?
+        .subcommand(converting(alloc)?)?
+        .subcommand(comparing(alloc)?)
+}
+
+/// A command over one document.
+fn over_one<'a>(alloc: Global, name: &'a str) -> Result<Command<'a>, AllocError>
+    ensures { IfOk result (λ command. app_of command ≡ over_one name.now) }
+{
+    let command = Command::new(alloc, name).arg(place(alloc, "FILE"))?;
+    with_options(alloc, command)
+}
+
+/// The command that writes a document anew.
+fn converting<'a>(alloc: Global) -> Result<Command<'a>, AllocError>
+    ensures { IfOk result (λ command. app_of command ≡ converting) }
+{
+    let command = Command::new(alloc, "convert").arg(place(alloc, "FILE"))?;
+    with_options(alloc, command.arg(needed_option(alloc, "to"))?)
+}
+
+/// The command over two documents.
+fn comparing<'a>(alloc: Global) -> Result<Command<'a>, AllocError>
+    ensures { IfOk result (λ command. app_of command ≡ comparing) }
+{
+    let command = Command::new(alloc, "compare").arg(place(alloc, "LEFT"))?;
+    with_options(alloc, command.arg(place(alloc, "RIGHT"))?)
 }
 
 /// A name that must be given, by its place.
