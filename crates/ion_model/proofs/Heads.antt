@@ -11,7 +11,7 @@ use Rattle.ion_model.specs.Order.{heads_cmp, layer_cmp, field_cmp}
 use Rattle.ion_model.specs.Same.{Scalar, items, fields, scalar}
 use Rattle.ion_model.specs.Symbols.{symbol_cmp, text_cmp}
 use Rattle.ion_model.specs.Timestamps.{timestamp_cmp}
-use Rattle.ion_model.proofs.Parts.{then_first, then_second, nat_back, bool_is}
+use Rattle.ion_model.specs.laws.Parts.{then_first, then_second, nat_back, bool_is}
 
 -- whether two payloads are of one kind, and neither is null
 abbrev pub alike : Layer → Layer → Bool

@@ -1,6 +1,4 @@
-pub mod Parts
 pub mod Heads
-pub mod OrderEqual
 pub mod CountLengths
 pub mod NormalUnique
 pub mod NormalLaws

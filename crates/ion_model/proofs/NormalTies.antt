@@ -20,7 +20,7 @@ use Rattle.ion_model.specs.laws.Equivalence.{same-equiv, same_to-equiv, field_sa
 use Rattle.ion_model.specs.laws.OrderTotal.{order-total, field_cmp-total}
 use Rattle.ion_model.proofs.NormalLaws.{layer_from, pointwise_counts}
 use Rattle.ion_model.proofs.NormalUnique.{tie}
-use Rattle.ion_model.proofs.Parts.{tie_from_is_eq, then_tie, then_first, then_second, symbol_tie, symbol_back, scalar_tie, scalar_back, pointwise_tie, pointwise_back}
+use Rattle.ion_model.specs.laws.Parts.{tie_from_is_eq, then_tie, then_first, then_second, symbol_tie, symbol_back, scalar_tie, scalar_back, pointwise_tie, pointwise_back}
 
 -- what ties as far as n levels show is the same so far
 same_to-from : (n : ℕ) (v w : Value) → order_to n v w ≡ Equal → same_to n v w ≡ true

@@ -17,7 +17,7 @@ use Rattle.ion_model.specs.laws.Same.{same-is}
 use Rattle.ion_model.specs.Symbols.{symbol_same}
 use Rattle.ion_model.specs.Parting.{heads_same, AtItems, IsPath, LeastParting, only, once_named}
 use Rattle.ion_model.specs.laws.PartingSteps.{EndOrDiffer}
-use Rattle.ion_model.proofs.Parts.{scalar_from}
+use Rattle.ion_model.specs.laws.Parts.{scalar_from}
 
 -- payloads with values inside, both of one kind
 abbrev pub both_hold : Layer → Layer → Bool

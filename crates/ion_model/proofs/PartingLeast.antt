@@ -14,7 +14,7 @@ use Rattle.ion_model.specs.Same.{same, field_same, field_count, fields_same}
 use Rattle.ion_model.specs.Symbols.{symbol_same, symbol_cmp}
 use Rattle.ion_model.proofs.NormalTies.{order-from_same, tied-fields, field_back}
 use Rattle.ion_model.specs.laws.OrderTotal.{order-total, field_cmp-total, symbol_cmp-total}
-use Rattle.ion_model.proofs.Parts.{then_tie, symbol_tie, symbol_from}
+use Rattle.ion_model.specs.laws.Parts.{then_tie, symbol_tie, symbol_from}
 
 abbrev E : Field → Field → Bool
 E = field_same same

@@ -14,7 +14,7 @@ use Rattle.ion_model.specs.Parting.{AtItems, AtFields, ItemsPart, FieldsPart, Is
 use Rattle.ion_model.specs.Same.{same, scalar, items, fields, field_count}
 use Rattle.ion_model.specs.Symbols.{symbol_same, symbol_cmp}
 use Rattle.ion_model.specs.laws.OrderTotal.{symbol_cmp-total}
-use Rattle.ion_model.proofs.Parts.{scalar_from, symbol_is}
+use Rattle.ion_model.specs.laws.Parts.{scalar_from, symbol_is}
 use Rattle.ion_model.proofs.PartingLaws.{tag, contra, path_differs}
 
 -- the items of two lists part at one place alone

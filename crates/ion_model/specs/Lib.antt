@@ -14,6 +14,7 @@ pub mod FlatTimestamps
 pub mod Kept
 pub mod Same
 pub mod Order
+pub mod Hashed
 pub mod Normal
 pub mod Parting
 pub mod laws

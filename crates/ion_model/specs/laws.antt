@@ -2,6 +2,9 @@
 pub mod Kept
 pub mod Order
 pub mod OrderTotal
+pub mod Parts
+pub mod OrderEqual
+pub mod Hashed
 pub mod Measures
 pub mod Counts
 pub mod Same

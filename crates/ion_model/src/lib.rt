@@ -8,6 +8,7 @@ mod copy;
 mod decimal;
 mod equivalence;
 mod halves;
+mod hashed;
 mod kept;
 mod kind;
 pub mod laws;

@@ -224,7 +224,7 @@ impl Precision {
         }
     }
 
-    fn rank(self) -> u16
+    pub(crate) fn rank(self) -> u16
         ensures { result ≡ precision_rank self }
     {
         match self {

@@ -1,5 +1,11 @@
-//! Symbols, an empty path, and the names and numbers of kinds and reasons.
-use ion_model::{Kind, Path, Reason, Symbol};
+//! Symbols, an empty path, the names and numbers of kinds and reasons, and values as keys of sets.
+use ion_model::{
+    Decimal, Field, Kind, Local, Path, Payload, Precision, Reason, Sequence, Symbol, Timestamp,
+    Value,
+};
+use std::alloc::Global;
+use std::collections::{BTreeSet, HashSet};
+use std::hash::Hash;
 use std::test::Fail;
 
 #[test]
@@ -39,5 +45,50 @@ fn words(rt: HostRuntime) -> Result<(), Fail> {
     ] {
         assert_eq!(rt; kind.name(), name);
     }
+    Ok(())
+}
+
+/// A struct whose one field is ten to this power.
+fn power(alloc: Global, exponent: i32) -> Result<Value, Fail> {
+    let power = Decimal::new(false, 1, exponent).ok_or("no decimal")?;
+    let mut fields = Sequence::new(alloc);
+    fields.push(Field {
+        name: Symbol::known(alloc, "power")?,
+        value: Value::bare(alloc, Payload::Decimal(power)),
+    })?;
+    Ok(Value::bare(alloc, Payload::Fields(fields)))
+}
+
+/// Whether sets of the one key have the equal key too, and not the other.
+fn finds<K: Ord + Hash>(alloc: Global, one: &K, equal: &K, other: &K) -> Result<bool, Fail> {
+    let mut hashed = HashSet::new(alloc);
+    hashed.insert(one)?;
+    let mut sorted = BTreeSet::new(alloc);
+    sorted.insert(one)?;
+    let found = hashed.contains(&equal) && sorted.contains(&equal);
+    Ok(found && !hashed.contains(&other) && !sorted.contains(&other))
+}
+
+#[test]
+fn keys_of_sets(rt: HostRuntime) -> Result<(), Fail> {
+    let alloc = rt.alloc();
+    let (one, tenth) = (Decimal::new(false, 1, 0), Decimal::new(false, 1, -1));
+    assert!(rt; finds(alloc, &one, &one, &tenth)?);
+    let noon = Local {
+        year: 2024,
+        month: 2,
+        day: 29,
+        hour: 12,
+        minute: 0,
+        second: 0,
+        fraction: 0,
+    };
+    let unknown = Timestamp::new(noon, Precision::Minute, None);
+    let utc = Timestamp::new(noon, Precision::Minute, Some(0));
+    assert!(rt; finds(alloc, &utc, &utc, &unknown)?);
+    let one = power(alloc, 2)?;
+    let equal = power(alloc, 2)?;
+    let other = power(alloc, 3)?;
+    assert!(rt; finds(alloc, &one, &equal, &other)?);
     Ok(())
 }

@@ -3,8 +3,8 @@ use Rattle.std.specs.Ordering.{is_eq}
 use Rattle.ion_model.specs.Order.{order}
 use Rattle.ion_model.specs.Same.{same}
 use Rattle.ion_model.specs.laws.Equivalence.{same-equiv}
-use Rattle.ion_model.proofs.OrderEqual.{equal_from_order}
-use Rattle.ion_model.proofs.Parts.{tie_from_is_eq}
+use Rattle.ion_model.specs.laws.OrderEqual.{equal_from_order}
+use Rattle.ion_model.specs.laws.Parts.{tie_from_is_eq}
 use Rattle.ion_model.proofs.equivalence.equivalent.Goals as goal
 
 pub returns-then-is_eq : goal.returns-then-is_eq

@@ -1,4 +1,4 @@
-use Rattle.ion_model.proofs.OrderEqual.{equal_from_order}
+use Rattle.ion_model.specs.laws.OrderEqual.{equal_from_order}
 use Rattle.ion_model.proofs.NormalTies.{order-from_same, same-from_order}
 use Rattle.ion_model.proofs.laws.normal_forms.Goals as goal
 

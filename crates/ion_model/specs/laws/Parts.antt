@@ -13,14 +13,14 @@ use lib.Pointwise.{pointwise}
 use Rattle.ion_model.specs.declared.timestamp.Local.{Local}
 use Rattle.ion_model.specs.declared.timestamp.Precision.{Precision}
 use Rattle.ion_model.specs.declared.timestamp.Precision.TheVariants as precisions
-use Rattle.ion_model.specs.laws.Counts.{both, first, second}
+use Rattle.ion_model.specs.laws.Counts.{both, first, second, same_bool}
 use Rattle.ion_model.specs.Decimals.{DecimalParts, decimal_same, decimal_cmp}
-use Rattle.ion_model.specs.laws.Equivalence.{scalar_same-equiv, symbol_same-equiv}
+use Rattle.ion_model.specs.laws.Equivalence.{scalar_same-equiv, symbol_same-equiv, timestamp_same-equiv}
 use Rattle.ion_model.specs.Order.{scalar_cmp}
 use Rattle.ion_model.specs.Same.{Scalar, scalar_same}
 use Rattle.ion_model.specs.Symbols.{text_same, symbol_same, text_cmp, symbol_cmp}
 use Rattle.ion_model.specs.Timestamps.{TimestampParts, precision_rank, local_same, timestamp_same, date_cmp, time_cmp, timestamp_cmp}
-use Rattle.ion_model.specs.laws.OrderTotal.{scalar_cmp-total, symbol_cmp-total}
+use Rattle.ion_model.specs.laws.OrderTotal.{scalar_cmp-total, symbol_cmp-total, timestamp_cmp-total}
 
 -- a chain of two ties where both do
 pub then_tie : (a b : Ordering) → a ≡ Equal → b ≡ Equal → ordering_then a b ≡ Equal
@@ -184,7 +184,7 @@ local_is l m s t =
     let fraction = nat_is l.fraction m.fraction (then_second (ordering_then (ordering_then d e) f) _ t) in
     λ i. record { year = year i; month = month i; day = day i; hour = hour i; minute = minute i; second = seconds i; fraction = fraction i }
 
-timestamp_from : (s t : TimestampParts) → timestamp_same s t ≡ true → s ≡ t
+pub timestamp_from : (s t : TimestampParts) → timestamp_same s t ≡ true → s ≡ t
 timestamp_from s t h =
     let a = nat_eq (precision_rank s.precision) (precision_rank t.precision) in
     let b = option_eq int_eq s.offset t.offset in
@@ -206,6 +206,12 @@ timestamp_is s t h =
     let q = offset_is s.offset t.offset (then_second a b ab) in
     let r = local_is s.local t.local (then_second (ordering_then a b) c abc) (then_second (ordering_then (ordering_then a b) c) d h) in
     λ i. record { local = r i; precision = p i; offset = q i }
+
+-- the order of timestamps has no ties but those of the same timestamps
+pub timestamp_ties : (s t : TimestampParts) → timestamp_same s t ≡ is_eq (timestamp_cmp s t)
+timestamp_ties s t =
+    same_bool _ _ (λ h. subst (λ x. is_eq (timestamp_cmp x t) ≡ true) (sym (timestamp_from s t h)) (ap is_eq (tied_itself timestamp_cmp-total t)))
+    (λ h. subst (λ x. timestamp_same x t ≡ true) (sym (timestamp_is s t (tie_from_is_eq (timestamp_cmp s t) h))) (timestamp_same-equiv.refl t))
 
 pub scalar_from : (s t : Scalar) → scalar_same s t ≡ true → s ≡ t
 scalar_from s t h =

@@ -16,7 +16,7 @@ use Rattle.ion_model.specs.declared.value.Payload.TheViews.{out-Payload, roll-Pa
 use Rattle.ion_model.specs.laws.Measures.{depth-out}
 use Rattle.ion_model.specs.laws.Same.{items_deep, fields_deep, items-deep, fields-deep}
 use Rattle.ion_model.specs.laws.Order.{order-agrees}
-use Rattle.ion_model.proofs.Parts.{then_first, then_second, symbol_is, scalar_is}
+use Rattle.ion_model.specs.laws.Parts.{then_first, then_second, symbol_is, scalar_is}
 
 kind_at : ℕ → Kind
 kind_at n =

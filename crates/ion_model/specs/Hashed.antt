@@ -1,0 +1,68 @@
+-- What decimals, timestamps and values feed a hasher: every part of them, values at every depth and as they stand.
+use Rattle.std.specs.Prelude.{ℕ, List, [], ◌∷◌, ◌++◌, length, Bool, true, false, Option}
+use Rattle.std.specs.Hash as fed
+use Rattle.std.specs.Hash.{HashWrites}
+use Rattle.ion_model.specs.declared.kind.Kind.{Kind}
+use Rattle.ion_model.specs.declared.kind.Kind.TheVariants as kinds
+use Rattle.ion_model.specs.declared.timestamp.Local.{Local}
+use Rattle.ion_model.specs.declared.value.Value.{Value}
+use Rattle.ion_model.specs.declared.value.Field.{Field}
+use Rattle.ion_model.specs.declared.value.Payload.TheOpen.{Payload-F}
+use Rattle.ion_model.specs.declared.value.Payload.TheFolds.{fold-Value}
+use Rattle.ion_model.specs.Decimals.{DecimalParts}
+use Rattle.ion_model.specs.Kinds.{kind_rank}
+use Rattle.ion_model.specs.Timestamps.{TimestampParts, precision_rank}
+
+-- whether the text is known, and then the text
+abbrev pub symbol_fed : Option (List ℕ) → HashWrites
+symbol_fed = fed.option fed.str
+
+-- sign, magnitude and exponent
+abbrev pub decimal_fed : DecimalParts → HashWrites
+decimal_fed d = fed.bool d.negative ++ fed.u128 d.magnitude ++ fed.i32 d.exponent
+
+-- the local fields, the year first
+abbrev pub local_fed : Local → HashWrites
+local_fed l = fed.u16 l.year ++ fed.u8 l.month ++ fed.u8 l.day ++ fed.u8 l.hour ++ fed.u8 l.minute ++ fed.u8 l.second ++ fed.u128 l.fraction
+
+-- the precision, the offset and the local fields
+abbrev pub timestamp_fed : TimestampParts → HashWrites
+timestamp_fed t = fed.u16 (precision_rank t.precision) ++ fed.option fed.i16 t.offset ++ local_fed t.local
+
+-- how many octets there are, and then all of them at once
+abbrev pub octets_fed : List ℕ → HashWrites
+octets_fed octets = fed.usize (length octets) ++ octets ∷ []
+
+-- the kind of a payload, and whether it is no null
+abbrev pub head_fed : Kind → Bool → HashWrites
+head_fed k full = fed.u8 (kind_rank k) ++ fed.bool full
+
+module _ {P F V : Type 0} (field : F → HashWrites) (value : V → HashWrites) where
+  -- one level: the kind and whether it is no null, and then the scalar, or how many members there are and each of
+  -- them, where `field` and `value` say what each feeds
+  abbrev pub layer_fed : Payload-F P F V → HashWrites
+  layer_fed (Payload-F.Null k) = head_fed k false
+  layer_fed (Payload-F.Truth b) = head_fed kinds.Bool true ++ fed.bool b
+  layer_fed (Payload-F.Int z) = head_fed kinds.Int true ++ fed.i128 z
+  layer_fed (Payload-F.Decimal d) = head_fed kinds.Decimal true ++ decimal_fed d
+  layer_fed (Payload-F.Timestamp t) = head_fed kinds.Timestamp true ++ timestamp_fed t
+  layer_fed (Payload-F.Symbol s) = head_fed kinds.Symbol true ++ symbol_fed s
+  layer_fed (Payload-F.Str s) = head_fed kinds.Str true ++ fed.str s
+  layer_fed (Payload-F.Clob s) = head_fed kinds.Clob true ++ octets_fed s
+  layer_fed (Payload-F.Blob s) = head_fed kinds.Blob true ++ octets_fed s
+  layer_fed (Payload-F.List vs) = head_fed kinds.List true ++ fed.slice value vs
+  layer_fed (Payload-F.Sexp vs) = head_fed kinds.Sexp true ++ fed.slice value vs
+  layer_fed (Payload-F.Fields fs) = head_fed kinds.Fields true ++ fed.slice field fs
+
+-- of one level, in which each field and each value inside is what it feeds already
+abbrev pub hashed_step : Payload-F HashWrites HashWrites HashWrites → HashWrites
+hashed_step = layer_fed (λ w. w) (λ w. w)
+
+-- what a value feeds a hasher: how many annotations it has and each of them, and then its payload
+unfoldable pub hashed : Value → HashWrites
+hashed v =
+    fold-Value HashWrites HashWrites HashWrites hashed_step (λ f. symbol_fed f.name ++ f.value) (λ v. fed.slice symbol_fed v.annotations ++ v.payload) v
+
+-- what a field feeds a hasher: its name, and then its value
+abbrev pub field_hashed : Field → HashWrites
+field_hashed f = symbol_fed f.name ++ hashed f.value
