@@ -6,7 +6,7 @@ use ion_model::{Kind, Reason};
 use ion_scalar::{Descriptor, Size};
 
 /// A scalar whose octets are its body.
-#[derive(Clone, Copy, Debug, PartialEq, Eq)]
+#[derive(Clone, Copy, PartialEq, Eq)]
 pub enum Scalar {
     Int,
     NegativeInt,
@@ -19,14 +19,14 @@ pub enum Scalar {
 }
 
 /// The two kinds of values that are items one behind the other.
-#[derive(Clone, Copy, Debug, PartialEq, Eq)]
+#[derive(Clone, Copy, PartialEq, Eq)]
 pub enum Listing {
     List,
     Sexp,
 }
 
 /// What has a length.
-#[derive(Clone, Copy, Debug, PartialEq, Eq)]
+#[derive(Clone, Copy, PartialEq, Eq)]
 pub enum Form {
     Pad,
     Scalar(Scalar),
@@ -39,7 +39,7 @@ pub enum Form {
 }
 
 /// What a descriptor octet opens, or why it can't stand where a value begins.
-#[derive(Clone, Copy, Debug, PartialEq, Eq)]
+#[derive(Clone, Copy, PartialEq, Eq)]
 pub enum Opening {
     Refused(Reason),
     Marker,

@@ -1,7 +1,7 @@
 //! The reader of binary documents: what it holds, and what each octet does.
-ghost use Rattle.std.specs.Prelude.{◌≡◌, ◌+◌, ◌-◌, ◌<◌, ◌^◌};
+ghost use Rattle.std.specs.Prelude.{◌≡◌, ◌+◌, ◌-◌, ◌<◌, ◌^◌, false};
 ghost use Rattle.ion_binary.specs.machine.EachOctet.{marks, one_octet, on_descriptor, on_marker, feed};
-ghost use Rattle.ion_binary.specs.machine.Views.{setting_of, spot_of, machine_of, open_frames, Does, SameSetting};
+ghost use Rattle.ion_binary.specs.machine.Views.{setting_of, spot_of, machine_of, open_frames, is_in_body, Does, SameSetting};
 
 use crate::form::{Form, Opening, opening_of};
 use crate::state::{Effect, Frame, Mark, Phase};
@@ -10,6 +10,7 @@ use ion_scalar::Size;
 use ion_symtab::{Catalog, Context, Limits};
 pub use passing::Carried;
 use std::alloc::Global;
+use std::fmt::{self, Debug, Formatter};
 
 mod bodies;
 mod frames;
@@ -26,7 +27,7 @@ mod whole;
 /// containers and the body of one scalar: a length that goes beyond its container or the limit on items
 /// is refused before any octet of what it counts. Local symbol tables change what symbol ids stand for
 /// and aren't given; a version marker sets that back to the system symbols.
-#[derive(Debug, Drop)]
+#[derive(Drop)]
 pub struct BinaryReader<'a> {
     alloc: Global,
     catalog: &'a Catalog,
@@ -48,6 +49,12 @@ pub struct BinaryReader<'a> {
     failed: Option<Refusal>,
     /// Up to this octet values were tried whole in vain; the values inside aren't tried again.
     walked: u64,
+}
+
+impl Debug for BinaryReader<'_> {
+    fn fmt<W: fmt::Write>(&self, f: &mut Formatter<W>) -> fmt::Result {
+        f.debug_struct("BinaryReader").finish_non_exhaustive()
+    }
 }
 
 impl BinaryReader<'_> {
@@ -134,10 +141,11 @@ impl BinaryReader<'_> {
         Ok(Effect::Goes)
     }
 
-    /// Takes up one octet: what it did, or why it is refused. Behind an `Err` nothing is known of the
-    /// machine.
+    /// Takes up one octet that is in no body: what it did, or why it is refused. Behind an `Err` nothing
+    /// is known of the machine.
     fn feed(&mut self, octet: u8) -> Result<Effect, Reason>
         requires used { self.old.used < 2 ^ 63 - 1 }
+        requires outside { is_in_body self.old.phase ≡ false }
         ensures does { Does
             (feed (setting_of self.old) (machine_of self.old) octet)
             result self.new }
@@ -149,7 +157,7 @@ impl BinaryReader<'_> {
             Phase::InMarker(mark, good) => self.on_marker(mark, good, octet),
             Phase::Ready => self.on_descriptor(opening_of(octet)),
             Phase::InNumber(purpose, so_far) => self.on_number(purpose, so_far, octet),
-            Phase::InBody(scalar, missing) => self.on_body(scalar, missing, octet),
+            Phase::InBody(_, _) => unreachable!(),
             Phase::InPad(missing) => self.on_pad(missing),
         }
     }

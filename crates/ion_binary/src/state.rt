@@ -7,7 +7,7 @@ use crate::form::{Form, Listing, Scalar};
 use ion_model::{Field, Reason, Sequence, Symbol, Value};
 
 /// Which octet of a version marker comes next.
-#[derive(Clone, Copy, Debug, PartialEq, Eq)]
+#[derive(Clone, Copy, PartialEq, Eq)]
 pub enum Mark {
     First,
     Second,
@@ -16,7 +16,7 @@ pub enum Mark {
 }
 
 /// What a VarUInt is the number of.
-#[derive(Clone, Copy, Debug, PartialEq, Eq)]
+#[derive(Clone, Copy, PartialEq, Eq)]
 pub enum Purpose {
     /// The octets of a body.
     Length(Form),
@@ -29,7 +29,7 @@ pub enum Purpose {
 }
 
 /// What the next octet is part of.
-#[derive(Clone, Copy, Debug, PartialEq, Eq)]
+#[derive(Clone, Copy, PartialEq, Eq)]
 pub enum Phase {
     /// A version marker, and whether its octets so far are good.
     InMarker(Mark, bool),
@@ -44,7 +44,7 @@ pub enum Phase {
 }
 
 /// What an octet did that wasn't refused.
-#[derive(Clone, Copy, Debug, PartialEq, Eq)]
+#[derive(Clone, Copy, PartialEq, Eq)]
 pub enum Effect {
     /// More octets are to come.
     Goes,
@@ -53,7 +53,7 @@ pub enum Effect {
 }
 
 /// A container that isn't whole yet: the octet at which it ends, and what has come of it.
-#[derive(Debug, Drop)]
+#[derive(Drop)]
 pub enum Frame {
     /// The items of a list or an s-expression.
     Items {

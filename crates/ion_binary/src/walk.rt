@@ -15,7 +15,7 @@ use ion_scalar::{is_decimal_body, is_timestamp_body, is_uint};
 use ion_symtab::Context;
 
 /// What a walk noted of the values that it went over.
-#[derive(Clone, Copy, Drop, Debug)]
+#[derive(Clone, Copy, Drop)]
 pub(crate) struct Tally {
     /// The kind of the last value.
     kind: Kind,

@@ -18,6 +18,7 @@ use ion_model::Value;
 use ion_symtab::{Context, Fault, Outlet, flushed, write_whole};
 use names::Names;
 use std::alloc::Global;
+use std::fmt::{self, Debug, Formatter};
 use std::marker::Model;
 use table::put_table;
 
@@ -36,7 +37,7 @@ const MARKER: [u8; 4] = [0xE0, 0x01, 0x00, 0xEA];
 ///
 /// Every length and number has the fewest octets. Before a value with symbols whose texts have no ids yet
 /// stands one local symbol table, which appends them in the order of their first use.
-#[derive(Debug, Drop)]
+#[derive(Drop)]
 pub struct BinaryWriter {
     alloc: Global,
     names: Names,
@@ -50,6 +51,12 @@ pub struct BinaryWriter {
     begun: bool,
     /// The fault that each call answers from now on.
     failed: Option<Fault>,
+}
+
+impl Debug for BinaryWriter {
+    fn fmt<W: fmt::Write>(&self, f: &mut Formatter<W>) -> fmt::Result {
+        f.debug_struct("BinaryWriter").finish_non_exhaustive()
+    }
 }
 
 impl Model for BinaryWriter {

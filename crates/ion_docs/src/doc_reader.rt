@@ -14,12 +14,13 @@ use ion_model::{Reason, Refusal, Value};
 use ion_symtab::{Catalog, Items, Limits, Outlet, Passed, Step};
 use ion_text::TextReader;
 use std::alloc::Global;
+use std::fmt::{self, Debug, Formatter};
 
 /// The first octet of a binary document, and of no text.
 const BINARY: u8 = 0xE0;
 
 /// What the octets so far are read as.
-#[derive(Debug, Drop)]
+#[derive(Drop)]
 enum Format<'a> {
     /// No octet has come.
     Unbegun,
@@ -30,12 +31,18 @@ enum Format<'a> {
 
 /// A reader of a document of either encoding: binary if its first octet is E0 (Ion 1.0, "Ion Binary
 /// Encoding", the binary version marker), text otherwise.
-#[derive(Debug, Drop)]
+#[derive(Drop)]
 pub struct DocReader<'a> {
     alloc: Global,
     catalog: &'a Catalog,
     limits: Limits,
     format: Format<'a>,
+}
+
+impl Debug for DocReader<'_> {
+    fn fmt<W: fmt::Write>(&self, f: &mut Formatter<W>) -> fmt::Result {
+        f.debug_struct("DocReader").finish_non_exhaustive()
+    }
 }
 
 impl<'a> DocReader<'a> {

@@ -18,7 +18,7 @@ use std::mem;
 ///
 /// The symbols behind the last import stand in one list, however many tables appended them, so that an
 /// id is mostly an index and a table of one symbol takes no more than its symbol.
-#[derive(Drop, Debug)]
+#[derive(Drop)]
 pub(crate) struct Added {
     earlier: Segments,
     last: Vec<Symbol>,

@@ -9,14 +9,23 @@ use crate::places::Places;
 use crate::shared_table::SharedTable;
 use ion_model::Reason;
 use std::alloc::Global;
+use std::fmt::{self, Debug, Formatter};
 use std::marker::Model;
 
 /// Shared symbol tables, of which no two have the same name and version. Contracts see the tables in
 /// the order in which they were added.
-#[derive(Drop, Debug)]
+#[derive(Drop)]
 pub struct Catalog {
     tables: Vec<SharedTable>,
     places: Places,
+}
+
+impl Debug for Catalog {
+    fn fmt<W: fmt::Write>(&self, f: &mut Formatter<W>) -> fmt::Result {
+        f.debug_struct("Catalog")
+            .field("tables", &self.tables)
+            .finish_non_exhaustive()
+    }
 }
 
 impl Model for Catalog {

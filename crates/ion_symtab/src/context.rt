@@ -13,15 +13,22 @@ use crate::fields::{elements, is_text, only};
 use crate::segments::Segments;
 use ion_model::{Payload, Reason, Symbol, Value};
 use std::alloc::Global;
+use std::fmt::{self, Debug, Formatter};
 use std::marker::Model;
 
 /// What the symbol ids stand for at a place of a document. Contracts see the list of slots, of which
 /// the first has the id 1: each is a text, unknown, or a gap.
-#[derive(Drop, Debug)]
+#[derive(Drop)]
 pub struct Context {
     unknown: Symbol,
     system: Vec<Symbol>,
     added: Added,
+}
+
+impl Debug for Context {
+    fn fmt<W: fmt::Write>(&self, f: &mut Formatter<W>) -> fmt::Result {
+        f.debug_struct("Context").finish_non_exhaustive()
+    }
 }
 
 impl Model for Context {

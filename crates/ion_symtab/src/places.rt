@@ -11,14 +11,14 @@ use std::alloc::Global;
 use std::collections::BTreeMap;
 
 // The places of the tables of one name, by version, and that of the newest.
-#[derive(Drop, Debug)]
+#[derive(Drop)]
 struct Versions {
     newest: usize,
     places: BTreeMap<u128, usize>,
 }
 
 /// The places of tables. Ordered maps, so no choice of names makes look-ups slow.
-#[derive(Drop, Debug)]
+#[derive(Drop)]
 pub(crate) struct Places {
     names: BTreeMap<String, Versions>,
 }

@@ -21,7 +21,7 @@ use std::marker::Model;
 pub const GREATEST_ID: u32 = 0x7FFF_FFFF;
 
 /// Slots that one table gives.
-#[derive(Drop, Debug)]
+#[derive(Drop)]
 pub(crate) enum Part {
     /// The symbols of local tables.
     Local(Vec<Symbol>),
@@ -30,7 +30,7 @@ pub(crate) enum Part {
 }
 
 /// The slots of one table, and how many slots stand before them.
-#[derive(Drop, Debug)]
+#[derive(Drop)]
 pub(crate) struct Segment {
     before: u32,
     part: Part,
@@ -38,7 +38,7 @@ pub(crate) struct Segment {
 
 /// Slots that follow one another, behind a first few that stand elsewhere; contracts see how many
 /// those are, and the slots.
-#[derive(Drop, Debug)]
+#[derive(Drop)]
 pub(crate) struct Segments {
     first: u32,
     segments: Vec<Segment>,

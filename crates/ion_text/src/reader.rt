@@ -10,6 +10,7 @@ use ion_model::{Field, Payload, Reason, Refusal, Sequence, Symbol, Value};
 use ion_symtab::{Catalog, Context, Limits};
 use ion_tokens::{Place, Scanner, TokenReader};
 use std::alloc::Global;
+use std::fmt::{self, Debug, Formatter};
 use std::mem;
 
 mod beside;
@@ -33,7 +34,7 @@ mod whole;
 ///
 /// It keeps the open containers, and the octets of the token that is open. Local symbol tables change
 /// what symbol ids stand for and aren't given; a version marker sets that back to the system symbols.
-#[derive(Debug, Drop)]
+#[derive(Drop)]
 pub struct TextReader<'a> {
     alloc: Global,
     catalog: &'a Catalog,
@@ -56,6 +57,12 @@ pub struct TextReader<'a> {
     awaited: Option<u8>,
     /// The refusal that each call answers from now on.
     failed: Option<Refusal>,
+}
+
+impl Debug for TextReader<'_> {
+    fn fmt<W: fmt::Write>(&self, f: &mut Formatter<W>) -> fmt::Result {
+        f.debug_struct("TextReader").finish_non_exhaustive()
+    }
 }
 
 // Puts a whole value into a list or an s-expression: what may come next.

@@ -2,7 +2,7 @@
 use ion_model::{Field, Kind, Reason, Sequence, Symbol, Text, Value};
 
 /// A word, an id, a quoted symbol or a typed null, of which it isn't known yet whether `::` follows.
-#[derive(Debug, Drop)]
+#[derive(Drop)]
 pub enum Held {
     Symbol(Symbol),
     /// An unquoted word of the form of a version marker, and whether it is that of Ion 1.0.
@@ -14,7 +14,7 @@ pub enum Held {
 }
 
 /// What may come next.
-#[derive(Debug, Drop)]
+#[derive(Drop)]
 pub enum Now {
     /// A value, an annotation, or the close of a list or an s-expression.
     Ready,
@@ -33,7 +33,7 @@ pub enum Now {
 }
 
 /// A container that isn't whole yet: its annotations, and what has come of it.
-#[derive(Debug, Drop)]
+#[derive(Drop)]
 pub enum Frame {
     List(Sequence<Symbol>, Sequence<Value>),
     Sexp(Sequence<Symbol>, Sequence<Value>),
@@ -44,7 +44,7 @@ pub enum Frame {
 }
 
 /// What a token did that wasn't refused.
-#[derive(Clone, Copy, Debug)]
+#[derive(Clone, Copy)]
 pub enum Effect {
     /// More is to come.
     Goes,
@@ -55,7 +55,7 @@ pub enum Effect {
 }
 
 /// What octets did that weren't refused.
-#[derive(Clone, Copy, Debug)]
+#[derive(Clone, Copy)]
 pub enum Taken {
     /// They are used, and ended no value.
     Uses,
@@ -67,7 +67,7 @@ pub enum Taken {
 }
 
 /// What octets did at the scanner and behind it.
-#[derive(Clone, Copy, Debug)]
+#[derive(Clone, Copy)]
 pub enum Met {
     /// They are used, and ended no value.
     Uses,

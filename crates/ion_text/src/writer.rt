@@ -11,17 +11,24 @@ use crate::spelling::put_value;
 use ion_model::Value;
 use ion_symtab::{Fault, Outlet, flushed, write_whole};
 use std::alloc::Global;
+use std::fmt::{self, Debug, Formatter};
 use std::marker::Model;
 
 /// Writes values, one after another, as one text document: each value on a line of its own (Ion 1.0, "Ion
 /// Text Encoding"). Contracts see the fault that each call answers, if there is one.
-#[derive(Debug, Drop)]
+#[derive(Drop)]
 pub struct TextWriter {
     alloc: Global,
     /// The line that was written last; the next one takes its memory.
     line: Vec<u8>,
     /// The fault that each call answers from now on.
     failed: Option<Fault>,
+}
+
+impl Debug for TextWriter {
+    fn fmt<W: fmt::Write>(&self, f: &mut Formatter<W>) -> fmt::Result {
+        f.debug_struct("TextWriter").finish_non_exhaustive()
+    }
 }
 
 impl Model for TextWriter {

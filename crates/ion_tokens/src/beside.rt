@@ -14,11 +14,18 @@ use crate::token::Body;
 use crate::whole::Rest;
 use ion_model::Reason;
 use std::alloc::Global;
+use std::fmt::{self, Debug, Formatter};
 
 /// Reads tokens beside a scanner; it keeps the octets of the last one.
-#[derive(Debug, Drop)]
+#[derive(Drop)]
 pub struct TokenReader {
     machine: Machine,
+}
+
+impl Debug for TokenReader {
+    fn fmt<W: fmt::Write>(&self, f: &mut Formatter<W>) -> fmt::Result {
+        f.debug_struct("TokenReader").finish_non_exhaustive()
+    }
 }
 
 /// A token that was found whole.

@@ -14,7 +14,7 @@ use std::alloc::{AllocError, Global};
 use std::mem;
 
 /// A token that isn't judged yet; its octets stand in the machine.
-#[derive(Clone, Copy, Debug)]
+#[derive(Clone, Copy)]
 pub struct Lexeme {
     pub start: u64,
     pub end: u64,
@@ -22,7 +22,7 @@ pub struct Lexeme {
 }
 
 /// What came of octets.
-#[derive(Clone, Copy, Debug)]
+#[derive(Clone, Copy)]
 pub enum Taken {
     /// All were used.
     Next,
@@ -33,7 +33,7 @@ pub enum Taken {
     Refused(Refusal),
 }
 
-#[derive(Debug, Drop)]
+#[derive(Drop)]
 pub struct Machine {
     pub alloc: Global,
     pub mode: Mode,

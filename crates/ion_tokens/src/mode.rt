@@ -42,7 +42,7 @@ pub enum Mark {
 }
 
 /// The sorts of quoted texts.
-#[derive(Clone, Copy, Debug)]
+#[derive(Clone, Copy)]
 pub enum Style {
     ShortString,
     QuotedSymbol,
@@ -54,7 +54,7 @@ pub enum Style {
 }
 
 /// Which escape the hexadecimal digits are part of.
-#[derive(Clone, Copy, Debug)]
+#[derive(Clone, Copy)]
 pub enum Digits {
     /// `\x`
     Octet,
@@ -67,7 +67,7 @@ pub enum Digits {
 }
 
 /// Where a quoted text stands.
-#[derive(Clone, Copy, Debug)]
+#[derive(Clone, Copy)]
 pub enum Within {
     /// Between two characters.
     Plain,
@@ -90,7 +90,7 @@ pub enum Within {
 }
 
 /// How a run of operator characters ends.
-#[derive(Clone, Copy, Debug)]
+#[derive(Clone, Copy)]
 pub enum Ending {
     /// The run is `-` alone.
     LoneMinus,
@@ -102,7 +102,7 @@ pub enum Ending {
 }
 
 /// Where a blob or a clob stands.
-#[derive(Clone, Copy, Debug)]
+#[derive(Clone, Copy)]
 pub enum Lob {
     /// Behind `{{`, where either may come.
     Start,
@@ -127,7 +127,7 @@ pub enum Lob {
 }
 
 /// What the octets so far leave open.
-#[derive(Clone, Copy, Debug)]
+#[derive(Clone, Copy)]
 pub enum Mode {
     /// No token.
     Blank,
@@ -178,7 +178,7 @@ pub enum TokenKind {
 }
 
 /// What is added to the octets that are kept.
-#[derive(Clone, Copy, Debug)]
+#[derive(Clone, Copy)]
 pub enum Keep {
     Nothing,
     One(u8),
@@ -189,7 +189,7 @@ pub enum Keep {
 }
 
 /// What an octet does.
-#[derive(Clone, Copy, Debug)]
+#[derive(Clone, Copy)]
 pub enum Action {
     /// The octet is used.
     Go(Mode, Keep),
@@ -207,7 +207,7 @@ pub enum Action {
 }
 
 /// What the end of the input does.
-#[derive(Clone, Copy, Debug)]
+#[derive(Clone, Copy)]
 pub enum End {
     /// No token is open.
     Blank,

@@ -22,16 +22,23 @@ use crate::token::{Begun, Body, Foresight, Form, Scan, Token};
 use crate::whole::Rest;
 use ion_model::{Reason, Refusal};
 use std::alloc::Global;
+use std::fmt::{self, Debug, Formatter};
 
 /// A scanner of Ion text, to which the octets come in pieces of any size (Ion 1.0, "Ion Text Encoding").
 ///
 /// Its tokens, its refusal and the totals of octets used at which the tokens come depend on the octets and the places
 /// alone, and not on how the octets are cut.
-#[derive(Debug, Drop)]
+#[derive(Drop)]
 pub struct Scanner {
     machine: Machine,
     /// The refusal that each call answers from now on.
     failed: Option<Refusal>,
+}
+
+impl Debug for Scanner {
+    fn fmt<W: fmt::Write>(&self, f: &mut Formatter<W>) -> fmt::Result {
+        f.debug_struct("Scanner").finish_non_exhaustive()
+    }
 }
 
 // Where a token's octets stand in the piece behind `before` octets, if they stand there.

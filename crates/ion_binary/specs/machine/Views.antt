@@ -1,5 +1,5 @@
 -- What a reader in memory stands for.
-use Rattle.std.specs.Prelude.{◌≡◌, ◌≢◌, ◌<◌, ◌≤◌, ℕ, ◌+◌, nat_lt, ◌∷◌, take, Bool, false, if◌then◌else◌, List, [], length, reverse, Option, Some, None, Result, Ok, Err}
+use Rattle.std.specs.Prelude.{◌≡◌, ◌≢◌, ◌<◌, ◌≤◌, ℕ, ◌+◌, nat_lt, ◌∷◌, take, Bool, true, false, if◌then◌else◌, List, [], length, reverse, Option, Some, None, Result, Ok, Err}
 use Rattle.ion_model.specs.declared.value.Value.{Value}
 use Rattle.ion_model.specs.declared.refusal.Reason.{Reason}
 use Rattle.ion_model.specs.declared.refusal.Reason.TheVariants.{Memory, Malformed}
@@ -87,6 +87,11 @@ abbrev pub goes_on : Phase → Bool
 goes_on (InBody t missing) = nat_lt 0 missing
 goes_on (InPad missing) = nat_lt 0 missing
 goes_on _ = false
+
+-- whether the next octet is one of a scalar's body
+abbrev pub is_in_body : Phase → Bool
+is_in_body (InBody t missing) = true
+is_in_body _ = false
 
 -- what no octet changes
 pub record SameSetting (old new : BinaryReader) : Type 0 where

@@ -4,7 +4,7 @@ ghost use Rattle.ion_model.specs.declared.refusal.Reason.{Reason};
 ghost use Rattle.ion_model.specs.declared.value.Payload.{Payload};
 ghost use Rattle.ion_symtab.specs.Outcome.{Gives};
 ghost use Rattle.ion_binary.specs.declared.form.Form.TheVariants as forms;
-ghost use Rattle.ion_binary.specs.machine.EachOctet.{judged, open_struct, begin, sized, on_body, on_pad};
+ghost use Rattle.ion_binary.specs.machine.EachOctet.{judged, open_struct, begin, sized, on_pad};
 ghost use Rattle.ion_binary.specs.machine.Views.{setting_of, spot_of, open_frames, Does, SameSetting};
 
 use super::BinaryReader;
@@ -162,29 +162,6 @@ impl BinaryReader<'_> {
             Some(reason) => Err(reason),
             None => self.begin(form, size),
         }
-    }
-
-    /// Takes up an octet of a scalar's body.
-    pub(super) fn on_body(
-        &mut self,
-        scalar: Scalar,
-        missing: u64,
-        octet: u8,
-    ) -> Result<Effect, Reason>
-        ensures does { Does
-            (on_body (setting_of self.old) (spot_of self.old) (open_frames self.old)
-            scalar missing (self.old.body.items ++ octet ∷ []))
-            result self.new }
-        ensures used { self.new.used ≡ self.old.used }
-        ensures setting { SameSetting self.old self.new }
-    {
-        self.body.push(octet)?;
-        if missing == 0 {
-            let answer = judge(&self.context, scalar, &mut self.body);
-            return self.judged(answer);
-        }
-        self.phase = Phase::InBody(scalar, missing - 1);
-        Ok(Effect::Goes)
     }
 
     /// Takes up an octet of a pad.

@@ -1,10 +1,10 @@
 //! Octets of a piece that are taken up at once: of a body, a pad or a value, or else one.
-ghost use Rattle.std.specs.Prelude.{◌≡◌, ◌+◌, ◌-◌, ◌≤◌, ◌<◌, ◌^◌, ◌++◌, true, length, take, IfOk, IfErr, IfSome};
+ghost use Rattle.std.specs.Prelude.{◌≡◌, ◌+◌, ◌-◌, ◌≤◌, ◌<◌, ◌^◌, ◌++◌, true, false, length, take, IfOk, IfErr, IfSome, IsNone};
 ghost use Rattle.ion_model.specs.declared.refusal.Reason.TheVariants.{Memory};
 ghost use Rattle.ion_binary.specs.machine.Judge.{judge};
 ghost use Rattle.ion_binary.specs.machine.EachOctet.{moved, judged};
 ghost use Rattle.ion_binary.specs.machine.Pieces.{led};
-ghost use Rattle.ion_binary.specs.machine.Views.{setting_of, spot_of, run_of, machine_of, open_frames, goes_on, Does, Took, SameSetting};
+ghost use Rattle.ion_binary.specs.machine.Views.{setting_of, spot_of, run_of, machine_of, open_frames, goes_on, is_in_body, Does, Took, SameSetting};
 ghost use Rattle.ion_binary.specs.declared.state.Phase.TheVariants as phases;
 
 use super::BinaryReader;
@@ -57,9 +57,12 @@ impl BinaryReader<'_> {
 
     /// The scalar whose body ends in this piece, and how many octets of the piece it ends with.
     fn ending(&self, piece: &[u8]) -> Option<(Scalar, usize)>
+        requires some { 0 < length piece.now }
         ensures phase { IfSome result (λ end. self.now.phase ≡ phases.InBody end.0 (end.1 - 1)) }
         ensures some { IfSome result (λ end. 0 < end.1) }
         ensures within { IfSome result (λ end. end.1 ≤ length piece.now) }
+        ensures none { IsNone result →
+            goes_on self.now.phase ≡ false → is_in_body self.now.phase ≡ false }
     {
         match self.phase {
             Phase::InBody(scalar, missing) if missing < piece.len() as u64 => {

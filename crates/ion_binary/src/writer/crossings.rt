@@ -7,7 +7,7 @@ const KEPT: u64 = 65536;
 
 /// By the ids of a document that is read, the ids that their symbols had last in the one that is written.
 /// Whoever takes a guess compares the symbol, so no clause speaks of what is kept here.
-#[derive(Debug, Drop)]
+#[derive(Drop)]
 pub(crate) struct Crossings {
     ids: Vec<usize>,
 }

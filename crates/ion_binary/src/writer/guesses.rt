@@ -8,7 +8,7 @@ const KEPT: usize = 65536;
 /// The ids of the symbols looked up last, in the order of their use. The next value often has the same
 /// symbols in the same order, and the octets of a value have those that were numbered just before. Whoever
 /// takes a guess compares the symbol, so no clause speaks of what is kept here.
-#[derive(Debug, Drop)]
+#[derive(Drop)]
 pub(crate) struct Guesses {
     ids: Vec<usize>,
     /// The place of the next symbol's id.

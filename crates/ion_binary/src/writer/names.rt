@@ -16,7 +16,7 @@ use std::marker::Model;
 
 /// Symbols by their ids. The symbol of unknown text has the id 0, and a text has one id. An id is found
 /// in an ordered map, so no choice of texts makes it slow; both share a text's memory.
-#[derive(Debug, Drop)]
+#[derive(Drop)]
 pub(crate) struct Names {
     symbols: Vec<Symbol>,
     ids: BTreeMap<Symbol, usize>,

@@ -29,7 +29,7 @@ use ion_tokens::{
 };
 
 /// What a walk noted of the values that it went over, and where it rests.
-#[derive(Clone, Copy, Drop, Debug)]
+#[derive(Clone, Copy, Drop)]
 pub(super) struct Tally {
     /// The kind of the last value.
     kind: Kind,
