@@ -5,8 +5,6 @@
 #[cfg(test)]
 mod alike;
 #[cfg(test)]
-mod calendar;
-#[cfg(test)]
 mod devices;
 #[cfg(test)]
 mod documents;

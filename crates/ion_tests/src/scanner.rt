@@ -5,28 +5,6 @@ use std::alloc::Global;
 use std::borrow::CowStr;
 use std::test::Fail;
 
-/// The 64 letters in turn are 48 octets whose groups of six bits are 0 to 63.
-#[test]
-fn letters(rt: HostRuntime) -> Result<(), Fail> {
-    let mut scanner = Scanner::new(rt.alloc());
-    let document = b"{{ABCDEFGHIJKLMNOPQRSTUVWXYZabcdefghijklmnopqrstuvwxyz0123456789+/}}";
-    let scan = scanner.step(document, Place::Top).map_err(|_| "refused")?;
-    let token = scan.token.ok_or("no token")?;
-    let Body::Blob(blob) = &token.body else {
-        return Err("no blob".into());
-    };
-    let octets = blob.as_slice();
-    assert_eq!(rt; octets.len(), 48);
-    for group in 0..64usize {
-        let bit = 6 * group;
-        let front = u32::from(octets.get(bit / 8).copied().unwrap_or(0));
-        let back = u32::from(octets.get(bit / 8 + 1).copied().unwrap_or(0));
-        let six = ((front * 256 + back) >> (10 - bit % 8)) % 64;
-        assert_eq!(rt; six as usize, group);
-    }
-    Ok(())
-}
-
 /// Takes up a piece at the top level: how many octets were used, or the refusal.
 fn used(scanner: &mut Scanner, piece: &[u8]) -> Result<Result<usize, Refusal>, Fail> {
     if scanner.used() > 1 << 40 || piece.len() > 1 << 40 {
