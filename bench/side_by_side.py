@@ -1,10 +1,11 @@
 #!/usr/bin/env python3
 """Times two built programs in alternation: side_by_side.py BEFORE NOW [MEGABYTES [ROUNDS]].
 
-Both run `check`, `show`, `compare` (a document with itself) and `convert --to binary` and `--to text` over the documents
-of documents.py, and `check` over those of texts.py. Of each command and document it prints the least processor time that
-each program took in ROUNDS (usually 5) rounds, the second's over the first's, and the second's peak of memory, or the 14 MiB of
-the Python that starts it, where that is less.
+BEFORE is an older build, or the plain program of plain.rs (`rustc -O --edition 2021 plain.rs`). Both run `check`, `show`,
+`compare` (a document with itself) and `convert --to binary` and `--to text` over the documents of documents.py, and `check`
+over those of texts.py. Of each command and document it prints the least processor time that each program took in ROUNDS
+(usually 5) rounds, the second's over the first's, and the second's peak of memory, or the 14 MiB of the Python that starts
+it, where that is less. What the plain program doesn't do is left out.
 """
 import os
 import subprocess
@@ -14,13 +15,17 @@ import tempfile
 BINARY = [["check"], ["show"], ["compare"], ["convert", "--to", "binary"], ["convert", "--to", "text"]]
 
 
+class Fails(Exception):
+    """A run that ended with another status than 0."""
+
+
 def run(program, words, document):
     """The processor time of one run in seconds, and its peak of memory in MiB."""
     names = [document, document] if words == ["compare"] else [document]
-    child = subprocess.Popen([program, *words[:1], *names, *words[1:]], stdout=subprocess.DEVNULL)
+    child = subprocess.Popen([program, *words[:1], *names, *words[1:]], stdout=subprocess.DEVNULL, stderr=subprocess.DEVNULL)
     _, status, used = os.wait4(child.pid, 0)
     if status != 0:
-        sys.exit(f"{program} {' '.join(words)} {document} ended with {status}")
+        raise Fails(f"{program} {' '.join(words)} {document} ended with {os.waitstatus_to_exitcode(status)}")
     return used.ru_utime + used.ru_stime, used.ru_maxrss / 1024
 
 
@@ -44,7 +49,11 @@ def main():
             subprocess.run([sys.executable, f"{here}/{script}", folder, megabytes], check=True)
         for name in sorted(os.listdir(folder)):
             for words in BINARY if name.endswith(".10n") else [["check"]]:
-                (before, now), peak = measured(programs, words, f"{folder}/{name}", rounds)
+                try:
+                    (before, now), peak = measured(programs, words, f"{folder}/{name}", rounds)
+                except Fails as failure:
+                    print(f"left out: {failure}", flush=True)
+                    continue
                 print(f"{name} {' '.join(words)}: {before:.3f} s and {now:.3f} s, {now / before:.2f}, peak {peak:.1f} MiB", flush=True)
 
 
