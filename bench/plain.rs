@@ -12,6 +12,8 @@
 //! (usually 2^24). The status is 0 for accepted and equivalent, 1 for different, 2 for refused, 3 for wrong words,
 //! 4 for a fault of a device.
 //!
+//! It builds each value, in `check` and `show` too, as readers of Ion do.
+//!
 //! What it lacks: text, as input (which is refused) and as output; catalogs, so that whatever imports a shared
 //! table is refused; the path to where two values part; reason and offset of a refusal.
 
