@@ -1,6 +1,6 @@
 -- Values that are found on two sides and not built.
 use Rattle.std.proofs.Common.{◌≡◌, ℕ, ◌+◌, ◌-◌, ◌<◌, ◌≤◌, ◌^◌, ◌⊎◌, inl, inr, Bool, List, length, take, drop, get_or, Option, Some, None, IfSome, Ok, refl, ap, sym, subst, ◌∙◌, arith}
-use Rattle.ion_model.specs.declared.kind.Kind.{Kind}
+use Rattle.ion_atoms.specs.declared.kind.Kind.{Kind}
 use Rattle.ion_model.specs.declared.value.Payload.{Payload}
 use Rattle.ion_model.specs.declared.value.Payload.TheVariants as payloads
 use Rattle.ion_model.specs.Kinds.{kind_of}

@@ -11,17 +11,17 @@ use Rattle.ion_model.specs.declared.value.Value.{Value}
 use Rattle.ion_model.specs.declared.value.Payload.{Payload}
 use Rattle.ion_model.specs.declared.value.Payload.TheVariants as payloads
 use Rattle.ion_model.specs.declared.value.Payload.TheViews as views
-use Rattle.ion_model.specs.declared.kind.Kind.{Kind}
+use Rattle.ion_atoms.specs.declared.kind.Kind.{Kind}
 use Rattle.ion_model.specs.Kept.{IsText, kept, KeptPayload, kept_null, kept_truth, kept_int, kept_decimal, kept_timestamp, kept_symbol, kept_string, kept_clob, kept_blob, kept_fields}
 use Rattle.ion_model.specs.Kinds.{kind_of}
 use Rattle.ion_model.specs.Measures.{bare, annotated, field_of}
-use Rattle.ion_model.specs.Octets.{AreOctets}
+use Rattle.ion_atoms.specs.Octets.{AreOctets}
 use Rattle.ion_model.specs.Symbols.{symbol_same, symbol_cmp}
 use Rattle.ion_scalar.specs.binary.Fields.{VarUInt, positional}
 use Rattle.ion_scalar.specs.binary.Spellings.{var_uint_octets, uint_octets, decimal_octets}
 use Rattle.ion_scalar.specs.binary.TimestampSpellings.{timestamp_octets}
-use Rattle.ion_model.specs.Decimals.{DecimalParts}
-use Rattle.ion_model.specs.Timestamps.{TimestampParts}
+use Rattle.ion_atoms.specs.Decimals.{DecimalParts}
+use Rattle.ion_atoms.specs.Timestamps.{TimestampParts}
 use Rattle.ion_symtab.specs.Slots.{Slot, resolve}
 use Rattle.ion_binary.specs.declared.form.Form.{Form}
 use Rattle.ion_binary.specs.declared.form.Form.TheVariants as forms

@@ -3,16 +3,16 @@ use Rattle.std.proofs.Common.{Bool, length-take, min, map, sum, ◌≡◌, ℕ, 
 use Rattle.std.specs.Prelude.{is_ok}
 use Rattle.std.specs.Str.{IsUtf8}
 use Rattle.std.proofs.Math.Nat.{one-le-pow, mul-le-mul_right}
-use Rattle.ion_model.specs.declared.refusal.Reason.{Reason}
-use Rattle.ion_model.specs.Decimals.{DecimalParts}
-use Rattle.ion_model.specs.Timestamps.{TimestampParts}
+use Rattle.ion_atoms.specs.declared.refusal.Reason.{Reason}
+use Rattle.ion_atoms.specs.Decimals.{DecimalParts}
+use Rattle.ion_atoms.specs.Timestamps.{TimestampParts}
 use Rattle.ion_model.specs.declared.value.Payload.TheVariants as payloads
 use Rattle.ion_model.specs.declared.value.Value.{Value}
 use Rattle.ion_model.specs.declared.value.Field.{Field}
 use Rattle.ion_model.specs.declared.value.Payload.{Payload}
 use Rattle.ion_model.specs.declared.value.Payload.TheViews as views
-use Rattle.ion_model.specs.declared.kind.Kind.{Kind}
-use Rattle.ion_model.specs.declared.kind.Kind.TheVariants as kinds
+use Rattle.ion_atoms.specs.declared.kind.Kind.{Kind}
+use Rattle.ion_atoms.specs.declared.kind.Kind.TheVariants as kinds
 use Rattle.ion_model.specs.Kinds.{names_table, is_fields, is_table, kind_of, layer_kind}
 use Rattle.ion_model.specs.Measures.{depth, nodes, bare, annotated}
 use Rattle.ion_model.specs.laws.Measures.{deepest-more, depth-Null, depth-Truth, nodes-Null, nodes-Truth}

@@ -1,9 +1,9 @@
 -- What a descriptor octet opens (Ion 1.0, "Ion Binary Encoding", typed value formats).
 use Rattle.std.specs.Prelude.{ℕ, ◌==◌, if◌then◌else◌, Result, Ok, Err}
-use Rattle.ion_model.specs.declared.kind.Kind.{Kind}
-use Rattle.ion_model.specs.declared.kind.Kind.TheVariants as kinds
-use Rattle.ion_model.specs.declared.refusal.Reason.{Reason}
-use Rattle.ion_model.specs.declared.refusal.Reason.TheVariants.{Malformed}
+use Rattle.ion_atoms.specs.declared.kind.Kind.{Kind}
+use Rattle.ion_atoms.specs.declared.kind.Kind.TheVariants as kinds
+use Rattle.ion_atoms.specs.declared.refusal.Reason.{Reason}
+use Rattle.ion_atoms.specs.declared.refusal.Reason.TheVariants.{Malformed}
 use Rattle.ion_scalar.specs.declared.descriptor.Descriptor.{Descriptor}
 use Rattle.ion_scalar.specs.declared.descriptor.Descriptor.TheVariants as descriptors
 use Rattle.ion_scalar.specs.declared.descriptor.Size.{Size}

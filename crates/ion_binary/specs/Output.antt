@@ -1,8 +1,8 @@
 -- The one binary document that is written for a stream of values (Ion 1.0, "Ion Binary Encoding" and "Symbols").
 use Rattle.std.specs.Prelude.{if◌then◌else◌, ℕ, ℤ, pos, int_lt, unsigned_abs, ◌+◌, ◌*◌, Bool, true, false, nat_lt, List, [], ◌∷◌, ◌++◌, length, drop, map, Option, None, Some, codes}
 use Rattle.std.specs.List.{list_any, position_or_len, flat_map, fold}
-use Rattle.ion_model.specs.declared.kind.Kind.{Kind}
-use Rattle.ion_model.specs.declared.kind.Kind.TheVariants as kinds
+use Rattle.ion_atoms.specs.declared.kind.Kind.{Kind}
+use Rattle.ion_atoms.specs.declared.kind.Kind.TheVariants as kinds
 use Rattle.ion_model.specs.declared.value.Value.{Value}
 use Rattle.ion_model.specs.declared.value.Payload.TheVariants as payloads
 use Rattle.ion_model.specs.declared.value.Payload.TheOpen.{Payload-F}

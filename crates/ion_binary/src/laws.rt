@@ -1,7 +1,7 @@
 //! Laws of binary documents. Each stands on an empty function: its contract is the law.
 ghost use Rattle.std.specs.Prelude.{◌↔◌, ℕ, List};
 ghost use Rattle.ion_model.specs.declared.value.Value.{Value};
-ghost use Rattle.ion_model.specs.Octets.{AreOctets};
+ghost use Rattle.ion_atoms.specs.Octets.{AreOctets};
 ghost use Rattle.ion_model.specs.Kept.{AreKept};
 ghost use Rattle.ion_symtab.specs.declared.limits.Limits.{Limits};
 ghost use Rattle.ion_symtab.specs.Tables.{Table};

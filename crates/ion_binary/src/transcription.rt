@@ -5,7 +5,7 @@
 //!
 //! Each function appends to `out`. Where it answers `None`, some octets may stand there.
 ghost use Rattle.std.specs.Prelude.{◌≡◌, ◌≤◌, ◌<◌, List, Option, ℕ, length, take, get_or, IfSome};
-ghost use Rattle.ion_model.specs.Octets.{AreOctets};
+ghost use Rattle.ion_atoms.specs.Octets.{AreOctets};
 ghost use Rattle.ion_symtab.specs.Slots.{Slot};
 ghost use Rattle.ion_binary.specs.Opening.{opening_of};
 ghost use Rattle.ion_binary.specs.HeaderRows.{type_code};

@@ -4,7 +4,7 @@ use Rattle.std.specs.List.{Contains}
 use Rattle.std.proofs.lemmas.List.Elements.{Contains-append_right, Contains-append_cases, Contains-push_cases}
 use Rattle.std.proofs.lemmas.Option.{same_Some, none-some}
 use Rattle.std.proofs.lemmas.Result.{IfOk-weaker}
-use Rattle.ion_model.specs.declared.refusal.Refusal.{Refusal as the_refusal}
+use Rattle.ion_atoms.specs.declared.refusal.Refusal.{Refusal as the_refusal}
 use Rattle.ion_symtab.specs.Cause.{IsReadCause}
 use Rattle.ion_symtab.specs.Took.{TookFront}
 use Rattle.ion_symtab.specs.laws.Took.{Took-nil}

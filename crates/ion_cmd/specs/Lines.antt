@@ -2,8 +2,8 @@
 use Rattle.std.specs.Prelude.{◌≡◌, ℕ, List, [], ◌∷◌, ◌++◌, codes, decimal, false}
 use Rattle.ion_symtab.specs.Took.{Took, TookFront}
 use Rattle.ion_symtab.specs.declared.outlet.Outlet.{Ghosts as Outlet}
-use Rattle.ion_model.specs.declared.refusal.Refusal.{Refusal}
-use Rattle.ion_model.specs.Reasons.{reason_name}
+use Rattle.ion_atoms.specs.declared.refusal.Refusal.{Refusal}
+use Rattle.ion_atoms.specs.Reasons.{reason_name}
 use Rattle.ion_symtab.specs.declared.fault.Fault.{Fault}
 use Rattle.ion_symtab.specs.declared.fault.Fault.TheVariants.{Memory, Read, Write, TooManyReads, TooLarge, Open}
 use Rattle.ion_model.specs.declared.path.Part.{Part}

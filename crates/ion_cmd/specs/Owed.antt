@@ -2,7 +2,7 @@
 use Rattle.std.specs.Prelude.{⊤, ◌≡◌, ◌⊎◌, ℕ, ◌^◌, List, [], Bool, true, false, Option, Some, None, Result, Ok, Err}
 use Rattle.std.specs.List.{Contains}
 use Rattle.ion_model.specs.declared.value.Value.{Value}
-use Rattle.ion_model.specs.declared.refusal.Refusal.{Refusal as the_refusal}
+use Rattle.ion_atoms.specs.declared.refusal.Refusal.{Refusal as the_refusal}
 use Rattle.ion_symtab.specs.Cause.{IsReadCause}
 use Rattle.ion_symtab.specs.Tables.{Table}
 use Rattle.ion_symtab.specs.Took.{Took, TookFront}

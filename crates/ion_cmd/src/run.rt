@@ -1,6 +1,6 @@
 //! What the program does.
 ghost use Rattle.std.specs.Prelude.{◌≡◌, ◌^◌, ◌⊎◌, ℕ, true, false, [], map, IfOk, OnOk, IfErr, OnErr, Option, Result};
-ghost use Rattle.ion_model.specs.declared.refusal.Refusal.{Refusal};
+ghost use Rattle.ion_atoms.specs.declared.refusal.Refusal.{Refusal};
 ghost use Rattle.ion_symtab.specs.Cause.{IsReadCause};
 ghost use Rattle.ion_symtab.specs.Took.{Took, TookFront};
 ghost use Rattle.ion_docs.specs.declared.comparison.Verdict.{Verdict};

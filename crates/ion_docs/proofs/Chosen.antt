@@ -1,7 +1,7 @@
 -- A call handed on to the reader that was chosen.
 use Rattle.std.proofs.Common.{◌≡◌, ℕ, ◌+◌, ◌*◌, ◌<◌, zero, suc, Bool, true, false, List, [], ◌∷◌, ◌++◌, length, take, ap, ◌∙◌, sym, refl, subst, arith, eq-eqb, ne_eqb, Result, Ok, Err, Option, Some, None, option_map, IfOk, IfErr, IfSome, IsSome, slice_get}
 use Rattle.ion_model.specs.declared.value.Value.{Value}
-use Rattle.ion_model.specs.declared.refusal.Refusal.{Refusal}
+use Rattle.ion_atoms.specs.declared.refusal.Refusal.{Refusal}
 use Rattle.ion_symtab.specs.Trace.{Trace, Answers, Finishes, UsesAll, given_at}
 use Rattle.ion_symtab.specs.declared.items.Step.{Step}
 use Rattle.ion_symtab.specs.declared.items.Passed.{Passed}

@@ -19,7 +19,7 @@ use Rattle.ion_docs.specs.declared.comparison.Course.{Course}
 use Rattle.ion_docs.specs.declared.comparison.Course.TheVariants.{Alike, Parted}
 use Rattle.ion_docs.specs.declared.comparison.Verdict.TheVariants as TheVerdict
 use Rattle.ion_docs.specs.declared.comparison.Side.TheVariants.{Left}
-use Rattle.ion_model.specs.declared.refusal.Refusal.{Refusal}
+use Rattle.ion_atoms.specs.declared.refusal.Refusal.{Refusal}
 use Rattle.ion_symtab.specs.declared.catalog.Catalog.{Catalog}
 use Rattle.ion_symtab.specs.declared.limits.Limits.{Limits}
 

@@ -5,7 +5,7 @@ use Rattle.ion_model.specs.declared.value.Value.{Value}
 use Rattle.ion_model.specs.Same.{same}
 use Rattle.ion_model.specs.Parting.{IsPath}
 use Rattle.ion_model.specs.declared.path.Part.{Part}
-use Rattle.ion_model.specs.declared.refusal.Refusal.{Refusal}
+use Rattle.ion_atoms.specs.declared.refusal.Refusal.{Refusal}
 use Rattle.ion_symtab.specs.Trace.{Trace}
 use Rattle.ion_docs.specs.Formats.{Format}
 use Rattle.ion_docs.specs.Outcomes.{SaysRefusal}

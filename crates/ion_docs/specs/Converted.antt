@@ -1,7 +1,7 @@
 -- What the conversion of a document writes.
 use Rattle.std.specs.Prelude.{◌≡◌, ℕ, List, [], length, Result, Ok, Err, Bool, true, ⊤}
 use Rattle.ion_model.specs.declared.value.Value.{Value}
-use Rattle.ion_model.specs.declared.refusal.Refusal.{Refusal}
+use Rattle.ion_atoms.specs.declared.refusal.Refusal.{Refusal}
 use Rattle.ion_symtab.specs.declared.fault.Fault.{Fault}
 use Rattle.ion_symtab.specs.declared.fault.Fault.TheVariants.{Memory, Read, Write, TooManyReads, TooLarge, Open}
 use Rattle.ion_symtab.specs.declared.catalog.Catalog.{Catalog}

@@ -2,10 +2,10 @@
 use Rattle.std.specs.Prelude.{◌≡◌, ℕ, ◌+◌, codes, List, [], ◌++◌, ◌∷◌, length, Result, Ok, Err, true, ⊤}
 use Rattle.std.specs.Fmt.{decimal}
 use Rattle.ion_model.specs.declared.value.Value.{Value}
-use Rattle.ion_model.specs.Kinds.{kind_name}
+use Rattle.ion_atoms.specs.Kinds.{kind_name}
 use Rattle.ion_model.specs.Outlines.{outline_of}
 use Rattle.ion_model.specs.declared.outline.Outline.{Outline}
-use Rattle.ion_model.specs.declared.refusal.Refusal.{Refusal}
+use Rattle.ion_atoms.specs.declared.refusal.Refusal.{Refusal}
 use Rattle.ion_symtab.specs.declared.fault.Fault.{Fault}
 use Rattle.ion_symtab.specs.declared.fault.Fault.TheVariants.{Memory, Read, Write, TooManyReads, TooLarge, Open}
 use Rattle.ion_symtab.specs.declared.catalog.Catalog.{Catalog}

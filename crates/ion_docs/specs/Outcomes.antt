@@ -1,8 +1,8 @@
 -- How a document on a device can turn out.
 use Rattle.std.specs.Prelude.{◌≡◌, ℕ, ◌≤◌, ◌⊎◌, List, [], ◌++◌, length, take, Bool, true, Option, Some, None, Result, Ok, Err}
 use Rattle.ion_model.specs.declared.value.Value.{Value}
-use Rattle.ion_model.specs.declared.refusal.Refusal.{Refusal}
-use Rattle.ion_model.specs.declared.refusal.Reason.TheVariants.{Incomplete}
+use Rattle.ion_atoms.specs.declared.refusal.Refusal.{Refusal}
+use Rattle.ion_atoms.specs.declared.refusal.Reason.TheVariants.{Incomplete}
 use Rattle.ion_symtab.specs.Promises.{BeginsNone, Shown, IsReadersReason}
 use Rattle.ion_symtab.specs.Trace.{Trace, plain, given_at}
 use Rattle.ion_symtab.specs.Heard.{Heard, MayFollow}

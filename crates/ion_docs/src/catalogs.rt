@@ -1,6 +1,6 @@
 //! Catalogs from documents.
 ghost use Rattle.std.specs.Prelude.{◌≡◌, ◌⊎◌, ◌^◌, ◌≤◌, [], IfOk, IfErr, MatchResult, Ok, Err, option_to_list};
-ghost use Rattle.ion_model.specs.declared.refusal.Reason.TheVariants as reasons;
+ghost use Rattle.ion_atoms.specs.declared.refusal.Reason.TheVariants as reasons;
 ghost use Rattle.ion_symtab.specs.Cause.{IsReadCause};
 ghost use Rattle.ion_docs.specs.Formats.{documents, format_of};
 ghost use Rattle.ion_docs.specs.reading.Read.{IsFresh};

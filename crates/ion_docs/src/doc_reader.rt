@@ -3,7 +3,7 @@ ghost use Rattle.std.specs.Prelude.{◌≡◌, ℕ, ◌+◌, ◌*◌, ◌^◌, �
 ghost use Rattle.ion_symtab.specs.Trace.{Answers, UsesAll, given_at};
 ghost use Rattle.ion_docs.specs.reading.Chosen.{chosen};
 ghost use Rattle.ion_docs.specs.reading.DocStands.{DocStands, taken_of, failed_of, awaits_of, pending_of};
-ghost use Rattle.ion_model.specs.declared.refusal.Reason.TheVariants.{Memory};
+ghost use Rattle.ion_atoms.specs.declared.refusal.Reason.TheVariants.{Memory};
 ghost use Rattle.ion_model.specs.declared.value.Value.{Value as AnyValue};
 ghost use Rattle.ion_model.specs.Kept.{IsKept};
 ghost use Rattle.ion_binary.specs.Carrying.{WritesValue};

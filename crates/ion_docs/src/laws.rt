@@ -1,8 +1,8 @@
 //! Laws of documents and verdicts. Each stands on a function that does nothing: its contract is the law.
 ghost use Rattle.std.specs.Prelude.{◌≡◌, ◌↔◌, ℕ, List, [], map, Option, Result, Ok};
-ghost use Rattle.ion_model.specs.declared.refusal.Refusal.{Refusal};
+ghost use Rattle.ion_atoms.specs.declared.refusal.Refusal.{Refusal};
 ghost use Rattle.ion_model.specs.declared.value.Value.{Value};
-ghost use Rattle.ion_model.specs.Octets.{AreOctets};
+ghost use Rattle.ion_atoms.specs.Octets.{AreOctets};
 ghost use Rattle.ion_model.specs.Kept.{AreKept};
 ghost use Rattle.ion_symtab.specs.declared.catalog.Catalog.{Catalog};
 ghost use Rattle.ion_symtab.specs.declared.limits.Limits.{Limits};

@@ -1,6 +1,6 @@
 //! How paths are spelled.
 ghost use Rattle.std.specs.Prelude.{◌≡◌, ◌++◌, OnOk, IsOkUnless, MatchResult, string_bytes};
-ghost use Rattle.ion_model.specs.declared.refusal.Reason.TheVariants as reasons;
+ghost use Rattle.ion_atoms.specs.declared.refusal.Reason.TheVariants as reasons;
 ghost use Rattle.ion_docs.specs.Paths.{part_text, path_text};
 
 use ion_model::{Part, Path, Reason};

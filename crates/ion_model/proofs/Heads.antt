@@ -2,16 +2,16 @@
 use Rattle.std.proofs.Common.{◌≡◌, Bool, true, false, ◌&&◌, Ordering, Less, Equal, Greater, nat_eq, refl, sym, ◌∙◌, true≢false}
 use Rattle.std.specs.Cmp.Lexicographic.{slice_cmp}
 use Rattle.std.specs.Ordering.{ordering_then, on, then_cmp, nat_cmp, int_cmp, bool_cmp}
-use Rattle.ion_model.specs.declared.kind.Kind.{Kind}
+use Rattle.ion_atoms.specs.declared.kind.Kind.{Kind}
 use Rattle.ion_model.specs.declared.value.Value.{Value}
 use Rattle.ion_model.specs.declared.value.Payload.TheOpen.{Payload-F}
-use Rattle.ion_model.specs.Decimals.{decimal_cmp}
+use Rattle.ion_atoms.specs.Decimals.{decimal_cmp}
 use Rattle.ion_model.specs.Measures.{Layer}
 use Rattle.ion_model.specs.Order.{heads_cmp, layer_cmp, field_cmp}
 use Rattle.ion_model.specs.Same.{Scalar, items, fields, scalar}
 use Rattle.ion_model.specs.Symbols.{symbol_cmp, text_cmp}
-use Rattle.ion_model.specs.Timestamps.{timestamp_cmp}
-use Rattle.ion_model.specs.laws.Parts.{then_first, then_second, nat_back, bool_is}
+use Rattle.ion_atoms.specs.Timestamps.{timestamp_cmp}
+use Rattle.ion_atoms.specs.laws.Ties.{then_first, then_second, nat_back, bool_is}
 
 -- whether two payloads are of one kind, and neither is null
 abbrev pub alike : Layer → Layer → Bool

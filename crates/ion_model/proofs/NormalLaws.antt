@@ -20,7 +20,8 @@ use Rattle.ion_model.specs.declared.value.Value.{Value}
 use Rattle.ion_model.specs.declared.value.Field.{Field}
 use Rattle.ion_model.specs.declared.value.Payload.{Payload}
 use Rattle.ion_model.specs.declared.value.Payload.TheViews.{out-Payload, roll-Value}
-use Rattle.ion_model.specs.laws.Counts.{both, first, second, count_by-cons, alike_from, Counts, count}
+use Rattle.ion_model.specs.laws.Counts.{count_by-cons, alike_from, Counts, count}
+use Rattle.ion_atoms.specs.laws.Tests.{both, first, second}
 use Rattle.ion_model.specs.laws.Equivalence.{same-equiv, field_same-equiv, symbol_same-equiv}
 use Rattle.std.proofs.lemmas.Cmp.{lists_equiv}
 use Rattle.ion_model.specs.laws.Same.{same-is}

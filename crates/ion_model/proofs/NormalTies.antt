@@ -12,7 +12,8 @@ use Rattle.ion_model.specs.Normal.{IsNormal, AllFieldsNormal, FieldsInOrder, Are
 use Rattle.ion_model.specs.declared.value.Value.{Value}
 use Rattle.ion_model.specs.declared.value.Field.{Field}
 use Rattle.ion_model.specs.declared.value.Payload.TheViews.{out-Payload}
-use Rattle.ion_model.specs.laws.Counts.{same_bool, both, first, second, counts_from, alike_from}
+use Rattle.ion_model.specs.laws.Counts.{counts_from, alike_from}
+use Rattle.ion_atoms.specs.laws.Tests.{same_bool, both, first, second}
 use Rattle.ion_model.specs.laws.Measures.{depth-out}
 use Rattle.ion_model.specs.laws.Same.{same-is, same-agrees, items_deep, fields_deep, items-deep, fields-deep}
 use Rattle.ion_model.specs.laws.Order.{order-is, order-agrees}
@@ -20,7 +21,8 @@ use Rattle.ion_model.specs.laws.Equivalence.{same-equiv, same_to-equiv, field_sa
 use Rattle.ion_model.specs.laws.OrderTotal.{order-total, field_cmp-total}
 use Rattle.ion_model.proofs.NormalLaws.{layer_from, pointwise_counts}
 use Rattle.ion_model.proofs.NormalUnique.{tie}
-use Rattle.ion_model.specs.laws.Parts.{tie_from_is_eq, then_tie, then_first, then_second, symbol_tie, symbol_back, scalar_tie, scalar_back, pointwise_tie, pointwise_back}
+use Rattle.ion_model.specs.laws.Parts.{symbol_tie, symbol_back, scalar_tie, scalar_back, pointwise_tie, pointwise_back}
+use Rattle.ion_atoms.specs.laws.Ties.{tie_from_is_eq, then_tie, then_first, then_second}
 
 -- what ties as far as n levels show is the same so far
 same_to-from : (n : ℕ) (v w : Value) → order_to n v w ≡ Equal → same_to n v w ≡ true

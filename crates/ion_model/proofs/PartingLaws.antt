@@ -9,7 +9,8 @@ use Rattle.ion_model.specs.declared.value.Field.{Field}
 use Rattle.ion_model.specs.declared.value.Payload.TheViews.{out-Payload, outs-List, outs-Sexp, outs-Fields}
 use Rattle.ion_model.specs.declared.value.Payload.TheVariants as payloads
 use Rattle.ion_model.specs.declared.value.Payload.TheOpen.{Payload-F}
-use Rattle.ion_model.specs.laws.Counts.{bit, both, first, second, count_by-cons, counts_from}
+use Rattle.ion_model.specs.laws.Counts.{bit, count_by-cons, counts_from}
+use Rattle.ion_atoms.specs.laws.Tests.{both, first, second}
 use Rattle.ion_model.specs.laws.Equivalence.{same-equiv, field_same-equiv, symbol_same-equiv}
 use Rattle.ion_model.specs.Measures.{Layer, depth, greatest}
 use Rattle.ion_model.specs.Same.{Scalar, same, layer_same, scalar_same, scalar, items, fields, field_same, field_count, fields_same}

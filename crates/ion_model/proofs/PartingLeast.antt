@@ -4,7 +4,8 @@ use Rattle.std.specs.Cmp.Lexicographic.{slice_cmp}
 use Rattle.std.specs.Ordering.{is_lt, is_eq, ordering_reverse, ordering_then}
 use Rattle.std.proofs.lemmas.List.Sorted.{sorted_far, ranks_by}
 use Rattle.ion_model.specs.declared.value.Field.{Field}
-use Rattle.ion_model.specs.laws.Counts.{bit, first, second, count_by-cons, counts_from, Counts, Found, find, counted}
+use Rattle.ion_model.specs.laws.Counts.{bit, count_by-cons, counts_from, Counts, Found, find, counted}
+use Rattle.ion_atoms.specs.laws.Tests.{first, second}
 use Rattle.ion_model.specs.laws.Equivalence.{same-equiv, field_same-equiv}
 use Rattle.ion_model.specs.Normal.{AllFieldsNormal, FieldsInOrder, AreNormalOf}
 use Rattle.ion_model.specs.Order.{order, field_cmp}
@@ -14,7 +15,8 @@ use Rattle.ion_model.specs.Same.{same, field_same, field_count, fields_same}
 use Rattle.ion_model.specs.Symbols.{symbol_same, symbol_cmp}
 use Rattle.ion_model.proofs.NormalTies.{order-from_same, tied-fields, field_back}
 use Rattle.ion_model.specs.laws.OrderTotal.{order-total, field_cmp-total, symbol_cmp-total}
-use Rattle.ion_model.specs.laws.Parts.{then_tie, symbol_tie, symbol_from}
+use Rattle.ion_model.specs.laws.Parts.{symbol_tie, symbol_from}
+use Rattle.ion_atoms.specs.laws.Ties.{then_tie}
 
 abbrev E : Field → Field → Bool
 E = field_same same

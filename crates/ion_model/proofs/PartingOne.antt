@@ -8,7 +8,7 @@ use Rattle.ion_model.specs.declared.value.Value.{Value}
 use Rattle.ion_model.specs.declared.value.Field.{Field}
 use Rattle.ion_model.specs.declared.value.Payload.TheViews.{out-Payload}
 use Rattle.ion_model.specs.declared.value.Payload.TheOpen.{Payload-F}
-use Rattle.ion_model.specs.laws.Counts.{first, second}
+use Rattle.ion_atoms.specs.laws.Tests.{first, second}
 use Rattle.ion_model.specs.Measures.{Layer}
 use Rattle.ion_model.specs.Parting.{AtItems, AtFields, ItemsPart, FieldsPart, IsPath, LeastParting, heads_same, once_named}
 use Rattle.ion_model.specs.Same.{same, scalar, items, fields, field_count}

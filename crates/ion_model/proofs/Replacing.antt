@@ -7,7 +7,8 @@ use Rattle.ion_model.specs.declared.value.Field.{Field}
 use Rattle.ion_model.specs.declared.value.Payload.{Payload}
 use Rattle.ion_model.specs.declared.value.Payload.TheVariants as payloads
 use Rattle.ion_model.specs.declared.value.Payload.TheViews as views
-use Rattle.ion_model.specs.laws.Counts.{both, alike_from}
+use Rattle.ion_model.specs.laws.Counts.{alike_from}
+use Rattle.ion_atoms.specs.laws.Tests.{both}
 use Rattle.ion_model.specs.laws.Equivalence.{same-equiv, field_same-equiv, symbol_same-equiv}
 use Rattle.ion_model.specs.Measures.{Layer, annotated}
 use Rattle.ion_model.specs.Same.{same, field_same, fields_same, layer_same}

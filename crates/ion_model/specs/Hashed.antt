@@ -1,33 +1,19 @@
--- What decimals, timestamps and values feed a hasher: every part of them, values at every depth and as they stand.
+-- What symbols and values feed a hasher: every part of them, values at every depth and as they stand.
 use Rattle.std.specs.Prelude.{ℕ, List, [], ◌∷◌, ◌++◌, length, Bool, true, false, Option}
 use Rattle.std.specs.Hash as fed
 use Rattle.std.specs.Hash.{HashWrites}
-use Rattle.ion_model.specs.declared.kind.Kind.{Kind}
-use Rattle.ion_model.specs.declared.kind.Kind.TheVariants as kinds
-use Rattle.ion_model.specs.declared.timestamp.Local.{Local}
+use Rattle.ion_atoms.specs.declared.kind.Kind.{Kind}
+use Rattle.ion_atoms.specs.declared.kind.Kind.TheVariants as kinds
 use Rattle.ion_model.specs.declared.value.Value.{Value}
 use Rattle.ion_model.specs.declared.value.Field.{Field}
 use Rattle.ion_model.specs.declared.value.Payload.TheOpen.{Payload-F}
 use Rattle.ion_model.specs.declared.value.Payload.TheFolds.{fold-Value}
-use Rattle.ion_model.specs.Decimals.{DecimalParts}
-use Rattle.ion_model.specs.Kinds.{kind_rank}
-use Rattle.ion_model.specs.Timestamps.{TimestampParts, precision_rank}
+use Rattle.ion_atoms.specs.Kinds.{kind_rank}
+use Rattle.ion_atoms.specs.Hashed.{decimal_fed, timestamp_fed}
 
 -- whether the text is known, and then the text
 abbrev pub symbol_fed : Option (List ℕ) → HashWrites
 symbol_fed = fed.option fed.str
-
--- sign, magnitude and exponent
-abbrev pub decimal_fed : DecimalParts → HashWrites
-decimal_fed d = fed.bool d.negative ++ fed.u128 d.magnitude ++ fed.i32 d.exponent
-
--- the local fields, the year first
-abbrev pub local_fed : Local → HashWrites
-local_fed l = fed.u16 l.year ++ fed.u8 l.month ++ fed.u8 l.day ++ fed.u8 l.hour ++ fed.u8 l.minute ++ fed.u8 l.second ++ fed.u128 l.fraction
-
--- the precision, the offset and the local fields
-abbrev pub timestamp_fed : TimestampParts → HashWrites
-timestamp_fed t = fed.u16 (precision_rank t.precision) ++ fed.option fed.i16 t.offset ++ local_fed t.local
 
 -- how many octets there are, and then all of them at once
 abbrev pub octets_fed : List ℕ → HashWrites

@@ -6,11 +6,11 @@ use Rattle.ion_model.specs.declared.value.Field.{Field}
 use Rattle.ion_model.specs.declared.value.Payload.{Payload}
 use Rattle.ion_model.specs.declared.value.Payload.TheVariants as payloads
 use Rattle.ion_model.specs.declared.value.Payload.TheOpen.{Payload-F}
-use Rattle.ion_model.specs.declared.kind.Kind.{Kind}
-use Rattle.ion_model.specs.Decimals.{DecimalParts, IsDecimal}
-use Rattle.ion_model.specs.Timestamps.{TimestampParts, IsTimestamp}
-use Rattle.ion_model.specs.Ranges.{IsWhole}
-use Rattle.ion_model.specs.Octets.{AreOctets}
+use Rattle.ion_atoms.specs.declared.kind.Kind.{Kind}
+use Rattle.ion_atoms.specs.Decimals.{DecimalParts, IsDecimal}
+use Rattle.ion_atoms.specs.Timestamps.{TimestampParts, IsTimestamp}
+use Rattle.ion_atoms.specs.Ranges.{IsWhole}
+use Rattle.ion_atoms.specs.Octets.{AreOctets}
 pub use Rattle.ion_model.specs.Symbols.{IsText, AreTexts}
 use Rattle.ion_model.specs.Measures.{Layer, annotated, field_of}
 

@@ -1,16 +1,8 @@
 pub mod formers
-pub mod Octets
-pub mod Ranges
-pub mod Reasons
-pub mod Decimals
-pub mod Calendar
-pub mod Neighbours
-pub mod Timestamps
 pub mod Symbols
 pub mod Measures
 pub mod Kinds
 pub mod Outlines
-pub mod FlatTimestamps
 pub mod Kept
 pub mod Same
 pub mod Order

@@ -9,11 +9,11 @@ use Rattle.std.specs.declared.cmp.Ordering.TheVariants.{Equal}
 use Rattle.ion_model.specs.declared.value.Value.{Value}
 use Rattle.ion_model.specs.declared.value.Field.{Field}
 use Rattle.ion_model.specs.declared.value.Payload.TheViews.{out-Payload}
-use Rattle.ion_model.specs.Decimals.{decimal_cmp}
+use Rattle.ion_atoms.specs.Decimals.{decimal_cmp}
 use Rattle.ion_model.specs.Measures.{Layer, depth}
 use Rattle.ion_model.specs.Same.{Scalar, scalar, items, fields}
 use Rattle.ion_model.specs.Symbols.{text_cmp, symbol_cmp}
-use Rattle.ion_model.specs.Timestamps.{timestamp_cmp}
+use Rattle.ion_atoms.specs.Timestamps.{timestamp_cmp}
 
 -- by kind, a null first
 abbrev pub heads_cmp : Layer → Layer → Ordering

@@ -9,18 +9,18 @@ use Rattle.std.specs.Bool.{beq}
 use Rattle.std.specs.List.{list_all}
 use Rattle.std.specs.Ordering.{int_eq}
 use lib.Pointwise.{pointwise}
-use Rattle.ion_model.specs.declared.kind.Kind.{Kind}
-use Rattle.ion_model.specs.declared.kind.Kind.TheVariants as kinds
-use Rattle.ion_model.specs.declared.timestamp.Precision.TheVariants as precisions
+use Rattle.ion_atoms.specs.declared.kind.Kind.{Kind}
+use Rattle.ion_atoms.specs.declared.kind.Kind.TheVariants as kinds
+use Rattle.ion_atoms.specs.declared.timestamp.Precision.TheVariants as precisions
 use Rattle.ion_model.specs.declared.value.Value.{Value}
 use Rattle.ion_model.specs.declared.value.Field.{Field}
 use Rattle.ion_model.specs.declared.value.Payload.TheOpen.{Payload-F}
 use Rattle.ion_model.specs.declared.value.Payload.TheViews.{out-Payload}
-use Rattle.ion_model.specs.Decimals.{DecimalParts, decimal_same}
-use Rattle.ion_model.specs.Kinds.{kind_rank}
+use Rattle.ion_atoms.specs.Decimals.{DecimalParts, decimal_same}
+use Rattle.ion_atoms.specs.Kinds.{kind_rank}
 use Rattle.ion_model.specs.Measures.{Layer, depth}
 use Rattle.ion_model.specs.Symbols.{text_same, symbol_same}
-use Rattle.ion_model.specs.Timestamps.{TimestampParts, timestamp_same}
+use Rattle.ion_atoms.specs.Timestamps.{TimestampParts, timestamp_same}
 
 abbrev pub no_decimal : DecimalParts
 no_decimal = record { negative = false; magnitude = 0; exponent = pos 0 }

@@ -9,7 +9,4 @@ pub mod Measures
 pub mod Counts
 pub mod Same
 pub mod Equivalence
-pub mod Calendar
-pub mod Neighbours
-pub mod Timestamps
 pub mod PartingSteps

@@ -1,11 +1,11 @@
 //! Copies of values.
 ghost use Rattle.std.specs.Prelude.{◌≡◌, MatchResult};
-ghost use Rattle.ion_model.specs.declared.refusal.Reason.TheVariants as reasons;
+ghost use Rattle.ion_atoms.specs.declared.refusal.Reason.TheVariants as reasons;
 
-use crate::refusal::Reason;
 use crate::sequence::Sequence;
 use crate::symbol::Symbol;
 use crate::value::{Field, Payload, Value};
+use ion_atoms::Reason;
 use std::alloc::Global;
 
 impl Value {

@@ -3,7 +3,7 @@ ghost use Rattle.std.specs.Prelude.{◌≡◌, IfOk, MatchResult};
 ghost use Rattle.std.specs.Ordering.{is_eq};
 ghost use Rattle.std.specs.Cmp.Lexicographic.{slice_cmp};
 ghost use lib.Pointwise.{pointwise};
-ghost use Rattle.ion_model.specs.declared.refusal.Reason.TheVariants as reasons;
+ghost use Rattle.ion_atoms.specs.declared.refusal.Reason.TheVariants as reasons;
 ghost use Rattle.ion_model.specs.declared.value.Payload.TheViews.{out-Payload};
 ghost use Rattle.ion_model.specs.Same.{same, fields_same, layer_same};
 ghost use Rattle.ion_model.specs.Order.{order, field_cmp};
@@ -12,10 +12,10 @@ ghost use Rattle.ion_model.specs.Normal.{AreNormalOf};
 use crate::compare::{order, order_fields};
 use crate::copy::copy_fields;
 use crate::normal::tidy_fields;
-use crate::refusal::Reason;
 use crate::same::{same_payload, same_symbols};
 use crate::sequence::Sequence;
 use crate::value::{Field, Payload, Value};
+use ion_atoms::Reason;
 use std::alloc::Global;
 
 /// Whether two values are equivalent, as `same_slow` says. The only refusal is `Memory`. Values that

@@ -2,12 +2,12 @@
 ghost use Rattle.std.specs.Prelude.{◌≡◌, ◌++◌, true, fold};
 ghost use Rattle.std.specs.Hash as fed;
 ghost use Rattle.ion_model.specs.Hashed.{head_fed, octets_fed, layer_fed, hashed, field_hashed};
-ghost use Rattle.ion_model.specs.declared.kind.Kind.TheVariants as kinds;
+ghost use Rattle.ion_atoms.specs.declared.kind.Kind.TheVariants as kinds;
 ghost use Rattle.ion_model.specs.laws.Hashed.{values_alike};
 ghost use Rattle.ion_model.specs.declared.value.Payload.TheViews.{out-Payload};
 
-use crate::kind::Kind;
 use crate::value::{Field, Payload, Value};
+use ion_atoms::Kind;
 use std::hash::{Hash, Hasher};
 
 // Calls itself once for each level (`Value`).

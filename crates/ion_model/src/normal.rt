@@ -1,16 +1,15 @@
 //! Normal forms: the fields of each struct in order, inner levels first.
 ghost use Rattle.std.specs.Prelude.{◌≡◌, true, IsTrue, OnOk, IfOk, IfErr, MatchResult, IsPermutation};
-ghost use Rattle.ion_model.specs.declared.refusal.Reason.TheVariants as reasons;
+ghost use Rattle.ion_atoms.specs.declared.refusal.Reason.TheVariants as reasons;
 ghost use lib.Pointwise.{pointwise};
 ghost use Rattle.ion_model.specs.Same.{same, field_same, fields_same, layer_same};
 ghost use Rattle.ion_model.specs.declared.value.Payload.TheViews.{out-Payload};
 ghost use Rattle.ion_model.specs.Normal.{IsNormal, LayerNormal, AllNormal, AllFieldsNormal, FieldsInOrder};
 
 use crate::compare::order_field;
-use crate::kind::Kind;
-use crate::refusal::Reason;
 use crate::sequence::Sequence;
 use crate::value::{Field, Payload, Value};
+use ion_atoms::{Kind, Reason};
 use std::alloc::{AllocError, Global};
 use std::mem;
 

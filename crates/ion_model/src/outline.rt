@@ -2,8 +2,8 @@
 ghost use Rattle.std.specs.Prelude.{◌≡◌};
 ghost use Rattle.ion_model.specs.Outlines.{outline_of};
 
-use crate::kind::Kind;
 use crate::value::Value;
+use ion_atoms::Kind;
 
 /// What sort of value a value is, and how large it is.
 #[derive(Debug, Clone, Copy, Drop, PartialEq, Eq)]

@@ -1,18 +1,18 @@
 //! Where two values part.
 ghost use Rattle.std.specs.Prelude.{◌≡◌, [], true, false, option_map, OnOk, IfErr, MatchResult, MatchOption};
 ghost use lib.Pointwise.{pointwise};
-ghost use Rattle.ion_model.specs.declared.refusal.Reason.TheVariants as reasons;
+ghost use Rattle.ion_atoms.specs.declared.refusal.Reason.TheVariants as reasons;
 ghost use Rattle.ion_model.specs.Same.{same, fields_same};
 ghost use Rattle.ion_model.specs.Parting.{IsPath, IsParting, LeastParting, once_named};
 ghost use Rattle.ion_model.specs.laws.PartingSteps.{Extends, ItemsPath, FieldsPath, AgreeTo, first_untied};
 
 use crate::compare::order_field;
 use crate::equivalence::{equivalent, sorted};
-use crate::refusal::Reason;
 use crate::same::same_symbols;
 use crate::sequence::Sequence;
 use crate::symbol::Symbol;
 use crate::value::{Field, Payload, Value};
+use ion_atoms::Reason;
 use std::alloc::Global;
 use std::cmp::Ordering;
 use std::marker::Model;

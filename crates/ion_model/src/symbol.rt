@@ -1,10 +1,10 @@
 //! Symbols: texts that name things, of which some are unknown.
 ghost use Rattle.std.specs.Prelude.{◌≡◌, Some, None, MatchResult, option_map};
-ghost use Rattle.ion_model.specs.declared.refusal.Reason.TheVariants as reasons;
+ghost use Rattle.ion_atoms.specs.declared.refusal.Reason.TheVariants as reasons;
 ghost use Rattle.ion_model.specs.Kinds.{names_table};
 ghost use Rattle.ion_model.specs.Symbols.{IsText, symbol_same, symbol_cmp};
 
-use crate::refusal::Reason;
+use ion_atoms::Reason;
 use std::alloc::Global;
 use std::cmp::Ordering;
 use std::marker::Model;

@@ -3,13 +3,9 @@ ghost use Rattle.std.specs.Prelude.{◌≡◌};
 ghost use Rattle.ion_model.specs.Kinds.{kind_of, is_table};
 ghost use Rattle.ion_model.specs.Measures.{bare};
 
-use crate::decimal::Decimal;
-use crate::kind::Kind;
 use crate::sequence::Sequence;
 use crate::symbol::Symbol;
-use crate::text::{Bytes, Text};
-use crate::timestamp::Timestamp;
-use crate::whole::Whole;
+use ion_atoms::{Bytes, Decimal, Kind, Text, Timestamp, Whole};
 use std::alloc::Global;
 
 /// A value (Ion 1.0, "The Ion Data Model").

@@ -1,12 +1,12 @@
 //! The bodies of decimals in binary (Ion 1.0, "Ion Binary Encoding", decimal).
 ghost use Rattle.std.specs.Prelude.{Result, ◌≡◌, ◌<◌, ◌^◌, IsTrue, SomeIff, is_ok};
-ghost use Rattle.ion_model.specs.Decimals.{DecimalParts};
+ghost use Rattle.ion_atoms.specs.Decimals.{DecimalParts};
 ghost use Rattle.ion_scalar.specs.binary.Reads.{ReadsDecimalBody};
 ghost use Rattle.ion_scalar.specs.text.Decimals.{signed};
 ghost use Rattle.ion_scalar.specs.binary.Decimal.{decimal_of_body, decimal_with, with_coefficient, exponent_fits};
 
 use crate::fields::{Signed, int_of, read_var_int};
-use ion_model::{Decimal, Reason};
+use ion_atoms::{Decimal, Reason};
 
 /// The decimal whose body is all of `octets`: the exponent as a VarInt, of which -0 reads as 0, and behind it the coefficient as
 /// an Int, which may be -0 (Ion 1.0, "Ion Binary Encoding", decimal). No octets are 0d0.

@@ -2,7 +2,7 @@
 ghost use Rattle.std.specs.Prelude.{◌≡◌, ◌/◌, ◌%◌, ◌<◌};
 ghost use Rattle.ion_scalar.specs.binary.Descriptor.{descriptor_of, typed, size, kind};
 
-use ion_model::{Kind, Reason};
+use ion_atoms::{Kind, Reason};
 
 /// How many octets the body has: that many, below 14, or as many as the VarUInt behind the descriptor says.
 #[derive(Clone, Copy, Debug, PartialEq, Eq)]

@@ -2,7 +2,7 @@
 ghost use Rattle.std.specs.Prelude.{◌≡◌, ◌<◌, ◌≤◌, ◌+◌, ◌^◌, ◌∷◌, SomeIff, is_ok, length};
 ghost use Rattle.ion_scalar.specs.binary.Fields.{positional, var_uint, var_int, var_rest, uint_field, int_field, signed_of};
 
-use ion_model::Reason;
+use ion_atoms::Reason;
 
 /// Reads the VarUInt at the front of `octets`: its value, and how many octets it takes.
 ///

@@ -3,9 +3,9 @@ ghost use Rattle.std.specs.Prelude.{◌≡◌, ◌↔◌, ◌≤◌, ◌++◌, �
 ghost use Rattle.ion_scalar.specs.binary.Fields.{positional, int_negative, int_magnitude, VarUInt, VarInt, var_uint, var_int, signed_of};
 ghost use Rattle.ion_scalar.specs.binary.Reads.{ReadsVarUInt, ReadsVarInt, ReadsDecimalBody};
 ghost use Rattle.ion_scalar.specs.binary.Spellings.{AreBelow, var_uint_octets, var_int_octets, uint_octets, int_octets};
-ghost use Rattle.ion_model.specs.Ranges.{IsWhole};
-ghost use Rattle.ion_model.specs.Decimals.{DecimalParts, IsDecimal};
-ghost use Rattle.ion_model.specs.declared.refusal.Reason.{Reason};
+ghost use Rattle.ion_atoms.specs.Ranges.{IsWhole};
+ghost use Rattle.ion_atoms.specs.Decimals.{DecimalParts, IsDecimal};
+ghost use Rattle.ion_atoms.specs.declared.refusal.Reason.{Reason};
 ghost use Rattle.ion_scalar.specs.binary.Decimal.{IsDecimalField, decimal_of_body};
 ghost use Rattle.ion_scalar.specs.declared.number.Number.{Number};
 ghost use Rattle.ion_scalar.specs.declared.number.Number.TheVariants as numbers;
@@ -14,9 +14,9 @@ ghost use Rattle.ion_scalar.specs.text.Reading.{number_read};
 ghost use Rattle.ion_scalar.specs.text.Texts.{number_text};
 ghost use Rattle.ion_scalar.specs.binary.laws.DescriptorRows.{IsTable};
 ghost use Rattle.ion_scalar.specs.binary.Shifted.{moved};
-ghost use Rattle.ion_model.specs.declared.calendar.Minute.{Minute};
-ghost use Rattle.ion_model.specs.Calendar.{IsMinute, InYears, minute_number};
-ghost use Rattle.ion_model.specs.Timestamps.{TimestampParts, IsTimestamp, IsOffset};
+ghost use Rattle.ion_atoms.specs.declared.calendar.Minute.{Minute};
+ghost use Rattle.ion_atoms.specs.Calendar.{IsMinute, InYears, minute_number};
+ghost use Rattle.ion_atoms.specs.Timestamps.{TimestampParts, IsTimestamp, IsOffset};
 ghost use Rattle.ion_scalar.specs.binary.TimestampReasons.{ReadsTimestampBody};
 ghost use Rattle.ion_scalar.specs.binary.Timestamp.{IsTimestampBody, timestamp_of_body};
 

@@ -1,8 +1,8 @@
 //! Number tokens (Ion 1.0, "Ion Text Encoding" and its grammar, ints, decimals and timestamps).
 ghost use Rattle.std.specs.Prelude.{ℕ, Result, ◌≡◌, ◌≤◌, ◌^◌, min, IfOk, IfErr, IfSome, IfNone, IsTrue, ◌↔◌};
 ghost use Rattle.ion_scalar.specs.text.Timestamps.{IsShort};
-ghost use Rattle.ion_model.specs.declared.refusal.Reason.TheVariants.{TooLarge};
-ghost use Rattle.ion_model.specs.declared.refusal.Reason.{Reason};
+ghost use Rattle.ion_atoms.specs.declared.refusal.Reason.TheVariants.{TooLarge};
+ghost use Rattle.ion_atoms.specs.declared.refusal.Reason.{Reason};
 ghost use Rattle.ion_scalar.specs.declared.number.Number.{Number};
 ghost use Rattle.ion_scalar.specs.declared.number.Number.TheVariants as numbers;
 ghost use Rattle.ion_scalar.specs.text.Ints.{HasBase};
@@ -13,7 +13,7 @@ use crate::decimals::{Tail, power, tail_of, whole_of};
 use crate::digits::all_digits;
 use crate::ints::split_sign;
 use crate::timestamps::stamp_of;
-use ion_model::{Decimal, Precision, Reason, Timestamp, Whole};
+use ion_atoms::{Decimal, Precision, Reason, Timestamp, Whole};
 
 /// A number, as a token spells it.
 #[derive(Clone, Copy, Debug, PartialEq, Eq)]

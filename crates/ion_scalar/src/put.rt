@@ -1,14 +1,14 @@
 //! Numbers written as octets: always the fewest (Ion 1.0, "Ion Binary Encoding", basic field formats).
 ghost use Rattle.std.specs.Prelude.{◌≡◌, ℕ, ◌<◌, ◌≤◌, ◌+◌, ◌-◌, ◌*◌, ◌^◌, ◌/◌, ◌⊎◌, ◌++◌, List, OnOk, OnErr, IsOkUnless, Ok, drop, length, vec_len, vec_capacity};
 ghost use Rattle.std.specs.Int.Digits.{digits_of};
-ghost use Rattle.ion_model.specs.declared.refusal.Reason.TheVariants.{Memory};
+ghost use Rattle.ion_atoms.specs.declared.refusal.Reason.TheVariants.{Memory};
 ghost use Rattle.ion_scalar.specs.binary.Fields.{var_uint, var_int, uint_field, int_field};
 ghost use Rattle.ion_scalar.specs.binary.Decimal.{decimal_of_body};
 ghost use Rattle.ion_scalar.specs.binary.Spellings.{decimal_octets, var_uint_octets, var_int_octets, uint_octets, int_octets, signed_digits};
 ghost use Rattle.ion_scalar.specs.binary.Spellings.{sign_bit as spelled_sign};
 
 use crate::fields::Signed;
-use ion_model::{Decimal, Reason};
+use ion_atoms::{Decimal, Reason};
 
 /// Appends `value` as a VarUInt (Ion 1.0, "Ion Binary Encoding", "VarUInt and VarInt Fields").
 /// Answers `Memory`, and leaves `out` as it was, where it has no room and gets none.

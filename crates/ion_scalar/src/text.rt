@@ -1,9 +1,9 @@
 //! Numbers written as text, each in its one spelling (Ion 1.0, "Ion Text Encoding" and its grammar, ints, decimals and timestamps).
 ghost use Rattle.std.specs.Prelude.{◌≡◌, ℤ, ◌<◌, ◌≤◌, ◌+◌, ◌-◌, ◌^◌, ◌∷◌, ◌++◌, OnOk, OnErr, IsOkUnless, Ok, ◌%◌, ◌/◌, IfSome, Some, drop, length, vec_len, vec_capacity};
-ghost use Rattle.ion_model.specs.Timestamps.{IsOffset};
+ghost use Rattle.ion_atoms.specs.Timestamps.{IsOffset};
 ghost use Rattle.ion_scalar.specs.text.Timestamps.{IsShort};
 ghost use Rattle.std.specs.Fmt.{decimal, signed_decimal};
-ghost use Rattle.ion_model.specs.declared.refusal.Reason.TheVariants.{Memory};
+ghost use Rattle.ion_atoms.specs.declared.refusal.Reason.TheVariants.{Memory};
 ghost use Rattle.ion_scalar.specs.declared.number.Number.TheVariants as numbers;
 ghost use Rattle.ion_scalar.specs.text.Numbers.{ReadsNumber};
 ghost use Rattle.ion_scalar.specs.text.Ints.{minus};
@@ -11,7 +11,7 @@ ghost use Rattle.ion_scalar.specs.text.Texts.{number_text, decimal_text, timesta
 
 use crate::number::Number;
 use crate::put::append;
-use ion_model::{Decimal, Local, Precision, Reason, Timestamp, Whole};
+use ion_atoms::{Decimal, Local, Precision, Reason, Timestamp, Whole};
 
 /// More octets than any number takes.
 const ROOM: usize = 96;

@@ -1,14 +1,14 @@
 //! The bodies of timestamps in binary (Ion 1.0, "Ion Binary Encoding", timestamp).
 ghost use Rattle.std.specs.Prelude.{Result, ◌≡◌, ◌<◌, ◌≤◌, ◌^◌, length, IfOk, IfSome};
-ghost use Rattle.ion_model.specs.Timestamps.{TimestampParts, IsOffset, minutes_ahead};
+ghost use Rattle.ion_atoms.specs.Timestamps.{TimestampParts, IsOffset, minutes_ahead};
 ghost use Rattle.ion_scalar.specs.binary.Timestamp.{timestamp_of_body, shown_by, shown, kept_offset, offset_from, local_in, day_known, time_known};
 ghost use Rattle.ion_scalar.specs.binary.Timestamp.{read_offset, read_field, read_fields, read_behind_year, read_behind_month, read_behind_day, read_behind_hour, read_behind_minute, read_behind_second, read_fraction};
 ghost use Rattle.ion_scalar.specs.binary.laws.Timestamp.{IsUtc};
 ghost use Rattle.ion_scalar.specs.binary.TimestampReasons.{ReadsTimestampBody};
 
 use crate::fields::{Signed, int_of, read_var_int, read_var_uint};
-use ion_model::calendar::{Date, Minute, days_of_month};
-use ion_model::{Local, Precision, Reason, Timestamp};
+use ion_atoms::calendar::{Date, Minute, days_of_month};
+use ion_atoms::{Local, Precision, Reason, Timestamp};
 
 /// A point in time in UTC, as far as it is known.
 #[derive(Clone, Copy, Debug)]

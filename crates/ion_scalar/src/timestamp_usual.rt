@@ -1,13 +1,13 @@
 //! Whether octets are the body of a timestamp (Ion 1.0, "Ion Binary Encoding", timestamp), where nobody asks for its parts. Bodies
 //! of the usual form are judged part by part; what is unusual isn't told of them here.
 ghost use Rattle.std.specs.Prelude.{◌≡◌, ◌<◌, ◌≤◌, ◌^◌, ℕ, true, Ok, is_ok, IsOkAnd, IfSome, length};
-ghost use Rattle.ion_model.specs.declared.calendar.Date.{Date};
-ghost use Rattle.ion_model.specs.declared.calendar.Minute.{Minute};
+ghost use Rattle.ion_atoms.specs.declared.calendar.Date.{Date};
+ghost use Rattle.ion_atoms.specs.declared.calendar.Minute.{Minute};
 ghost use Rattle.ion_scalar.specs.binary.Timestamp.{timestamp_of_body, read_field, read_fields, read_behind_year, read_behind_month, read_behind_day, read_behind_hour, read_behind_minute, read_behind_second};
 
 use crate::fields::int_of;
 use crate::timestamp_body::{field, offset_of, timestamp_of};
-use ion_model::calendar::days_of_month;
+use ion_atoms::calendar::days_of_month;
 
 /// Whether the octets are the body of a timestamp, that is, whether `timestamp_of` answers one. Takes no memory.
 pub fn is_timestamp_body(octets: &[u8]) -> bool

@@ -1,15 +1,15 @@
 //! Timestamps written as octets: always the fewest (Ion 1.0, "Ion Binary Encoding", timestamp).
 ghost use Rattle.std.specs.Prelude.{◌≡◌, ◌≤◌, ◌<◌, ◌+◌, ◌^◌, ◌++◌, OnOk, OnErr, IsOkUnless, IfSome, Ok, drop, length, vec_len, vec_capacity};
-ghost use Rattle.ion_model.specs.declared.refusal.Reason.TheVariants.{Memory};
-ghost use Rattle.ion_model.specs.Timestamps.{IsOffset, IsTimestamp};
+ghost use Rattle.ion_atoms.specs.declared.refusal.Reason.TheVariants.{Memory};
+ghost use Rattle.ion_atoms.specs.Timestamps.{IsOffset, IsTimestamp};
 ghost use Rattle.ion_scalar.specs.binary.Timestamp.{timestamp_of_body};
 ghost use Rattle.ion_scalar.specs.binary.TimestampSpellings.{timestamp_octets, ahead_octets, utc_of, fields_octets, octets_behind_year, octets_behind_month, octets_behind_day, octets_behind_minute, octets_behind_second};
 
 use crate::fields::Signed;
 use crate::put::{append, int_before, var_int_before, var_uint_before};
 use crate::timestamp_body::{Utc, ahead_of_utc};
-use ion_model::calendar::{Date, Minute};
-use ion_model::{Precision, Reason, Timestamp};
+use ion_atoms::calendar::{Date, Minute};
+use ion_atoms::{Precision, Reason, Timestamp};
 
 /// More octets than the parts of a timestamp take.
 const ROOM: usize = 96;

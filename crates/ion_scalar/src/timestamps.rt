@@ -1,13 +1,13 @@
 //! The parts of timestamp tokens (Ion 1.0, "Timestamps").
 ghost use Rattle.std.specs.Prelude.{ℕ, ◌≡◌, ◌<◌, ◌≤◌, ◌+◌, ◌-◌, ◌*◌, ◌^◌, ◌++◌, List, length, drop, min, slice_index, IfSome, IfNone, SomeIff, IsTrue, ◌↔◌, ◌⊎◌, ◌==◌, if◌then◌else◌, pos, neg_ℤ, Some, None};
-ghost use Rattle.ion_model.specs.declared.timestamp.Precision.TheVariants as precisions;
-ghost use Rattle.ion_model.specs.Timestamps.{TimestampParts};
+ghost use Rattle.ion_atoms.specs.declared.timestamp.Precision.TheVariants as precisions;
+ghost use Rattle.ion_atoms.specs.Timestamps.{TimestampParts};
 ghost use Rattle.ion_scalar.specs.text.Ints.{number};
 ghost use Rattle.ion_scalar.specs.text.Decimals.{IsPlain};
 ghost use Rattle.ion_scalar.specs.text.Timestamps.{IsAt, IsDigitAt, AreTwoAt, two, AreFourAt, four, BeginsWithMonth, BeginsWithDay, BeginsWithMinute, BeginsWithSecond, IsOffsetToken, offset_read, minute_read, dated, IsYear, IsMonth, IsDay, IsFractionEnd, IsTimestampToken, stamp};
 
 use crate::digits::digits_at;
-use ion_model::{Local, Precision};
+use ion_atoms::{Local, Precision};
 
 /// The parts that a token spells, whether or not there is such a day and time.
 #[derive(Clone, Copy, Debug)]

@@ -4,8 +4,8 @@ use Rattle.ion_model.specs.declared.value.Value.{Value}
 use Rattle.ion_model.specs.declared.value.Field.{Field}
 use Rattle.ion_model.specs.declared.value.Payload.TheOpen.{Payload-F}
 use Rattle.ion_model.specs.declared.value.Payload.TheViews.{out-Payload}
-use Rattle.ion_model.specs.declared.refusal.Reason.{Reason}
-use Rattle.ion_model.specs.declared.refusal.Reason.TheVariants.{Memory, Incomplete, DuplicateTable, BadTable}
+use Rattle.ion_atoms.specs.declared.refusal.Reason.{Reason}
+use Rattle.ion_atoms.specs.declared.refusal.Reason.TheVariants.{Memory, Incomplete, DuplicateTable, BadTable}
 use Rattle.ion_model.specs.Measures.{Layer}
 use Rattle.ion_symtab.specs.Slots.{Slot, text, unknown, gap, resolve, slot_symbol, symbol_at, greatest_id}
 use Rattle.ion_symtab.specs.Fields.{only, at_most_one, values_of, table_name, version_of, count_of, elements}

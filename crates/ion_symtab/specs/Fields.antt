@@ -1,8 +1,8 @@
 -- What the fields of a symbol table say (Ion 1.0, "Symbols").
 use Rattle.std.specs.Prelude.{if◌then◌else◌, ℕ, ℤ, pos, negsuc, max, List, [], ◌∷◌, Option, None, Some, Bool, false, not, ◌&&◌, ◌==◌, Result, Ok, Err, codes, length}
 use Rattle.std.specs.Str.{bytes_eq}
-use Rattle.ion_model.specs.declared.refusal.Reason.{Reason}
-use Rattle.ion_model.specs.declared.refusal.Reason.TheVariants as reasons
+use Rattle.ion_atoms.specs.declared.refusal.Reason.{Reason}
+use Rattle.ion_atoms.specs.declared.refusal.Reason.TheVariants as reasons
 use Rattle.ion_model.specs.declared.value.Value.{Value}
 use Rattle.ion_model.specs.declared.value.Field.{Field}
 use Rattle.ion_model.specs.declared.value.Payload.TheOpen.{Payload-F}

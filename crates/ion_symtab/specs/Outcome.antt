@@ -1,7 +1,7 @@
 -- What a call that takes memory answers.
 use Rattle.std.specs.Prelude.{◌≡◌, ◌⊎◌, Result, Ok, Err, MatchResult}
-use Rattle.ion_model.specs.declared.refusal.Reason.{Reason}
-use Rattle.ion_model.specs.declared.refusal.Reason.TheVariants as reasons
+use Rattle.ion_atoms.specs.declared.refusal.Reason.{Reason}
+use Rattle.ion_atoms.specs.declared.refusal.Reason.TheVariants as reasons
 
 -- the answer is the one that is wanted, or memory was refused
 abbrev pub Gives : {T : Type 0} → Result T Reason → Result T Reason → Type 0

@@ -1,7 +1,7 @@
 -- Contexts: lists of slots, of which the first has the id 1 (Ion 1.0, "Symbols").
 use Rattle.std.specs.Prelude.{if◌then◌else◌, ℕ, ◌-◌, ◌==◌, List, [], ◌∷◌, map, Option, None, Some, Result, Ok, Err, codes, slice_get, length, ◌≡◌, refl}
-use Rattle.ion_model.specs.declared.refusal.Reason.{Reason}
-use Rattle.ion_model.specs.declared.refusal.Reason.TheVariants as reasons
+use Rattle.ion_atoms.specs.declared.refusal.Reason.{Reason}
+use Rattle.ion_atoms.specs.declared.refusal.Reason.TheVariants as reasons
 
 -- what stands at an id: a text, unknown text, or a gap, whose id may not be used
 pub data Slot : Type 0 where

@@ -1,8 +1,8 @@
 -- Shared symbol tables, and the catalog (Ion 1.0, "Symbols", "Shared Symbol Tables").
 use Rattle.std.specs.Prelude.{◌+◌, if◌then◌else◌, ℕ, List, [], ◌∷◌, Option, None, Some, Bool, ◌&&◌, ◌==◌, nat_le, Result, Ok, Err, length}
 use Rattle.std.specs.Str.{bytes_eq}
-use Rattle.ion_model.specs.declared.refusal.Reason.{Reason}
-use Rattle.ion_model.specs.declared.refusal.Reason.TheVariants as reasons
+use Rattle.ion_atoms.specs.declared.refusal.Reason.{Reason}
+use Rattle.ion_atoms.specs.declared.refusal.Reason.TheVariants as reasons
 use Rattle.ion_symtab.specs.Slots.{greatest_id}
 use Rattle.ion_symtab.specs.Fields.{is_table_name}
 

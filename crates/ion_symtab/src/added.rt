@@ -1,6 +1,6 @@
 //! The slots of a context behind the system slots.
 ghost use Rattle.std.specs.Prelude.{◌≡◌, ◌⊎◌, ◌≤◌, ◌<◌, ◌+◌, ◌-◌, ◌++◌, [], length, map, Ok, Err, MatchResult, OnOk, OnErr, IfErr, slice_get};
-ghost use Rattle.ion_model.specs.declared.refusal.Reason.TheVariants as reasons;
+ghost use Rattle.ion_atoms.specs.declared.refusal.Reason.TheVariants as reasons;
 ghost use Rattle.ion_symtab.specs.Slots.{greatest_id, symbol_at};
 ghost use Rattle.ion_symtab.specs.Fields.{symbol_of};
 ghost use Rattle.ion_symtab.specs.Next.{local_slot, joined};

@@ -1,6 +1,6 @@
 //! The shared symbol tables that documents may import (Ion 1.0, "Symbols", "Shared Symbol Tables").
 ghost use Rattle.std.specs.Prelude.{◌≡◌, ◌⊎◌, [], ◌∷◌, ◌++◌, IfErr, OnOk, OnErr, IsSome, is_some, Option, option_copied};
-ghost use Rattle.ion_model.specs.declared.refusal.Reason.TheVariants as reasons;
+ghost use Rattle.ion_atoms.specs.declared.refusal.Reason.TheVariants as reasons;
 ghost use Rattle.ion_symtab.specs.laws.ContextTexts.{AreTextTables};
 ghost use Rattle.ion_symtab.specs.Tables.{find, find_best, newest};
 ghost use Rattle.ion_symtab.specs.kept.Places.{table_at, newest_place};

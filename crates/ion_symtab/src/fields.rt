@@ -1,6 +1,6 @@
 //! The fields of symbol tables.
 ghost use Rattle.std.specs.Prelude.{◌≡◌, Ok, Err, MatchResult, map, option_map, option_copied};
-ghost use Rattle.ion_model.specs.declared.refusal.Reason.TheVariants as reasons;
+ghost use Rattle.ion_atoms.specs.declared.refusal.Reason.TheVariants as reasons;
 ghost use Rattle.ion_symtab.specs.Fields.{is_text, only, elements, is_table_name, table_name, natural, count_of, version_of, symbol_of};
 
 use ion_model::{Field, Payload, Reason, Symbol, Value};

@@ -2,7 +2,7 @@
 ghost use Rattle.std.specs.Prelude.{◌≡◌, ℕ, ◌+◌, ◌*◌, ◌≤◌, ◌<◌, ◌^◌, List, [], ◌∷◌, ◌++◌, length, take, drop, Option, Result, IfOk, IfErr, IfSome, IsNone, IsSome, option_map, true, false, ◌↔◌};
 ghost use Rattle.ion_model.specs.declared.value.Value.{Value};
 ghost use Rattle.ion_model.specs.Outlines.{outline_of};
-ghost use Rattle.ion_model.specs.declared.refusal.Reason.TheVariants.{Memory};
+ghost use Rattle.ion_atoms.specs.declared.refusal.Reason.TheVariants.{Memory};
 ghost use Rattle.ion_symtab.specs.Trace.{Trace, Answers, Finishes, UsesAll, Grows, Streams, IsFront, plain, given_at};
 ghost use Rattle.ion_symtab.specs.Promises.{Refuses, Shown, Shows, IsSmall, HasReasons, GivesNoTable};
 
@@ -55,7 +55,7 @@ impl Step {
 /// used so far, and s the values that they gave. A total or an offset counts octets from the
 /// document's first. Octets that may follow are any numbers from 0 to 255.
 pub trait Items: Sized {
-    ghost use Rattle.ion_model.specs.declared.refusal.Refusal.{Refusal};
+    ghost use Rattle.ion_atoms.specs.declared.refusal.Refusal.{Refusal};
     ghost use Rattle.ion_symtab.specs.declared.catalog.Catalog.{Catalog};
     ghost use Rattle.ion_symtab.specs.declared.limits.Limits.{Limits};
 

@@ -1,6 +1,6 @@
 //! Slots of a context in segments, so that a gap of any length takes no memory.
 ghost use Rattle.std.specs.Prelude.{◌≡◌, ◌⊎◌, ◌≤◌, ◌<◌, ◌+◌, ◌-◌, ◌++◌, [], length, map, Ok, Err, MatchResult, OnOk, OnErr, IfOk, IfErr, IsTrue, slice_get};
-ghost use Rattle.ion_model.specs.declared.refusal.Reason.TheVariants as reasons;
+ghost use Rattle.ion_atoms.specs.declared.refusal.Reason.TheVariants as reasons;
 ghost use Rattle.ion_model.specs.declared.value.Payload.TheViews.{out-Payload};
 ghost use Rattle.ion_symtab.specs.Slots.{greatest_id, symbol_at, slot_symbol};
 ghost use Rattle.ion_symtab.specs.Fields.{symbol_of};

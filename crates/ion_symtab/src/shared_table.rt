@@ -1,6 +1,6 @@
 //! Shared symbol tables.
 ghost use Rattle.std.specs.Prelude.{◌≡◌, MatchResult, map, option_map, option_copied, string_bytes};
-ghost use Rattle.ion_model.specs.declared.refusal.Reason.TheVariants as reasons;
+ghost use Rattle.ion_atoms.specs.declared.refusal.Reason.TheVariants as reasons;
 ghost use Rattle.ion_model.specs.Symbols.{AreTexts};
 ghost use Rattle.ion_symtab.specs.Outcome.{Gives};
 ghost use Rattle.ion_symtab.specs.Fields.{payload_of};

@@ -1,6 +1,6 @@
 //! Lists of symbols that several tables and contexts share.
 ghost use Rattle.std.specs.Prelude.{◌≡◌, MatchResult};
-ghost use Rattle.ion_model.specs.declared.refusal.Reason.TheVariants as reasons;
+ghost use Rattle.ion_atoms.specs.declared.refusal.Reason.TheVariants as reasons;
 ghost use Rattle.ion_model.specs.Symbols.{AreTexts};
 
 use ion_model::{Reason, Symbol};

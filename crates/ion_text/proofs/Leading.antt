@@ -5,8 +5,8 @@ use Rattle.std.proofs.lemmas.List.{length-take-le, take-append-drop, get_or-drop
 use Rattle.std.proofs.Math.Seq.{take-add, drop-cons}
 use Rattle.std.specs.Option.{is_some}
 use Rattle.ion_model.specs.declared.value.Value.{Value}
-use Rattle.ion_model.specs.declared.refusal.Reason.TheVariants as reasons
-use Rattle.ion_model.specs.declared.refusal.Refusal.{Refusal}
+use Rattle.ion_atoms.specs.declared.refusal.Reason.TheVariants as reasons
+use Rattle.ion_atoms.specs.declared.refusal.Refusal.{Refusal}
 use Rattle.ion_symtab.specs.declared.limits.Limits.{Limits}
 use Rattle.ion_symtab.specs.declared.catalog.Catalog.{Catalog}
 use Rattle.ion_text.specs.machine.Run.{State, Effect, uses, tells, leaves, fails, Run, run, run_on, once_more, with_value, eats}

@@ -6,8 +6,8 @@ use Rattle.std.proofs.lemmas.Bool.Decides.{nat_tests}
 use Rattle.std.proofs.lemmas.Grind.{common_steps}
 use Rattle.std.proofs.lemmas.List.{length-take-le}
 use Rattle.ion_model.specs.declared.value.Value.{Value}
-use Rattle.ion_model.specs.declared.refusal.Reason.TheVariants as reasons
-use Rattle.ion_model.specs.declared.kind.Kind.{Kind}
+use Rattle.ion_atoms.specs.declared.refusal.Reason.TheVariants as reasons
+use Rattle.ion_atoms.specs.declared.kind.Kind.{Kind}
 use Rattle.ion_model.specs.declared.outline.Outline.{Outline}
 use Rattle.ion_model.specs.Kinds.{kind_of}
 use Rattle.ion_model.specs.Measures.{bare, depth, nodes}

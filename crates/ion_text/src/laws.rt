@@ -3,7 +3,7 @@
 //! proved to answer what they say.
 ghost use Rattle.std.specs.Prelude.{◌≡◌, ◌↔◌, ◌++◌, ℕ, List, length, codes, Some, None, Err};
 ghost use Rattle.ion_model.specs.declared.value.Value.{Value};
-ghost use Rattle.ion_model.specs.declared.refusal.Refusal.{Refusal};
+ghost use Rattle.ion_atoms.specs.declared.refusal.Refusal.{Refusal};
 ghost use Rattle.ion_model.specs.Kept.{AreKept};
 ghost use Rattle.ion_symtab.specs.declared.limits.Limits.{Limits};
 ghost use Rattle.ion_symtab.specs.Tables.{Table};

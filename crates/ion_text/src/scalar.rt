@@ -2,7 +2,7 @@
 //! is `Memory`, on which some of the octets may stand there.
 ghost use Rattle.std.specs.Prelude.{◌≡◌, ◌++◌, OnOk, IsOkUnless, IsUtf8, MatchResult, string_bytes};
 ghost use Rattle.std.specs.List.{list_all};
-ghost use Rattle.ion_model.specs.declared.refusal.Reason.TheVariants as reasons;
+ghost use Rattle.ion_atoms.specs.declared.refusal.Reason.TheVariants as reasons;
 ghost use Rattle.ion_scalar.specs.text.Texts.{number_text};
 ghost use Rattle.ion_symtab.specs.declared.fault.Fault.TheVariants as faults;
 ghost use Rattle.ion_tokens.specs.Octets.{is_word_octet};

@@ -1,7 +1,7 @@
 //! What unquoted words are (Ion 1.0, "Symbols" and "Ion Text Encoding").
 ghost use Rattle.std.specs.Prelude.{◌≡◌, MatchResult};
 ghost use Rattle.std.specs.List.{list_all};
-ghost use Rattle.ion_model.specs.declared.refusal.Reason.TheVariants as reasons;
+ghost use Rattle.ion_atoms.specs.declared.refusal.Reason.TheVariants as reasons;
 ghost use Rattle.ion_tokens.specs.Octets.{is_digit};
 ghost use Rattle.ion_text.specs.Grammar.{is_keyword, is_version, version_parts, some_digits};
 ghost use Rattle.ion_text.specs.machine.EachToken.{held_word};

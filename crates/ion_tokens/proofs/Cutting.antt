@@ -5,7 +5,7 @@ use Rattle.base64.specs.declared.decode.DecodeError.{DecodeError}
 use Rattle.base64.specs.Engines.{standard}
 use Rattle.base64.specs.GeneralPurpose.{decode_of, decoded_of}
 use Rattle.base64.proofs.EngineFacts.{decode_of_iff}
-use Rattle.ion_model.specs.declared.refusal.Reason.{Reason}
+use Rattle.ion_atoms.specs.declared.refusal.Reason.{Reason}
 use Rattle.ion_scalar.specs.declared.number.Number.{Number}
 use Rattle.ion_scalar.specs.text.Numbers.{ReadsNumber}
 use Rattle.ion_scalar.specs.text.laws.OneNumber.{one_answer}

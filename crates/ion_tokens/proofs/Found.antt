@@ -1,6 +1,6 @@
 -- What the scanner finds in octets.
 use Rattle.std.specs.Prelude.{◌≡◌, ℕ, ◌-◌, Bool, List, [], ◌∷◌, drop, Some, None, Ok, Err}
-use Rattle.ion_model.specs.declared.refusal.Reason.TheVariants.{Incomplete}
+use Rattle.ion_atoms.specs.declared.refusal.Reason.TheVariants.{Incomplete}
 use Rattle.ion_tokens.specs.declared.mode.Place.{Place}
 use Rattle.ion_tokens.specs.declared.mode.Mode.TheVariants as modes
 use Rattle.ion_tokens.specs.declared.mode.TokenKind.TheVariants as kinds

@@ -12,7 +12,7 @@ use Rattle.ion_tokens.specs.machine.Scanning.{Known, Lexeme, Next, Given, Left, 
 use Rattle.ion_tokens.specs.Lexemes.{Each, begins}
 use Rattle.ion_tokens.specs.Octets.{begins_word}
 use Rattle.ion_tokens.specs.declared.mode.Keep.TheVariants as keeps
-use Rattle.ion_model.specs.declared.refusal.Reason.TheVariants as reasons
+use Rattle.ion_atoms.specs.declared.refusal.Reason.TheVariants as reasons
 use Rattle.std.specs.Prelude.{Some, Ok, Err}
 
 abbrev pub at : Mode → List ℕ → Bool → ℕ → ℕ → Known

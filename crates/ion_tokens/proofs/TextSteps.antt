@@ -7,7 +7,7 @@ use Rattle.ion_tokens.specs.Octets.{hexadecimal_digit, escaped}
 use Rattle.ion_tokens.specs.declared.mode.Style.{Style}
 use Rattle.ion_tokens.specs.declared.mode.Within.{Within}
 use Rattle.ion_tokens.specs.declared.mode.Digits.{Digits}
-use Rattle.ion_model.specs.declared.refusal.Reason.TheVariants as reasons
+use Rattle.ion_atoms.specs.declared.refusal.Reason.TheVariants as reasons
 use Rattle.ion_tokens.specs.declared.mode.Style.TheVariants as styles
 use Rattle.ion_tokens.specs.declared.mode.Digits.TheVariants as digits
 use Rattle.ion_tokens.specs.declared.mode.Within.TheVariants as within

@@ -8,7 +8,7 @@ use Rattle.std.proofs.lemmas.Bool.Decides.{nat_tests}
 use Rattle.ion_tokens.proofs.Encodings as law
 use Rattle.ion_tokens.proofs.Encodings.{order}
 use lib.Utf8.{encode}
-use Rattle.ion_model.specs.declared.refusal.Reason.TheVariants as reasons
+use Rattle.ion_atoms.specs.declared.refusal.Reason.TheVariants as reasons
 use Rattle.ion_tokens.specs.declared.mode.Style.{Style}
 use Rattle.ion_tokens.specs.declared.mode.Within.{Within}
 use Rattle.ion_tokens.specs.declared.mode.Digits.{Digits}

@@ -1,7 +1,7 @@
 -- Base64 of blobs (RFC 4648, section 4), with the padding required and unused bits 0.
 use Rattle.std.specs.Prelude.{◌≡◌, ℕ, List, codes, true, Option}
 use Rattle.ion_tokens.specs.Ascii.{equals}
-pub use Rattle.ion_model.specs.Octets.{AreOctets}
+pub use Rattle.ion_atoms.specs.Octets.{AreOctets}
 use Rattle.base64.specs.Rfc4648.{encode}
 use Rattle.base64.specs.Engines.{standard}
 use Rattle.base64.specs.GeneralPurpose.{decoded_of}

@@ -1,7 +1,7 @@
 //! Tokens of any form that lie whole in memory: those with escapes or beyond ASCII, typed nulls, clobs and blobs, read by a
 //! machine beside the scanner's.
 ghost use Rattle.std.specs.Prelude.{◌≡◌, ◌≢◌, ◌+◌, ◌<◌, ◌^◌, length, Ok, Err, IfOk, IfErr, IfSome};
-ghost use Rattle.ion_model.specs.declared.refusal.Reason.TheVariants.{Memory};
+ghost use Rattle.ion_atoms.specs.declared.refusal.Reason.TheVariants.{Memory};
 ghost use Rattle.ion_tokens.specs.Bodies.{content};
 ghost use Rattle.ion_tokens.specs.machine.Rests.{resting, past_token, lexeme_at, IsFound};
 ghost use Rattle.ion_tokens.specs.machine.Said.{said};
@@ -12,7 +12,7 @@ use crate::machine::{Lexeme, Machine, Taken, takes_colon};
 use crate::mode::{Mode, Place, TokenKind};
 use crate::token::Body;
 use crate::whole::Rest;
-use ion_model::Reason;
+use ion_atoms::Reason;
 use std::alloc::Global;
 use std::fmt::{self, Debug, Formatter};
 

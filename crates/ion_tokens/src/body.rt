@@ -2,7 +2,7 @@
 ghost use Rattle.std.specs.Prelude.{◌≡◌, ◌≢◌, ◌^◌, ◌-◌, min, MatchResult, IfOk, IfErr, IsUtf8};
 ghost use Rattle.std.specs.Cow.{cow_str_bytes};
 ghost use Rattle.std.specs.List.{list_all};
-ghost use Rattle.ion_model.specs.declared.refusal.Reason.TheVariants.{Memory, BadUtf8};
+ghost use Rattle.ion_atoms.specs.declared.refusal.Reason.TheVariants.{Memory, BadUtf8};
 ghost use Rattle.ion_tokens.specs.Octets.{is_digit};
 ghost use Rattle.ion_tokens.specs.Bodies.{content, kind_named, id_of, number_in, IsBody};
 ghost use Rattle.ion_tokens.specs.Lexed.{Passes};
@@ -10,7 +10,7 @@ ghost use Rattle.ion_tokens.specs.Lexed.{Passes};
 use crate::mode::TokenKind;
 use crate::octets::is_digit;
 use crate::token::Body;
-use ion_model::{Bytes, Kind, Reason, Text};
+use ion_atoms::{Bytes, Kind, Reason, Text};
 use ion_scalar::number_of;
 use std::alloc::Global;
 use std::borrow::CowStr;

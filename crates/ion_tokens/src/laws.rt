@@ -1,7 +1,7 @@
 //! What the definitions that this crate's contracts name have to do with the specification. A law is called for its clause alone.
 ghost use Rattle.std.specs.Prelude.{◌≡◌, ◌↔◌, ◌+◌, ◌<◌, ◌^◌, ◌++◌, ℕ, List, [], Some, Result, length};
 ghost use Rattle.std.specs.List.{flat_map};
-ghost use Rattle.ion_model.specs.declared.refusal.Reason.{Reason};
+ghost use Rattle.ion_atoms.specs.declared.refusal.Reason.{Reason};
 ghost use Rattle.ion_tokens.specs.declared.mode.Place.{Place};
 ghost use Rattle.ion_tokens.specs.declared.mode.TokenKind.{TokenKind};
 ghost use Rattle.ion_tokens.specs.Blobs.{AreOctets, base64_of, blob_of};

@@ -4,7 +4,7 @@ ghost use Rattle.ion_tokens.specs.machine.Table.{third_quote, second_brace, in_b
 
 use crate::mode::{Action, Keep, Lob, Mode, Style, TokenKind, Within, add, go, unexpected};
 use crate::octets::{is_base64, is_white};
-use ion_model::Reason;
+use ion_atoms::Reason;
 
 // One of the quotes that must be three.
 fn third_quote(octet: u8, mode: Mode) -> Action

@@ -1,6 +1,6 @@
 //! The scanner's machine: the table, and the octets that are kept of the open token.
 ghost use Rattle.std.specs.Prelude.{◌≡◌, ℕ, ◌+◌, ◌-◌, ◌<◌, ◌^◌, [], length, min, IfOk, IfErr, ◌≢◌};
-ghost use Rattle.ion_model.specs.declared.refusal.Reason.TheVariants.{Memory};
+ghost use Rattle.ion_atoms.specs.declared.refusal.Reason.TheVariants.{Memory};
 ghost use Rattle.ion_tokens.specs.machine.Scanning.{feed, run, at_end, kept_after, start_of, left_of, takes_colon, cut, past, go_to, initial, acts, blob_ends, split_at};
 ghost use Rattle.ion_tokens.specs.Blobs.{blob_of};
 ghost use Rattle.ion_tokens.specs.machine.Bounds.{IsSteady, StaysSteady};
@@ -9,7 +9,7 @@ ghost use Rattle.ion_tokens.specs.machine.Views.{known, lexeme_in, outcome_in, f
 use crate::blob::decoded;
 use crate::mode::{Action, End, Keep, Lob, Mode, Place, TokenKind};
 use crate::table::{end_of, next};
-use ion_model::{Reason, Refusal};
+use ion_atoms::{Reason, Refusal};
 use std::alloc::{AllocError, Global};
 use std::mem;
 

@@ -1,7 +1,7 @@
 //! The states of the scanner between two octets, and what an octet does in them.
 ghost use Rattle.std.specs.Prelude.{◌≡◌};
 
-use ion_model::Reason;
+use ion_atoms::Reason;
 
 /// Where a token stands.
 #[derive(Clone, Copy, Debug, PartialEq, Eq)]

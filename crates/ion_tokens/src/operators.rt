@@ -5,7 +5,7 @@ ghost use Rattle.ion_tokens.specs.machine.Table.{is_other, run_ending, digit_beh
 use crate::mode::{Action, Ending, Keep, Mode, Place, TokenKind, add, before, go, unexpected};
 use crate::octets::{is_digit, is_operator_octet, is_word_octet};
 use crate::table::is_sexp;
-use ion_model::Reason;
+use ion_atoms::Reason;
 
 fn is_other(ending: Ending) -> bool
     ensures { result ≡ is_other ending }

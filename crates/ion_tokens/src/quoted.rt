@@ -4,7 +4,7 @@ ghost use Rattle.ion_tokens.specs.machine.Table.{is_long, is_clob, quote_of, sta
 
 use crate::mode::{Action, Digits, Keep, Lob, Mode, Style, TokenKind, Within, add, go, unexpected};
 use crate::octets::{escaped, hexadecimal_digit};
-use ion_model::Reason;
+use ion_atoms::Reason;
 
 pub fn is_long(style: Style) -> bool
     ensures { result ≡ is_long style }

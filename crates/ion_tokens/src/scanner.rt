@@ -1,6 +1,6 @@
 //! The scanner, to which the octets come in pieces.
 ghost use Rattle.std.specs.Prelude.{◌≡◌, ◌≢◌, ◌+◌, ◌-◌, ◌*◌, ◌≤◌, ◌<◌, ◌^◌, length, ◌++◌, [], OnOk, IfOk, IfErr, IfSome, IfNone, IsNone, None, List, ℕ, true, take};
-ghost use Rattle.ion_model.specs.declared.refusal.Reason.TheVariants.{Memory};
+ghost use Rattle.ion_atoms.specs.declared.refusal.Reason.TheVariants.{Memory};
 ghost use Rattle.ion_tokens.specs.declared.mode.Place.{Place};
 ghost use Rattle.ion_tokens.specs.machine.Scanning.{Known, Next, run, at_end, initial, cut, acts, feed, start_of};
 ghost use Rattle.ion_tokens.specs.machine.Bounds.{is_idle, IsSteady, StaysSteady};
@@ -20,7 +20,7 @@ use crate::mode::{Action, Mark, Mode, Place, Style, TokenKind};
 use crate::table::next;
 use crate::token::{Begun, Body, Foresight, Form, Scan, Token};
 use crate::whole::Rest;
-use ion_model::{Reason, Refusal};
+use ion_atoms::{Reason, Refusal};
 use std::alloc::Global;
 use std::fmt::{self, Debug, Formatter};
 

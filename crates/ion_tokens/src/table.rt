@@ -12,7 +12,7 @@ use crate::octets::{
 };
 use crate::operators::{in_infinity, in_operator, in_operator_slash, run_ending};
 use crate::quoted::{in_text, raw};
-use ion_model::Reason;
+use ion_atoms::Reason;
 
 pub fn is_sexp(place: Place) -> bool
     ensures { result ≡ is_sexp place }

@@ -1,6 +1,6 @@
 //! Tokens, and what a step of the scanner answers.
 use crate::mode::Mark;
-use ion_model::{Bytes, Kind, Text};
+use ion_atoms::{Bytes, Kind, Text};
 use ion_scalar::Number;
 use std::borrow::CowStr;
 

@@ -5,7 +5,7 @@ ghost use Rattle.std.specs.Prelude.{◌≤◌, length, IfOk};
 ghost use Rattle.ion_tokens.specs.machine.Views.{scanned, looks};
 ghost use Rattle.ion_tokens.specs.machine.Bounds.{IsSteady};
 
-use ion_model::Refusal;
+use ion_atoms::Refusal;
 use ion_tokens::{Body, Mark, Place, Scan, Scanner};
 use std::alloc::AllocError;
 use std::io;

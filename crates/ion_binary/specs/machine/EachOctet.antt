@@ -3,8 +3,8 @@ use Rattle.std.specs.Prelude.{ℕ, suc, ◌+◌, ◌-◌, ◌*◌, ◌^◌, Bool
 use Rattle.ion_model.specs.declared.value.Value.{Value}
 use Rattle.ion_model.specs.declared.value.Payload.{Payload}
 use Rattle.ion_model.specs.declared.value.Payload.TheVariants as payloads
-use Rattle.ion_model.specs.declared.refusal.Reason.{Reason}
-use Rattle.ion_model.specs.declared.refusal.Reason.TheVariants.{TooLarge, Malformed, Version, Depth, ItemTooLong}
+use Rattle.ion_atoms.specs.declared.refusal.Reason.{Reason}
+use Rattle.ion_atoms.specs.declared.refusal.Reason.TheVariants.{TooLarge, Malformed, Version, Depth, ItemTooLong}
 use Rattle.ion_model.specs.Measures.{bare, annotated, field_of}
 use Rattle.ion_model.specs.Kinds.{is_table}
 use Rattle.ion_scalar.specs.declared.descriptor.Size.TheVariants.{Known, Follows}

@@ -3,10 +3,10 @@ use Rattle.std.specs.Prelude.{ℕ, pos, neg_ℤ, Bool, true, false, List, ◌==�
 use Rattle.std.specs.Str.{is_utf8}
 use Rattle.ion_model.specs.declared.value.Payload.{Payload}
 use Rattle.ion_model.specs.declared.value.Payload.TheVariants as payloads
-use Rattle.ion_model.specs.Decimals.{DecimalParts}
-use Rattle.ion_model.specs.Timestamps.{TimestampParts}
-use Rattle.ion_model.specs.declared.refusal.Reason.{Reason}
-use Rattle.ion_model.specs.declared.refusal.Reason.TheVariants.{Malformed, BadUtf8}
+use Rattle.ion_atoms.specs.Decimals.{DecimalParts}
+use Rattle.ion_atoms.specs.Timestamps.{TimestampParts}
+use Rattle.ion_atoms.specs.declared.refusal.Reason.{Reason}
+use Rattle.ion_atoms.specs.declared.refusal.Reason.TheVariants.{Malformed, BadUtf8}
 use Rattle.ion_scalar.specs.binary.Fields.{uint_field}
 use Rattle.ion_symtab.specs.Slots.{Slot, resolve}
 use Rattle.ion_scalar.specs.binary.Decimal.{decimal_of_body}

@@ -1,8 +1,8 @@
 -- Whole runs of the machine.
 use Rattle.std.specs.Prelude.{◌≡◌, ◌≢◌, ◌≤◌, ◌<◌, ℕ, ◌+◌, List, [], ◌∷◌, length, take, Option, Some, None, Result, Ok, Err, Bool, true, false, if◌then◌else◌}
 use Rattle.ion_model.specs.declared.value.Value.{Value}
-use Rattle.ion_model.specs.declared.refusal.Refusal.{Refusal}
-use Rattle.ion_model.specs.declared.refusal.Reason.TheVariants.{Memory, Incomplete}
+use Rattle.ion_atoms.specs.declared.refusal.Refusal.{Refusal}
+use Rattle.ion_atoms.specs.declared.refusal.Reason.TheVariants.{Memory, Incomplete}
 use Rattle.ion_symtab.specs.declared.items.Step.{Step}
 use Rattle.ion_symtab.specs.declared.limits.Limits.{Limits}
 use Rattle.ion_symtab.specs.declared.catalog.Catalog.{Catalog}

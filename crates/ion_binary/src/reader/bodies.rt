@@ -1,6 +1,6 @@
 //! Bodies: of scalars, pads and containers.
 ghost use Rattle.std.specs.Prelude.{◌≡◌, ◌<◌, ◌^◌, [], ◌∷◌, ◌++◌, Result};
-ghost use Rattle.ion_model.specs.declared.refusal.Reason.{Reason};
+ghost use Rattle.ion_atoms.specs.declared.refusal.Reason.{Reason};
 ghost use Rattle.ion_model.specs.declared.value.Payload.{Payload};
 ghost use Rattle.ion_symtab.specs.Outcome.{Gives};
 ghost use Rattle.ion_binary.specs.declared.form.Form.TheVariants as forms;

@@ -1,6 +1,6 @@
 //! The reader as `Items`: steps over pieces, and the end.
 ghost use Rattle.std.specs.Prelude.{◌≡◌, ◌+◌, ◌<◌, ◌^◌, [], length, IfOk, IfErr, None};
-ghost use Rattle.ion_model.specs.declared.refusal.Reason.TheVariants.{Memory};
+ghost use Rattle.ion_atoms.specs.declared.refusal.Reason.TheVariants.{Memory};
 ghost use Rattle.ion_binary.specs.machine.Run.{whole, Advances};
 ghost use Rattle.ion_binary.specs.machine.Views.{run_of, machine_of, open_frames, SameSetting};
 

@@ -1,7 +1,7 @@
 -- What a reader promises of octets, and that it promises the same of a format in which octets that begin so mean the same.
 use Rattle.std.proofs.Common.{◌≡◌, ◌↔◌, ℕ, zero, suc, List, [], ◌∷◌, ◌++◌, length, take, Err, Some, None, ap, sym, ◌∙◌, subst, append_assoc}
 use Rattle.ion_model.specs.declared.value.Value.{Value}
-use Rattle.ion_model.specs.declared.refusal.Refusal.{Refusal}
+use Rattle.ion_atoms.specs.declared.refusal.Refusal.{Refusal}
 use Rattle.ion_symtab.specs.Trace.{Trace, Streams, Grows, plain}
 use Rattle.ion_symtab.specs.Promises.{Refuses, BeginsNone, Shown, Shows, IsSmall, HasReasons, GivesNoTable}
 use Rattle.ion_docs.specs.Formats.{Format}

@@ -2,9 +2,9 @@
 use Rattle.std.proofs.Common.{◌≡◌, ℕ, ◌==◌, Bool, true, false, List, [], ◌∷◌, ◌++◌, Result, Ok, Err, IfOk, arith, refl, subst}
 use Rattle.std.proofs.lemmas.Bool.Decides.{nat_tests}
 use Rattle.ion_model.specs.declared.value.Value.{Value}
-use Rattle.ion_model.specs.declared.refusal.Refusal.{Refusal}
-use Rattle.ion_model.specs.declared.refusal.Reason.TheVariants.{Unexpected}
-use Rattle.ion_model.specs.Octets.{AreOctets}
+use Rattle.ion_atoms.specs.declared.refusal.Refusal.{Refusal}
+use Rattle.ion_atoms.specs.declared.refusal.Reason.TheVariants.{Unexpected}
+use Rattle.ion_atoms.specs.Octets.{AreOctets}
 use Rattle.ion_model.specs.Kept.{AreKept}
 use Rattle.ion_symtab.specs.declared.fault.Fault.{Fault}
 use Rattle.ion_symtab.specs.declared.catalog.Catalog.{Catalog}

@@ -2,7 +2,7 @@
 ghost use Rattle.std.specs.Prelude.{◌≡◌, ◌≢◌, ℕ, ◌+◌, ◌*◌, ◌^◌, ◌<◌, ◌≤◌, List, [], ◌++◌, IfOk, IfErr, OnErr, Option, IsSome, option_map};
 ghost use Rattle.ion_model.specs.Outlines.{outline_of};
 ghost use Rattle.ion_model.specs.declared.value.Value.{Value};
-ghost use Rattle.ion_model.specs.declared.refusal.Reason.TheVariants as reasons;
+ghost use Rattle.ion_atoms.specs.declared.refusal.Reason.TheVariants as reasons;
 ghost use Rattle.ion_symtab.specs.declared.catalog.Catalog.{Catalog};
 ghost use Rattle.ion_symtab.specs.declared.limits.Limits.{Limits};
 ghost use Rattle.ion_symtab.specs.Cause.{IsReadCause};

@@ -4,6 +4,7 @@ use Rattle.std.specs.List.{list_all, count_by}
 use Rattle.std.specs.Cmp.{IsEquivalence}
 use Rattle.std.proofs.lemmas.List.Sums.{sum_by-cons}
 use Rattle.std.proofs.lemmas.Bool.{eqb-true}
+use Rattle.ion_atoms.specs.laws.Tests.{both, first, second, same_bool}
 
 -- what a test adds to a count
 abbrev pub bit : Bool → ℕ
@@ -11,24 +12,6 @@ bit b = cond b 1 0
 
 pub count_by-cons : {X : Type 0} (p : X → Bool) (x : X) (xs : List X) → count_by p (x ∷ xs) ≡ cond (p x) 1 0 + count_by p xs
 count_by-cons p x xs = sum_by-cons (λ x. cond (p x) 1 0) x xs
-
-pub both : (a b : Bool) → a ≡ true → b ≡ true → a && b ≡ true
-both true b p q = q
-both false b p q = p
-
-pub first : (a b : Bool) → a && b ≡ true → a ≡ true
-first true b p = refl
-first false b p = p
-
-pub second : (a b : Bool) → a && b ≡ true → b ≡ true
-second true b p = p
-second false b p = absurd (true≢false (sym p))
-
--- tests that follow from each other
-pub same_bool : (a b : Bool) → (a ≡ true → b ≡ true) → (b ≡ true → a ≡ true) → a ≡ b
-same_bool true b p q = sym (p refl)
-same_bool false true p q = q refl
-same_bool false false p q = refl
 
 module _ {X : Type 0} (E : X → X → Bool) where
   abbrev pub count : List X → X → ℕ

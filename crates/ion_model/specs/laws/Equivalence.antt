@@ -4,31 +4,17 @@ use Rattle.std.specs.Cmp.{IsEquivalence}
 use Rattle.std.specs.Cmp.Rules.{comparing}
 use Rattle.std.proofs.lemmas.Cmp.{and_equiv, on_equiv, lists_equiv, nat_eq_equiv, int_eq_equiv, nat_list_eq_equiv}
 use Rattle.std.specs.Cmp.{bool_eq_equiv}
-use Rattle.std.specs.Cmp.Lexicographic.{options_equiv}
 use Rattle.ion_model.specs.declared.value.Value.{Value}
 use Rattle.ion_model.specs.declared.value.Payload.TheViews.{out-Payload}
 use Rattle.ion_model.specs.Measures.{depth}
 use Rattle.ion_model.specs.Same.{scalar_same, scalar, items, fields, field_same, fields_same, layer_same, value_same, same_to, same}
 use Rattle.ion_model.specs.laws.Counts.{alike_equiv}
-use Rattle.ion_model.specs.Decimals.{decimal_same}
+use Rattle.ion_atoms.specs.laws.Equivalence.{decimal_same-equiv, timestamp_same-equiv}
 use Rattle.ion_model.specs.Symbols.{symbol_same}
-use Rattle.ion_model.specs.Timestamps.{local_same, precision_rank, timestamp_same}
 use Rattle.ion_model.specs.laws.Same.{same-agrees}
 
 pub symbol_same-equiv : IsEquivalence symbol_same
 symbol_same-equiv = search (comparing, rules)
-
-decimal_same-equiv : IsEquivalence decimal_same
-decimal_same-equiv = and_equiv (and_equiv (on_equiv (λ d. d.negative) bool_eq_equiv) (on_equiv (λ d. d.magnitude) nat_eq_equiv)) (on_equiv (λ d. d.exponent) int_eq_equiv)
-
-local_same-equiv : IsEquivalence local_same
-local_same-equiv =
-    and_equiv (and_equiv (and_equiv (and_equiv (and_equiv (and_equiv (on_equiv (λ l. l.year) nat_eq_equiv) (on_equiv (λ l. l.month) nat_eq_equiv)) (on_equiv (λ l. l.day) nat_eq_equiv))
-    (on_equiv (λ l. l.hour) nat_eq_equiv)) (on_equiv (λ l. l.minute) nat_eq_equiv)) (on_equiv (λ l. l.second) nat_eq_equiv)) (on_equiv (λ l. l.fraction) nat_eq_equiv)
-
-pub timestamp_same-equiv : IsEquivalence timestamp_same
-timestamp_same-equiv =
-    and_equiv (and_equiv (on_equiv (λ t. precision_rank t.precision) nat_eq_equiv) (on_equiv (λ t. t.offset) (options_equiv int_eq_equiv))) (on_equiv (λ t. t.local) local_same-equiv)
 
 pub scalar_same-equiv : IsEquivalence scalar_same
 scalar_same-equiv =

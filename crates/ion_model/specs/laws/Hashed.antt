@@ -1,24 +1,20 @@
--- Timestamps and values that are equal feed a hasher alike; and what a value feeds, by one level.
+-- Values that are equal feed a hasher alike; and what a value feeds, by one level.
 use Rattle.std.proofs.Common.{◌≡◌, suc, List, [], ◌∷◌, ◌++◌, map, length, flat_map, true, refl, ap, ◌∙◌}
 use Rattle.std.specs.Hash as fed
 use Rattle.std.specs.Hash.{HashWrites}
 use Rattle.std.specs.Ordering.{is_eq}
-use Rattle.ion_model.specs.Hashed.{symbol_fed, timestamp_fed, head_fed, layer_fed, hashed_step, hashed, field_hashed}
+use Rattle.ion_model.specs.Hashed.{symbol_fed, head_fed, layer_fed, hashed_step, hashed, field_hashed}
 use Rattle.ion_model.specs.Measures.{Layer}
 use Rattle.ion_model.specs.Order.{order}
-use Rattle.ion_model.specs.Timestamps.{TimestampParts, timestamp_same}
-use Rattle.ion_model.specs.laws.Parts.{tie_from_is_eq, timestamp_from}
+use Rattle.ion_atoms.specs.laws.Ties.{tie_from_is_eq}
 use Rattle.ion_model.specs.laws.OrderEqual.{equal_from_order}
-use Rattle.ion_model.specs.declared.kind.Kind.TheVariants as kinds
+use Rattle.ion_atoms.specs.declared.kind.Kind.TheVariants as kinds
 use Rattle.ion_model.specs.declared.value.Value.{Value}
 use Rattle.ion_model.specs.declared.value.Field.{Field}
 use Rattle.ion_model.specs.declared.value.Payload.{Payload}
 use Rattle.ion_model.specs.declared.value.Payload.TheViews as views
 use Rattle.ion_model.specs.declared.value.Payload.TheFolds.{fold_out-Payload, fold_out-Value, fold_out-Field, fold-Payload, fold-Field, map-Payload}
 use Rattle.ion_model.specs.declared.value.Payload.TheOpen.{Payload-F}
-
-pub timestamps_alike : (s t : TimestampParts) → timestamp_same s t ≡ true → timestamp_fed s ≡ timestamp_fed t
-timestamps_alike s t h = ap timestamp_fed (timestamp_from s t h)
 
 pub values_alike : (v w : Value) → is_eq (order v w) ≡ true → hashed v ≡ hashed w
 values_alike v w h = ap hashed (equal_from_order v w (tie_from_is_eq (order v w) h))

@@ -3,7 +3,7 @@ use Rattle.std.proofs.Common.{sum, length, get_or, ◌≡◌, ℕ, ◌+◌, ◌�
 use Rattle.std.specs.List.{sum_by}
 use Rattle.std.proofs.lemmas.List.Sums.{sum-map, sum_by-append, sum_by-cons}
 use Rattle.ion_model.specs.Measures.{depth, depth_step, nodes, nodes_step, greatest, bare, Layer}
-use Rattle.ion_model.specs.declared.kind.Kind.{Kind}
+use Rattle.ion_atoms.specs.declared.kind.Kind.{Kind}
 use Rattle.ion_model.specs.declared.value.Value.{Value}
 use Rattle.ion_model.specs.declared.value.Field.{Field}
 use Rattle.ion_model.specs.declared.value.Payload.{Payload}

@@ -5,7 +5,7 @@ use Rattle.std.specs.Ordering.{ordering_then}
 use Rattle.ion_model.specs.Measures.{depth, Layer}
 use Rattle.ion_model.specs.Kinds.{layer_kind}
 use Rattle.ion_model.specs.Same.{items, fields, scalar}
-use Rattle.ion_model.specs.Kinds.{kind_rank}
+use Rattle.ion_atoms.specs.Kinds.{kind_rank}
 use Rattle.ion_model.specs.Order.{order, order_to, value_cmp, layer_cmp, field_cmp}
 use Rattle.ion_model.specs.Symbols.{symbol_cmp}
 use Rattle.ion_model.specs.laws.Measures.{depth-out, layer_depth}

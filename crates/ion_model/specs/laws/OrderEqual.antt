@@ -3,11 +3,11 @@ use Rattle.std.proofs.Common.{◌≡◌, ℕ, ◌≤◌, ◌<◌, zero, suc, max
 use Rattle.std.specs.Cmp.Lexicographic.{slice_cmp}
 use Rattle.ion_model.specs.Measures.{depth, greatest, Layer}
 use Rattle.ion_model.specs.Same.{Scalar, scalar, items, fields}
-use Rattle.ion_model.specs.Kinds.{kind_rank}
+use Rattle.ion_atoms.specs.Kinds.{kind_rank}
 use Rattle.ion_model.specs.Order.{order, order_to, layer_cmp, field_cmp, scalar_cmp}
 use Rattle.ion_model.specs.Symbols.{symbol_cmp}
-use Rattle.ion_model.specs.declared.kind.Kind.{Kind}
-use Rattle.ion_model.specs.declared.kind.Kind.TheVariants as kinds
+use Rattle.ion_atoms.specs.declared.kind.Kind.{Kind}
+use Rattle.ion_atoms.specs.declared.kind.Kind.TheVariants as kinds
 use Rattle.ion_model.specs.declared.value.Value.{Value}
 use Rattle.ion_model.specs.declared.value.Field.{Field}
 use Rattle.ion_model.specs.declared.value.Payload.{Payload}
@@ -16,7 +16,8 @@ use Rattle.ion_model.specs.declared.value.Payload.TheViews.{out-Payload, roll-Pa
 use Rattle.ion_model.specs.laws.Measures.{depth-out}
 use Rattle.ion_model.specs.laws.Same.{items_deep, fields_deep, items-deep, fields-deep}
 use Rattle.ion_model.specs.laws.Order.{order-agrees}
-use Rattle.ion_model.specs.laws.Parts.{then_first, then_second, symbol_is, scalar_is}
+use Rattle.ion_model.specs.laws.Parts.{symbol_is, scalar_is}
+use Rattle.ion_atoms.specs.laws.Ties.{then_first, then_second}
 
 kind_at : ℕ → Kind
 kind_at n =

@@ -6,9 +6,7 @@ use Rattle.std.specs.Ordering.{ordering_reverse, is_eq}
 use Rattle.std.proofs.lemmas.Map.Text.{is_eq-slice_cmp}
 use Rattle.std.proofs.lemmas.Cmp.{then_total, on_total, lists_total, nat_cmp_total, int_cmp_total, nat_list_cmp_total}
 use Rattle.std.specs.Cmp.{bool_cmp_total}
-use Rattle.std.specs.Cmp.Lexicographic.{options_total}
-use Rattle.ion_model.specs.Decimals.{decimal_cmp}
-use Rattle.ion_model.specs.Timestamps.{precision_rank, date_cmp, time_cmp, timestamp_cmp}
+use Rattle.ion_atoms.specs.laws.OrderTotal.{decimal_cmp-total, timestamp_cmp-total}
 use Rattle.ion_model.specs.Measures.{depth}
 use Rattle.ion_model.specs.Same.{items, fields, scalar}
 use Rattle.ion_model.specs.Order.{order, order_to, value_cmp, layer_cmp, field_cmp, scalar_cmp}
@@ -26,18 +24,6 @@ symbol_ties (Some s) (Some t) = sym (is_eq-slice_cmp s t)
 
 pub symbol_cmp-total : IsTotalOrder symbol_cmp
 symbol_cmp-total = search (comparing, rules)
-
-pub decimal_cmp-total : IsTotalOrder decimal_cmp
-decimal_cmp-total = search (comparing, rules) depth 12
-
-pub timestamp_cmp-total : IsTotalOrder timestamp_cmp
-timestamp_cmp-total = then_total (then_total (then_total (on_total (λ t. precision_rank t.precision) nat_cmp_total) (on_total (λ t. t.offset) (options_total int_cmp_total)))
-    (on_total (λ t. t.local) date_cmp-total)) (on_total (λ t. t.local) time_cmp-total) where
-      date_cmp-total : IsTotalOrder date_cmp
-      date_cmp-total = search (comparing, rules) depth 12
-
-      time_cmp-total : IsTotalOrder time_cmp
-      time_cmp-total = search (comparing, rules) depth 12
 
 pub scalar_cmp-total : IsTotalOrder scalar_cmp
 scalar_cmp-total =

@@ -1,9 +1,9 @@
 -- The table of descriptors (Ion 1.0, "Ion Binary Encoding", typed value formats): a row for each type code, by the length code.
 use Rattle.std.specs.Prelude.{◌/◌, ◌%◌, ℕ, [], ◌∷◌, ◌==◌, ◌||◌, if◌then◌else◌, slice_index_or, true, false, Result, Ok, Err}
-use Rattle.ion_model.specs.declared.refusal.Reason.{Reason}
-use Rattle.ion_model.specs.declared.refusal.Reason.TheVariants.{Malformed, Float}
-use Rattle.ion_model.specs.declared.kind.Kind.{Kind}
-use Rattle.ion_model.specs.declared.kind.Kind.TheVariants as kinds
+use Rattle.ion_atoms.specs.declared.refusal.Reason.{Reason}
+use Rattle.ion_atoms.specs.declared.refusal.Reason.TheVariants.{Malformed, Float}
+use Rattle.ion_atoms.specs.declared.kind.Kind.{Kind}
+use Rattle.ion_atoms.specs.declared.kind.Kind.TheVariants as kinds
 use Rattle.ion_scalar.specs.declared.descriptor.Size.{Size}
 use Rattle.ion_scalar.specs.declared.descriptor.Size.TheVariants.{Known, Follows}
 use Rattle.ion_scalar.specs.declared.descriptor.Descriptor.{Descriptor}

@@ -1,8 +1,8 @@
 -- What each answer of a reading call says of the octets that it was given.
 use Rattle.std.specs.Prelude.{◌≡◌, ◌≢◌, ◌⊎◌, ℕ, ◌^◌, ◌<◌, ◌≤◌, List, [], ◌∷◌, ◌++◌, length, take, Result, Ok, Err}
-use Rattle.ion_model.specs.Decimals.{DecimalParts, IsDecimal}
-use Rattle.ion_model.specs.declared.refusal.Reason.{Reason}
-use Rattle.ion_model.specs.declared.refusal.Reason.TheVariants.{TooLarge, Malformed, Incomplete}
+use Rattle.ion_atoms.specs.Decimals.{DecimalParts, IsDecimal}
+use Rattle.ion_atoms.specs.declared.refusal.Reason.{Reason}
+use Rattle.ion_atoms.specs.declared.refusal.Reason.TheVariants.{TooLarge, Malformed, Incomplete}
 use Rattle.ion_scalar.specs.declared.fields.Signed.{Signed}
 use Rattle.ion_scalar.specs.binary.Decimal.{IsDecimalField}
 use Rattle.ion_scalar.specs.binary.Fields.{positional, Digits, VarUInt, VarInt, seven_bits, six_bits}

@@ -2,20 +2,20 @@
 -- day, hour, minute and second, each a VarUInt, then a fraction of the second: an exponent of ten, which is a VarInt, and a coefficient, which is an
 -- Int of the rest. Trailing parts may be absent, but offset and year stand there, and a minute behind each hour.
 use Rattle.std.specs.Prelude.{◌≡◌, ◌⊎◌, ℕ, ℤ, pos, ◌^◌, ◌<◌, ◌≤◌, Bool, true, false, List, [], ◌∷◌, ◌++◌, drop, nat_le, nat_lt, ◌&&◌, ◌==◌, not, if◌then◌else◌, Option, Some, None, Result, Ok, Err}
-use Rattle.ion_model.specs.declared.calendar.Date.{Date}
-use Rattle.ion_model.specs.declared.calendar.Minute.{Minute}
-use Rattle.ion_model.specs.declared.refusal.Reason.{Reason}
-use Rattle.ion_model.specs.declared.refusal.Reason.TheVariants.{TooLarge, Malformed}
-use Rattle.ion_model.specs.declared.timestamp.Local.{Local}
-use Rattle.ion_model.specs.declared.timestamp.Precision.{Precision}
-use Rattle.ion_model.specs.declared.timestamp.Precision.TheVariants as precisions
-use Rattle.ion_model.specs.Calendar.{month_length, minute_number}
-use Rattle.ion_model.specs.Timestamps.{TimestampParts, IsTimestamp, instant, minutes_ahead}
+use Rattle.ion_atoms.specs.declared.calendar.Date.{Date}
+use Rattle.ion_atoms.specs.declared.calendar.Minute.{Minute}
+use Rattle.ion_atoms.specs.declared.refusal.Reason.{Reason}
+use Rattle.ion_atoms.specs.declared.refusal.Reason.TheVariants.{TooLarge, Malformed}
+use Rattle.ion_atoms.specs.declared.timestamp.Local.{Local}
+use Rattle.ion_atoms.specs.declared.timestamp.Precision.{Precision}
+use Rattle.ion_atoms.specs.declared.timestamp.Precision.TheVariants as precisions
+use Rattle.ion_atoms.specs.Calendar.{month_length, minute_number}
+use Rattle.ion_atoms.specs.Timestamps.{TimestampParts, IsTimestamp, instant, minutes_ahead}
 use Rattle.ion_scalar.specs.declared.fields.Signed.{Signed}
 use Rattle.ion_scalar.specs.declared.timestamp_body.Utc.{Utc}
 use Rattle.ion_scalar.specs.binary.Fields.{VarUInt, VarInt, var_uint, var_int, int_negative, int_magnitude}
 use Rattle.ion_scalar.specs.text.Decimals.{signed}
-use Rattle.ion_model.specs.Neighbours.{day_of}
+use Rattle.ion_atoms.specs.Neighbours.{day_of}
 use Rattle.ion_scalar.specs.binary.Shifted.{moved}
 
 -- a day, of which nothing more is known

@@ -1,8 +1,8 @@
 -- How timestamps are written as octets: the offset, then the fields in UTC up to the precision.
 use Rattle.std.specs.Prelude.{ℕ, ℤ, pos, neg_ℤ, int_lt, unsigned_abs, true, false, List, [], ◌++◌, Option, Some, None}
-use Rattle.ion_model.specs.declared.timestamp.Precision.{Precision}
-use Rattle.ion_model.specs.declared.timestamp.Precision.TheVariants as precisions
-use Rattle.ion_model.specs.Timestamps.{TimestampParts, local_minute, minutes_ahead}
+use Rattle.ion_atoms.specs.declared.timestamp.Precision.{Precision}
+use Rattle.ion_atoms.specs.declared.timestamp.Precision.TheVariants as precisions
+use Rattle.ion_atoms.specs.Timestamps.{TimestampParts, local_minute, minutes_ahead}
 use Rattle.ion_scalar.specs.declared.timestamp_body.Utc.{Utc}
 use Rattle.ion_scalar.specs.binary.Shifted.{moved}
 use Rattle.ion_scalar.specs.binary.Spellings.{var_uint_octets, var_int_octets, int_octets}

@@ -1,13 +1,13 @@
 -- Number tokens: which octets spell which number, and what each answer of reading one says.
 use Rattle.std.specs.Prelude.{ℕ, ℤ, ◌≡◌, Bool, true, false, List, ◌++◌, pos, ◌-ℤ◌, Result, Ok, Err}
-use Rattle.ion_model.specs.declared.refusal.Reason.{Reason}
-use Rattle.ion_model.specs.declared.refusal.Reason.TheVariants.{TooLarge, Malformed, Float}
-use Rattle.ion_model.specs.Ranges.{IsWhole}
-use Rattle.ion_model.specs.Decimals.{IsDecimal}
+use Rattle.ion_atoms.specs.declared.refusal.Reason.{Reason}
+use Rattle.ion_atoms.specs.declared.refusal.Reason.TheVariants.{TooLarge, Malformed, Float}
+use Rattle.ion_atoms.specs.Ranges.{IsWhole}
+use Rattle.ion_atoms.specs.Decimals.{IsDecimal}
 use Rattle.ion_scalar.specs.declared.number.Number.{Number}
 use Rattle.ion_scalar.specs.declared.number.Number.TheVariants as numbers
 use Rattle.ion_scalar.specs.text.Ints.{IsMagnitude, minus}
-use Rattle.ion_model.specs.Timestamps.{TimestampParts, IsTimestamp}
+use Rattle.ion_atoms.specs.Timestamps.{TimestampParts, IsTimestamp}
 use Rattle.ion_scalar.specs.text.Timestamps.{IsTimestampToken, IsShort}
 use Rattle.ion_scalar.specs.text.Decimals.{IsDecimalBody, signed}
 

@@ -2,10 +2,10 @@
 use Rattle.std.proofs.Common.{◌≡◌, ℕ, List, ◌^◌, ◌+◌, ℤ, pos, neg_ℤ, negsuc, inl, inr, ◌⊎◌, Result, Ok, Err, sym, subst}
 use Rattle.std.specs.Prelude.{◌↔◌}
 use Rattle.std.proofs.Math.Decide.{map_dec, dec_lt}
-use Rattle.ion_model.specs.declared.refusal.Reason.{Reason}
-use Rattle.ion_model.specs.declared.refusal.Reason.TheVariants.{TooLarge, Malformed, Float}
-use Rattle.ion_model.specs.Decimals.{DecimalParts, IsDecimal}
-use Rattle.ion_model.specs.Ranges.{IsWhole}
+use Rattle.ion_atoms.specs.declared.refusal.Reason.{Reason}
+use Rattle.ion_atoms.specs.declared.refusal.Reason.TheVariants.{TooLarge, Malformed, Float}
+use Rattle.ion_atoms.specs.Decimals.{DecimalParts, IsDecimal}
+use Rattle.ion_atoms.specs.Ranges.{IsWhole}
 use Rattle.ion_scalar.specs.declared.number.Number.{Number}
 use Rattle.ion_scalar.specs.declared.number.Number.TheVariants as numbers
 use Rattle.ion_scalar.specs.text.Numbers.{IsNumber, IsNumeral, IsFloat, Fits, IsThere, ReadsNumber}

@@ -2,13 +2,13 @@
 -- to its precision. Octets stand as numbers: 43 is `+`, 45 `-`, 46 `.`, 48 `0`, 58 `:`, 84 `T`, 90 `Z`.
 use Rattle.std.specs.Prelude.{ℕ, zero, suc, ℤ, pos, negsuc, ◌+◌, ◌/◌, ◌%◌, List, [], ◌∷◌, ◌++◌, Option, Some, None}
 use Rattle.std.specs.Fmt.{decimal, signed_decimal}
-use Rattle.ion_model.specs.Decimals.{DecimalParts}
+use Rattle.ion_atoms.specs.Decimals.{DecimalParts}
 use Rattle.ion_scalar.specs.declared.number.Number.{Number}
 use Rattle.ion_scalar.specs.declared.number.Number.TheVariants as numbers
-use Rattle.ion_model.specs.declared.timestamp.Local.{Local}
-use Rattle.ion_model.specs.declared.timestamp.Precision.{Precision}
-use Rattle.ion_model.specs.declared.timestamp.Precision.TheVariants as precisions
-use Rattle.ion_model.specs.Timestamps.{TimestampParts}
+use Rattle.ion_atoms.specs.declared.timestamp.Local.{Local}
+use Rattle.ion_atoms.specs.declared.timestamp.Precision.{Precision}
+use Rattle.ion_atoms.specs.declared.timestamp.Precision.TheVariants as precisions
+use Rattle.ion_atoms.specs.Timestamps.{TimestampParts}
 use Rattle.ion_scalar.specs.text.Ints.{minus}
 
 abbrev pub decimal_text : DecimalParts → List ℕ

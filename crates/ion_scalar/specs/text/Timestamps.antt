@@ -1,10 +1,10 @@
 -- Timestamps as tokens, by their places (Ion 1.0, "Timestamps").
 -- Octets stand as numbers: 43 is `+`, 45 `-`, 46 `.`, 48 to 57 the digits, 58 `:`, 84 `T`, 90 `Z`.
 use Rattle.std.specs.Prelude.{ℕ, ℤ, ◌≡◌, ◌+◌, ◌-◌, ◌*◌, ◌^◌, ◌<◌, ◌≤◌, ◌⊎◌, ◌==◌, if◌then◌else◌, List, ◌++◌, length, min, drop, slice_index, pos, neg_ℤ, Option, Some, None}
-use Rattle.ion_model.specs.declared.timestamp.Local.{Local}
-use Rattle.ion_model.specs.declared.timestamp.Precision.{Precision}
-use Rattle.ion_model.specs.declared.timestamp.Precision.TheVariants as precisions
-use Rattle.ion_model.specs.Timestamps.{TimestampParts}
+use Rattle.ion_atoms.specs.declared.timestamp.Local.{Local}
+use Rattle.ion_atoms.specs.declared.timestamp.Precision.{Precision}
+use Rattle.ion_atoms.specs.declared.timestamp.Precision.TheVariants as precisions
+use Rattle.ion_atoms.specs.Timestamps.{TimestampParts}
 use Rattle.ion_scalar.specs.declared.timestamps.Stamp.{Stamp}
 use Rattle.ion_scalar.specs.text.Ints.{number}
 use Rattle.ion_scalar.specs.text.Decimals.{IsPlain}

@@ -2,7 +2,7 @@
 ghost use Rattle.std.specs.Prelude.{◌≡◌, [], ◌∷◌, None};
 ghost use Rattle.ion_text.specs.declared.state.Frame.TheVariants as frames;
 ghost use Rattle.ion_text.specs.declared.state.Now.TheVariants as nows;
-ghost use Rattle.ion_model.specs.declared.refusal.Reason.TheVariants as reasons;
+ghost use Rattle.ion_atoms.specs.declared.refusal.Reason.TheVariants as reasons;
 ghost use Rattle.ion_text.specs.machine.EachToken.{at, goes, late, refuses, deeper, list_closed, sexp_closed, struct_closed, on_comma, named};
 ghost use Rattle.ion_text.specs.machine.Views.{setting_of, spot_of, open_frames, Does, SameSetting};
 

@@ -1,6 +1,6 @@
 //! The end of the octets.
 ghost use Rattle.std.specs.Prelude.{◌≡◌, ℕ, Result, Option, Ok, Err};
-ghost use Rattle.ion_model.specs.declared.refusal.Reason.{Reason};
+ghost use Rattle.ion_atoms.specs.declared.refusal.Reason.{Reason};
 ghost use Rattle.ion_symtab.specs.declared.catalog.Catalog.{Catalog};
 ghost use Rattle.ion_tokens.specs.machine.Scanning.{at_end, Lexeme};
 ghost use Rattle.ion_tokens.specs.machine.Views.{scanned};

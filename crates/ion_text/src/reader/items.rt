@@ -1,6 +1,6 @@
 //! The reader as `Items`: steps over pieces, and the end.
 ghost use Rattle.std.specs.Prelude.{◌≡◌, [], IfOk, IfErr, None};
-ghost use Rattle.ion_model.specs.declared.refusal.Reason.TheVariants.{Memory};
+ghost use Rattle.ion_atoms.specs.declared.refusal.Reason.TheVariants.{Memory};
 ghost use Rattle.ion_text.specs.machine.Progress.{failed};
 
 use super::TextReader;

@@ -1,7 +1,7 @@
 //! Octets that are handed to the scanner at once while something waits, or a mark is awaited: those of a blank or
 //! a comment, and of a further segment of a long string.
 ghost use Rattle.std.specs.Prelude.{◌≡◌, ◌+◌, ◌<◌, ◌≤◌, ◌^◌, length, take, OnOk, IfErr};
-ghost use Rattle.ion_model.specs.declared.refusal.Reason.TheVariants.{Memory};
+ghost use Rattle.ion_atoms.specs.declared.refusal.Reason.TheVariants.{Memory};
 ghost use Rattle.ion_tokens.specs.machine.AtOnce.{goes_on};
 ghost use Rattle.ion_tokens.specs.Lexemes.{Each};
 ghost use Rattle.ion_tokens.specs.machine.Views.{scanned};

@@ -1,6 +1,6 @@
 //! What each octet does: the scanner takes it up, and behind it the reader of tokens.
 ghost use Rattle.std.specs.Prelude.{◌≡◌, ◌≢◌, ◌+◌, ◌<◌, ◌≤◌, ◌^◌, length, get_or, Ok, Err, IfOk, IfErr, true, false};
-ghost use Rattle.ion_model.specs.declared.refusal.Reason.TheVariants.{Memory};
+ghost use Rattle.ion_atoms.specs.declared.refusal.Reason.TheVariants.{Memory};
 ghost use Rattle.ion_tokens.specs.machine.Views.{begun_in, scanned, failure};
 ghost use Rattle.ion_tokens.specs.machine.Scanning.{run, feed};
 ghost use Rattle.ion_text.specs.machine.EachToken.{turn};

@@ -1,7 +1,7 @@
 //! Steps over pieces.
 ghost use Rattle.std.specs.Prelude.{◌≡◌, ◌≢◌, ◌+◌, ◌<◌, ◌^◌, length, IfOk, IfErr};
 ghost use Rattle.std.specs.Option.{is_some};
-ghost use Rattle.ion_model.specs.declared.refusal.Reason.TheVariants.{Memory};
+ghost use Rattle.ion_atoms.specs.declared.refusal.Reason.TheVariants.{Memory};
 ghost use Rattle.ion_tokens.specs.machine.Views.{scanned};
 ghost use Rattle.ion_text.specs.machine.Views.{state_of, IsFine, SameReader};
 ghost use Rattle.ion_text.specs.machine.Progress.{Took, Advances, BeginsWith, SameSettings, StaysSteady};

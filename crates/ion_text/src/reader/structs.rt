@@ -1,6 +1,6 @@
 //! A struct of the top level: its open, and the tokens behind it that lie whole in the piece.
 ghost use Rattle.std.specs.Prelude.{◌≡◌, ◌+◌, ◌<◌, ◌≤◌, ◌^◌, length, false, OnOk, IfOk, IfErr, IfSome};
-ghost use Rattle.ion_model.specs.declared.refusal.Reason.TheVariants.{Memory};
+ghost use Rattle.ion_atoms.specs.declared.refusal.Reason.TheVariants.{Memory};
 ghost use Rattle.ion_tokens.specs.machine.Views.{scanned};
 ghost use Rattle.ion_text.specs.machine.Run.{is_top};
 ghost use Rattle.ion_text.specs.machine.Nested.{OpensStruct};

@@ -1,6 +1,6 @@
 //! Symbols, annotations and names of fields that lie whole in a piece, where a container is open.
 ghost use Rattle.std.specs.Prelude.{◌≡◌, ◌≢◌, ◌+◌, ◌-◌, ◌<◌, [], length, get_or, take, drop, true, Some, Ok, IfOk, IfErr, IfSome, IsUtf8};
-ghost use Rattle.ion_model.specs.declared.refusal.Reason.TheVariants.{Memory};
+ghost use Rattle.ion_atoms.specs.declared.refusal.Reason.TheVariants.{Memory};
 ghost use Rattle.ion_tokens.specs.machine.Rests.{resting, IsPassed};
 ghost use Rattle.ion_tokens.specs.machine.Views.{scanned};
 ghost use Rattle.ion_tokens.specs.declared.mode.Place.{Place};

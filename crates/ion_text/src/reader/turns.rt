@@ -1,6 +1,6 @@
 //! What each token does (Ion 1.0, "Ion Text Encoding").
 ghost use Rattle.std.specs.Prelude.{◌≡◌, [], ◌∷◌, ◌++◌, MatchResult};
-ghost use Rattle.ion_model.specs.declared.refusal.Reason.TheVariants as reasons;
+ghost use Rattle.ion_atoms.specs.declared.refusal.Reason.TheVariants as reasons;
 ghost use Rattle.ion_text.specs.declared.state.Now.TheVariants as nows;
 ghost use Rattle.ion_text.specs.machine.EachToken.{at, goes, turn, on_ready, on_pending, on_long, on_name, on_long_name, on_after, on_keyed, number_payload};
 ghost use Rattle.ion_tokens.specs.Bodies.{content, Word, Mark'};

@@ -2,7 +2,7 @@
 //! cut, refused or unusual isn't told here: the reader takes it up token by token.
 ghost use Rattle.std.specs.Prelude.{◌≡◌, ◌+◌, ◌-◌, ◌≤◌, ◌<◌, ◌^◌, min, true, false, length, drop, get_or, IfSome, Ok};
 ghost use Rattle.ion_model.specs.declared.value.Payload.{Payload};
-ghost use Rattle.ion_model.specs.declared.kind.Kind.TheVariants as kinds;
+ghost use Rattle.ion_atoms.specs.declared.kind.Kind.TheVariants as kinds;
 ghost use Rattle.ion_tokens.specs.Places.{is_name};
 ghost use Rattle.ion_tokens.specs.declared.mode.Place.{Place};
 ghost use Rattle.ion_tokens.specs.declared.whole.Rest.{Rest};

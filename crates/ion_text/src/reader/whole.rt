@@ -2,7 +2,7 @@
 //! the octets. Where a container is open a value only goes on; another answer couldn't come, and is told as
 //! memory that ran out, which says nothing of the octets.
 ghost use Rattle.std.specs.Prelude.{◌≡◌, ◌+◌, ◌<◌, ◌≤◌, ◌^◌, [], length, true, false, not, IfOk, IfErr};
-ghost use Rattle.ion_model.specs.declared.refusal.Reason.TheVariants.{Memory};
+ghost use Rattle.ion_atoms.specs.declared.refusal.Reason.TheVariants.{Memory};
 ghost use Rattle.ion_tokens.specs.machine.Views.{scanned};
 ghost use Rattle.ion_tokens.specs.Places.{is_name};
 ghost use Rattle.ion_tokens.specs.machine.Rests.{resting, IsPassed};

@@ -16,7 +16,7 @@ use Rattle.ion_scalar.specs.text.laws.OneRun.{first_digit}
 use Rattle.ion_scalar.specs.text.laws.DecimalCuts.{whole_digits}
 use Rattle.ion_scalar.specs.declared.number.Number.{Number}
 use Rattle.ion_scalar.specs.declared.number.Number.TheVariants as numbers
-use Rattle.ion_model.specs.Timestamps.{TimestampParts}
+use Rattle.ion_atoms.specs.Timestamps.{TimestampParts}
 use Rattle.ion_tokens.specs.Octets.{is_digit, is_stop}
 use Rattle.ion_tokens.specs.Lexemes.{Each, begins, begins_number}
 use Rattle.ion_tokens.specs.laws.Each.{each_append, each_last, begins_more}

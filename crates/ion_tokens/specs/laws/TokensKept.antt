@@ -4,8 +4,8 @@ use Rattle.std.specs.List.{flat_map, AllByRecursion}
 use Rattle.std.proofs.lemmas.Bool.{false≢true}
 use Rattle.std.proofs.lemmas.Bool.Decides.{nat_tests}
 use Rattle.std.proofs.lemmas.Str.{encode_ascii}
-use Rattle.ion_model.specs.declared.kind.Kind.{Kind}
-use Rattle.ion_model.specs.declared.refusal.Reason.{Reason}
+use Rattle.ion_atoms.specs.declared.kind.Kind.{Kind}
+use Rattle.ion_atoms.specs.declared.refusal.Reason.{Reason}
 use Rattle.ion_scalar.specs.text.Numbers.{Fits, IsThere}
 use Rattle.ion_tokens.specs.Octets.{escaped, hexadecimal_digit}
 use Rattle.ion_tokens.specs.Blobs.{AreOctets}

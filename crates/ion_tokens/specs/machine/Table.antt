@@ -6,7 +6,7 @@ use Rattle.ion_tokens.specs.Ascii.{tab, line_feed, vertical_tab, form_feed, carr
 use Rattle.ion_tokens.specs.Ascii as ascii
 pub use Rattle.ion_tokens.specs.Places.{is_sexp, is_name}
 pub use Rattle.ion_tokens.specs.machine.Styles.{is_long, is_clob, quote_of}
-use Rattle.ion_model.specs.declared.refusal.Reason.TheVariants as reasons
+use Rattle.ion_atoms.specs.declared.refusal.Reason.TheVariants as reasons
 use Rattle.ion_tokens.specs.declared.mode.Place.{Place}
 use Rattle.ion_tokens.specs.declared.mode.Style.{Style}
 use Rattle.ion_tokens.specs.declared.mode.Digits.{Digits}

@@ -4,7 +4,7 @@ use Rattle.ion_tokens.specs.declared.machine.Machine.{Machine}
 use Rattle.ion_tokens.specs.declared.machine.Lexeme.{Lexeme as Found}
 use Rattle.ion_tokens.specs.declared.machine.Taken.{Taken}
 use Rattle.ion_tokens.specs.declared.machine.Taken.TheVariants as taken
-use Rattle.ion_model.specs.declared.refusal.Refusal.{Refusal}
+use Rattle.ion_atoms.specs.declared.refusal.Refusal.{Refusal}
 use Rattle.ion_tokens.specs.declared.mode.Mode.{Mode}
 use Rattle.ion_tokens.specs.declared.mode.Mode.TheVariants as modes
 use Rattle.ion_tokens.specs.declared.mode.Style.TheVariants as styles

@@ -5,8 +5,8 @@ use Rattle.ion_model.specs.declared.value.Value.{Value}
 use Rattle.ion_model.specs.declared.value.Field.{Field}
 use Rattle.ion_model.specs.declared.value.Payload.{Payload}
 use Rattle.ion_model.specs.declared.value.Payload.TheVariants as payloads
-use Rattle.ion_model.specs.declared.refusal.Reason.{Reason}
-use Rattle.ion_model.specs.declared.refusal.Reason.TheVariants.{ItemTooLong}
+use Rattle.ion_atoms.specs.declared.refusal.Reason.{Reason}
+use Rattle.ion_atoms.specs.declared.refusal.Reason.TheVariants.{ItemTooLong}
 use Rattle.ion_model.specs.Measures.{depth, bare, annotated, field_of}
 use Rattle.ion_model.specs.laws.Measures.{depth-out, depth-at-List, depth-at-Sexp, depth-at-Fields, deepest-more}
 use Rattle.ion_symtab.specs.declared.limits.Limits.{Limits}

@@ -2,10 +2,10 @@
 use Rattle.std.proofs.Common.{ℕ, ◌^◌, List, Result, Ok, Err, Option, Bool, true, false, nat_lt, ◌==◌}
 use Rattle.std.specs.Str.{is_utf8}
 use Rattle.ion_model.specs.declared.value.Payload.{Payload}
-use Rattle.ion_model.specs.Decimals.{DecimalParts}
-use Rattle.ion_model.specs.Timestamps.{TimestampParts}
-use Rattle.ion_model.specs.declared.refusal.Reason.{Reason}
-use Rattle.ion_model.specs.declared.refusal.Reason.TheVariants.{TooLarge, Malformed}
+use Rattle.ion_atoms.specs.Decimals.{DecimalParts}
+use Rattle.ion_atoms.specs.Timestamps.{TimestampParts}
+use Rattle.ion_atoms.specs.declared.refusal.Reason.{Reason}
+use Rattle.ion_atoms.specs.declared.refusal.Reason.TheVariants.{TooLarge, Malformed}
 use Rattle.ion_scalar.specs.binary.Fields.{positional, uint_field}
 use Rattle.ion_symtab.specs.Slots.{Slot, resolve}
 use Rattle.ion_symtab.specs.Decided.{IsDecided, Decides, either, resolve_decides}

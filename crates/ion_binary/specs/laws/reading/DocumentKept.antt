@@ -1,7 +1,7 @@
 -- The values of a document of octets are kept, where the texts of the catalog are UTF-8; so they may be written.
 use Rattle.std.proofs.Common.{ℕ, List, subst}
 use Rattle.ion_model.specs.declared.value.Value.{Value}
-use Rattle.ion_model.specs.Octets.{AreOctets, octets_front, octets_rest}
+use Rattle.ion_atoms.specs.Octets.{AreOctets, octets_front, octets_rest}
 use Rattle.ion_model.specs.Kept.{AreKept}
 use Rattle.ion_model.specs.laws.Kept.{kept_last}
 use Rattle.ion_symtab.specs.declared.limits.Limits.{Limits}

@@ -1,7 +1,7 @@
 -- The values of octets are kept where the texts of the context are UTF-8.
 use Rattle.std.proofs.Common.{ℕ, zero, suc, pos, neg_ℤ, ◌^◌, ◌<◌, List, [], ◌++◌, Option, arith}
-use Rattle.ion_model.specs.Ranges.{IsWhole}
-use Rattle.ion_model.specs.Octets.{AreOctets, octets_front, octets_rest}
+use Rattle.ion_atoms.specs.Ranges.{IsWhole}
+use Rattle.ion_atoms.specs.Octets.{AreOctets, octets_front, octets_rest}
 use Rattle.ion_model.specs.declared.value.Value.{Value}
 use Rattle.ion_model.specs.declared.value.Field.{Field}
 use Rattle.ion_model.specs.declared.value.Payload.{Payload}

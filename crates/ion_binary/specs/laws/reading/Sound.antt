@@ -5,9 +5,9 @@ use Rattle.ion_model.specs.declared.value.Value.{Value}
 use Rattle.ion_model.specs.declared.value.Field.{Field}
 use Rattle.ion_model.specs.declared.value.Payload.{Payload}
 use Rattle.ion_model.specs.declared.value.Payload.TheVariants as payloads
-use Rattle.ion_model.specs.declared.refusal.Reason.{Reason}
-use Rattle.ion_model.specs.declared.refusal.Reason.TheVariants.{Malformed, Float, ItemTooLong}
-use Rattle.ion_model.specs.declared.refusal.Refusal.{Refusal}
+use Rattle.ion_atoms.specs.declared.refusal.Reason.{Reason}
+use Rattle.ion_atoms.specs.declared.refusal.Reason.TheVariants.{Malformed, Float, ItemTooLong}
+use Rattle.ion_atoms.specs.declared.refusal.Refusal.{Refusal}
 use Rattle.ion_model.specs.Measures.{depth, bare, annotated, field_of}
 use Rattle.ion_model.specs.laws.Measures.{depth-Null, depth-Truth, deepest-more, depth-out}
 use Rattle.ion_model.specs.Kinds.{is_table}

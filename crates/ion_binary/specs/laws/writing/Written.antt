@@ -2,17 +2,17 @@
 use Rattle.std.proofs.Common.{◌≡◌, ◌≢◌, ℕ, ℤ, suc, pos, negsuc, neg_ℤ, ◌^◌, ◌<◌, ◌≤◌, Bool, true, false, List, [], ◌∷◌, ◌++◌, length, Option, Ok, refl, sym, ap, subst, ◌∙◌, arith, length-append, append_assoc, append-nil, le-ltb}
 use Rattle.std.specs.Prelude.{nat_lt}
 use Rattle.std.specs.List.{flat_map}
-use Rattle.ion_model.specs.declared.kind.Kind.{Kind}
-use Rattle.ion_model.specs.declared.kind.Kind.TheVariants as kinds
+use Rattle.ion_atoms.specs.declared.kind.Kind.{Kind}
+use Rattle.ion_atoms.specs.declared.kind.Kind.TheVariants as kinds
 use Rattle.ion_model.specs.declared.value.Value.{Value}
 use Rattle.ion_model.specs.declared.value.Field.{Field}
 use Rattle.ion_model.specs.declared.value.Payload.{Payload}
 use Rattle.ion_model.specs.declared.value.Payload.TheVariants as payloads
 use Rattle.ion_model.specs.declared.value.Payload.TheViews as views
 use Rattle.ion_model.specs.Measures.{Layer, annotated, field_of}
-use Rattle.ion_model.specs.Decimals.{DecimalParts, IsDecimal}
-use Rattle.ion_model.specs.Timestamps.{TimestampParts, IsTimestamp}
-use Rattle.ion_model.specs.Ranges.{IsWhole}
+use Rattle.ion_atoms.specs.Decimals.{DecimalParts, IsDecimal}
+use Rattle.ion_atoms.specs.Timestamps.{TimestampParts, IsTimestamp}
+use Rattle.ion_atoms.specs.Ranges.{IsWhole}
 use Rattle.ion_model.specs.Kept.{IsKept, kept, KeptPayload, kept_null, kept_truth, kept_int, kept_decimal, kept_timestamp, kept_symbol, kept_string, kept_clob, kept_blob, kept_list, kept_sexp, kept_fields, KeptItems, no_items, an_item, KeptFields, a_field}
 use Rattle.ion_model.specs.Kept as keeping
 use Rattle.ion_scalar.specs.binary.Fields.{positional, VarInt, short, long}

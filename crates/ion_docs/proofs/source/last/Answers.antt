@@ -1,5 +1,5 @@
 use Rattle.std.proofs.Common.{rules, refl, ◌≢◌}
-use Rattle.ion_model.specs.declared.refusal.Reason.TheVariants as reasons
+use Rattle.ion_atoms.specs.declared.refusal.Reason.TheVariants as reasons
 use Rattle.ion_docs.specs.Formats.{format_of}
 use Rattle.ion_docs.proofs.Endings.{refused_late}
 use Rattle.ion_docs.proofs.source.last.Goals as goal

@@ -1,6 +1,6 @@
 use Rattle.std.proofs.Common.{◌≡◌, MatchResult, true, subst, arith}
 use lib.Pointwise.{pointwise}
-use Rattle.ion_model.specs.declared.refusal.Reason.TheVariants as reasons
+use Rattle.ion_atoms.specs.declared.refusal.Reason.TheVariants as reasons
 use Rattle.ion_model.specs.Symbols.{symbol_same}
 use Rattle.ion_model.specs.laws.Same.{same-is, same-payload}
 use Rattle.ion_model.proofs.equivalence.+equivalent.Goals as goal

@@ -4,7 +4,7 @@ use Rattle.ion_model.specs.Order.{order}
 use Rattle.ion_model.specs.Same.{same}
 use Rattle.ion_model.specs.laws.Equivalence.{same-equiv}
 use Rattle.ion_model.specs.laws.OrderEqual.{equal_from_order}
-use Rattle.ion_model.specs.laws.Parts.{tie_from_is_eq}
+use Rattle.ion_atoms.specs.laws.Ties.{tie_from_is_eq}
 use Rattle.ion_model.proofs.equivalence.equivalent.Goals as goal
 
 pub returns-then-is_eq : goal.returns-then-is_eq

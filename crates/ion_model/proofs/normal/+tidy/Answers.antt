@@ -6,7 +6,7 @@ use Rattle.ion_model.specs.Measures.{depth}
 use Rattle.ion_model.specs.Same.{same, field_same}
 use Rattle.ion_model.specs.Normal.{IsNormal}
 use Rattle.ion_model.specs.declared.value.Payload.TheViews.{roll-Field}
-use Rattle.ion_model.specs.laws.Counts.{both}
+use Rattle.ion_atoms.specs.laws.Tests.{both}
 use Rattle.ion_model.specs.laws.Measures.{depth-at, greatest-at}
 use Rattle.ion_model.specs.laws.Equivalence.{same-equiv, field_same-equiv, symbol_same-equiv}
 use Rattle.ion_model.proofs.NormalLaws.{normal_from, same_with, fields_moved, walked, later_more, done_more, always_ok}

@@ -1,7 +1,7 @@
 use Rattle.std.proofs.Common.{◌≡◌, ◌++◌, drop, arith}
 use Rattle.std.specs.Fmt.{decimal, signed_decimal}
 use Rattle.std.proofs.lemmas.List.{drop_all}
-use Rattle.ion_model.specs.Ranges.{IsWhole}
+use Rattle.ion_atoms.specs.Ranges.{IsWhole}
 use Rattle.ion_scalar.specs.text.Ints.{minus}
 use Rattle.ion_scalar.specs.text.laws.Texts.{int_reads, signed_end, back_kept}
 use Rattle.ion_scalar.proofs.text.int_before.Goals as goal

@@ -1,7 +1,7 @@
 use Rattle.std.proofs.Common.{◌≡◌, pos, ◌-ℤ◌, arith, neg_ℤ, ap, ◌∙◌, FitsSigned, w16}
 use Rattle.std.proofs.lemmas.Int.{ints, to_z-of_z}
-use Rattle.ion_model.specs.Timestamps.{minutes_ahead, local_minute}
-use Rattle.ion_model.specs.laws.Timestamps.{local_minute-is}
+use Rattle.ion_atoms.specs.Timestamps.{minutes_ahead, local_minute}
+use Rattle.ion_atoms.specs.laws.Timestamps.{local_minute-is}
 use Rattle.ion_scalar.specs.binary.laws.Shifted.{moved_found}
 use Rattle.ion_scalar.specs.binary.laws.Shown.{near_fits}
 use Rattle.ion_scalar.specs.binary.laws.TimestampSpellings.{near_utc, fraction_small}

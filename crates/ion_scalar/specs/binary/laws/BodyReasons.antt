@@ -1,19 +1,19 @@
 -- A body is refused as too large or as malformed, and for no other reason.
 use Rattle.std.proofs.Common.{ℕ, ℤ, ◌^◌, List, [], ◌∷◌, drop, Bool, true, false, cond, ◌&&◌, nat_le, nat_lt, not, Option, Result, Ok, Err}
-use Rattle.ion_model.specs.declared.calendar.Date.{Date}
-use Rattle.ion_model.specs.declared.calendar.Minute.{Minute}
-use Rattle.ion_model.specs.declared.refusal.Reason.{Reason}
-use Rattle.ion_model.specs.declared.refusal.Reason.TheVariants as reasons
-use Rattle.ion_model.specs.Calendar.{month_length}
-use Rattle.ion_model.specs.Decimals.{DecimalParts}
-use Rattle.ion_model.specs.Timestamps.{TimestampParts, minutes_ahead}
+use Rattle.ion_atoms.specs.declared.calendar.Date.{Date}
+use Rattle.ion_atoms.specs.declared.calendar.Minute.{Minute}
+use Rattle.ion_atoms.specs.declared.refusal.Reason.{Reason}
+use Rattle.ion_atoms.specs.declared.refusal.Reason.TheVariants as reasons
+use Rattle.ion_atoms.specs.Calendar.{month_length}
+use Rattle.ion_atoms.specs.Decimals.{DecimalParts}
+use Rattle.ion_atoms.specs.Timestamps.{TimestampParts, minutes_ahead}
 use Rattle.ion_scalar.specs.declared.fields.Signed.{Signed}
 use Rattle.ion_scalar.specs.declared.timestamp_body.Utc.{Utc}
 use Rattle.ion_scalar.specs.binary.Fields.{var_uint, var_int, int_negative, int_magnitude}
 use Rattle.ion_scalar.specs.binary.Reads.{ReadsDecimalBody}
 use Rattle.ion_scalar.specs.binary.Decimal.{decimal_of_body}
 use Rattle.ion_scalar.specs.binary.laws.Decimal.{decimal_answers}
-use Rattle.ion_model.specs.Neighbours.{day_of}
+use Rattle.ion_atoms.specs.Neighbours.{day_of}
 use Rattle.ion_scalar.specs.binary.Shifted.{moved}
 use Rattle.ion_scalar.specs.binary.Timestamp.{minute_of, in_range, read_field, and_then, read_digits, read_no_digits, read_fraction, with_power, read_behind_second, read_behind_minute, read_behind_hour, read_behind_day, read_behind_month, read_behind_year, read_fields, near, read_offset, kept_offset, shown_at, shown, shown_by, with_offset, timestamp_of_body}
 

@@ -9,11 +9,11 @@ use Rattle.std.proofs.lemmas.Bool.{eqb-true, false≢true, lt-ltb, le-ltb, le-le
 use Rattle.std.proofs.Math.Seq.{drop-append_seam}
 use Rattle.std.proofs.lemmas.List.{take-append-drop}
 use Rattle.std.proofs.lemmas.Int.{ints}
-use Rattle.ion_model.specs.declared.refusal.Reason.{Reason}
-use Rattle.ion_model.specs.declared.refusal.Reason.TheVariants.{TooLarge, Malformed, Incomplete}
+use Rattle.ion_atoms.specs.declared.refusal.Reason.{Reason}
+use Rattle.ion_atoms.specs.declared.refusal.Reason.TheVariants.{TooLarge, Malformed, Incomplete}
 use Rattle.ion_scalar.specs.declared.fields.Signed.{Signed}
 use Rattle.ion_scalar.specs.binary.Fields.{VarInt, short, long, var_int, int_negative, int_magnitude, signed_of}
-use Rattle.ion_model.specs.Decimals.{DecimalParts, IsDecimal}
+use Rattle.ion_atoms.specs.Decimals.{DecimalParts, IsDecimal}
 use Rattle.ion_scalar.specs.text.Decimals.{signed}
 use Rattle.ion_scalar.specs.binary.Decimal.{IsDecimalParts, IsDecimalField, exponent_fits, decimal_with, with_coefficient, with_power, decimal_of_body}
 use Rattle.ion_scalar.specs.binary.Reads.{ReachesInt, ReadsDecimalBody, BeginsWithInt, ReadsVarInt}

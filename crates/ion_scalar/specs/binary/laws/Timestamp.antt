@@ -5,21 +5,21 @@ use Rattle.std.proofs.lemmas.Bool.{lt-ltb, le-ltb, lt-leb, le-leb, cases_lt}
 use Rattle.std.proofs.lemmas.List.{take-append-drop}
 use Rattle.std.proofs.Math.Nat.{pow-le-pow_right}
 use Rattle.std.proofs.Math.Seq.{drop-append_seam}
-use Rattle.ion_model.specs.declared.calendar.Date.{Date}
-use Rattle.ion_model.specs.declared.calendar.Minute.{Minute}
-use Rattle.ion_model.specs.declared.refusal.Reason.{Reason}
-use Rattle.ion_model.specs.declared.refusal.Reason.TheVariants.{TooLarge, Malformed, Incomplete}
-use Rattle.ion_model.specs.declared.timestamp.Precision.TheVariants as precisions
-use Rattle.ion_model.specs.Calendar.{IsDate, IsMinute, month_length}
-use Rattle.ion_model.specs.Timestamps.{IsCut}
+use Rattle.ion_atoms.specs.declared.calendar.Date.{Date}
+use Rattle.ion_atoms.specs.declared.calendar.Minute.{Minute}
+use Rattle.ion_atoms.specs.declared.refusal.Reason.{Reason}
+use Rattle.ion_atoms.specs.declared.refusal.Reason.TheVariants.{TooLarge, Malformed, Incomplete}
+use Rattle.ion_atoms.specs.declared.timestamp.Precision.TheVariants as precisions
+use Rattle.ion_atoms.specs.Calendar.{IsDate, IsMinute, month_length}
+use Rattle.ion_atoms.specs.Timestamps.{IsCut}
 use Rattle.ion_scalar.specs.declared.fields.Signed.{Signed}
 use Rattle.ion_scalar.specs.declared.timestamp_body.Utc.{Utc}
 use Rattle.ion_scalar.specs.binary.Fields.{VarUInt, VarInt, short, long, var_uint, var_int, int_negative, int_magnitude, signed_of}
 use Rattle.ion_scalar.specs.binary.Reads.{BeginsWith, ReadsVarUInt, ReadsVarInt}
 use Rattle.ion_scalar.specs.binary.laws.VarUInt.{var_uint_read, var_uint_answers}
 use Rattle.ion_scalar.specs.binary.laws.VarInt.{var_int_read, var_int_answers}
-use Rattle.ion_model.specs.Neighbours.{day_of}
-use Rattle.ion_model.specs.laws.Neighbours.{month_least}
+use Rattle.ion_atoms.specs.Neighbours.{day_of}
+use Rattle.ion_atoms.specs.laws.Neighbours.{month_least}
 use Rattle.ion_scalar.specs.binary.Timestamp.{time_known, minute_of, Begins, IsFractionOf, IsSecondsFraction, IsBehindSecond, IsBehindMinute, IsBehindHour, IsBehindDay, IsBehindMonth, IsBehindYear, AreFields, local_in, in_range, and_then, with_power, read_digits, read_no_digits, read_field, read_fraction, read_behind_second, read_behind_minute, read_behind_hour, read_behind_day, read_behind_month, read_behind_year, read_fields}
 
 -- fields of a day and a time of day, those past the precision the least

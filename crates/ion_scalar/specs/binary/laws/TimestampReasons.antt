@@ -4,19 +4,19 @@ use Rattle.std.specs.Prelude.{nat_lt, ◌&&◌}
 use Rattle.std.proofs.lemmas.Bool.{lt-ltb, le-ltb, lt-leb, le-leb, cases_lt}
 use Rattle.std.proofs.lemmas.List.{take-append-drop}
 use Rattle.std.proofs.Math.Seq.{drop-append_seam}
-use Rattle.ion_model.specs.declared.calendar.Date.{Date}
-use Rattle.ion_model.specs.declared.calendar.Minute.{Minute}
-use Rattle.ion_model.specs.declared.refusal.Reason.{Reason}
-use Rattle.ion_model.specs.declared.refusal.Reason.TheVariants.{TooLarge, Malformed, Incomplete}
-use Rattle.ion_model.specs.Calendar.{month_length}
-use Rattle.ion_model.specs.Timestamps.{TimestampParts}
+use Rattle.ion_atoms.specs.declared.calendar.Date.{Date}
+use Rattle.ion_atoms.specs.declared.calendar.Minute.{Minute}
+use Rattle.ion_atoms.specs.declared.refusal.Reason.{Reason}
+use Rattle.ion_atoms.specs.declared.refusal.Reason.TheVariants.{TooLarge, Malformed, Incomplete}
+use Rattle.ion_atoms.specs.Calendar.{month_length}
+use Rattle.ion_atoms.specs.Timestamps.{TimestampParts}
 use Rattle.ion_scalar.specs.declared.fields.Signed.{Signed}
 use Rattle.ion_scalar.specs.declared.timestamp_body.Utc.{Utc}
 use Rattle.ion_scalar.specs.binary.Fields.{VarInt, var_uint, var_int, int_magnitude, signed_of}
 use Rattle.ion_scalar.specs.binary.Reads.{Reaches, ReadsVarUInt, ReadsVarInt}
 use Rattle.ion_scalar.specs.binary.laws.VarUInt.{var_uint_answers, var_uint_reaches}
 use Rattle.ion_scalar.specs.binary.laws.VarInt.{var_int_read, var_int_answers, var_int_reaches}
-use Rattle.ion_model.specs.Neighbours.{day_of}
+use Rattle.ion_atoms.specs.Neighbours.{day_of}
 use Rattle.ion_scalar.specs.binary.Timestamp.{minute_of, offset_from, in_range, and_then, with_power, near, shown, shown_by, with_offset, read_offset, read_digits, read_no_digits, read_field, read_fraction, read_behind_second, read_behind_minute, read_behind_hour, read_behind_day, read_behind_month, read_behind_year, read_fields, timestamp_of_body}
 use Rattle.ion_scalar.specs.binary.laws.Timestamp.{Told, field_told, part_read, begins_some, int_some}
 use Rattle.ion_scalar.specs.binary.laws.Shown.{timestamp_told, timestamp_read}

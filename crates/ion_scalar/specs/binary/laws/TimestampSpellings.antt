@@ -5,19 +5,19 @@ use Rattle.std.proofs.Math.Nat.{pow-le-pow_right}
 use Rattle.std.proofs.lemmas.List.{append-nil}
 use Rattle.std.proofs.lemmas.Int.{ints}
 use Rattle.std.proofs.lemmas.Bool.{le-ltb, eqb-true}
-use Rattle.ion_model.specs.declared.calendar.Minute.{Minute}
-use Rattle.ion_model.specs.declared.timestamp.Local.{Local}
-use Rattle.ion_model.specs.declared.timestamp.Precision.{Precision}
-use Rattle.ion_model.specs.declared.timestamp.Precision.TheVariants as precisions
-use Rattle.ion_model.specs.Calendar.{IsMinute, InYears, minute_number, month_length}
-use Rattle.ion_model.specs.laws.Calendar.{minute_number-injective}
-use Rattle.ion_model.specs.Timestamps.{TimestampParts, IsTimestamp, IsCut, IsOffset, HasOffset, utc_minute, local_minute, minutes_ahead}
-use Rattle.ion_model.specs.laws.Timestamps.{local_minute-is}
+use Rattle.ion_atoms.specs.declared.calendar.Minute.{Minute}
+use Rattle.ion_atoms.specs.declared.timestamp.Local.{Local}
+use Rattle.ion_atoms.specs.declared.timestamp.Precision.{Precision}
+use Rattle.ion_atoms.specs.declared.timestamp.Precision.TheVariants as precisions
+use Rattle.ion_atoms.specs.Calendar.{IsMinute, InYears, minute_number, month_length}
+use Rattle.ion_atoms.specs.laws.Calendar.{minute_number-injective}
+use Rattle.ion_atoms.specs.Timestamps.{TimestampParts, IsTimestamp, IsCut, IsOffset, HasOffset, utc_minute, local_minute, minutes_ahead}
+use Rattle.ion_atoms.specs.laws.Timestamps.{local_minute-is}
 use Rattle.ion_scalar.specs.declared.timestamp_body.Utc.{Utc}
 use Rattle.ion_scalar.specs.binary.Fields.{VarInt}
-use Rattle.ion_model.specs.Neighbours.{day_of}
+use Rattle.ion_atoms.specs.Neighbours.{day_of}
 use Rattle.ion_scalar.specs.binary.Shifted.{moved}
-use Rattle.ion_model.specs.laws.Neighbours.{month_most}
+use Rattle.ion_atoms.specs.laws.Neighbours.{month_most}
 use Rattle.ion_scalar.specs.binary.laws.Shifted.{moved_is}
 use Rattle.ion_scalar.specs.binary.Spellings.{var_uint_octets, var_int_octets, int_octets}
 use Rattle.ion_scalar.specs.binary.laws.Spellings.{var_uint_spelled, var_int_spelled, int_parts}

@@ -3,10 +3,10 @@ use Rattle.std.proofs.Common.{◌≡◌, ℕ, ℤ, cond, Bool, true, false, zero
 use Rattle.std.specs.Prelude.{is_ok, IsOkAnd}
 use Rattle.std.proofs.lemmas.Bool.{lt-ltb, le-ltb, le-leb, cases_lt}
 use Rattle.std.proofs.Math.Nat.{pow-le-pow_right}
-use Rattle.ion_model.specs.declared.calendar.Minute.{Minute}
-use Rattle.ion_model.specs.declared.refusal.Reason.{Reason}
-use Rattle.ion_model.specs.declared.timestamp.Precision.TheVariants as precisions
-use Rattle.ion_model.specs.Timestamps.{minutes_ahead}
+use Rattle.ion_atoms.specs.declared.calendar.Minute.{Minute}
+use Rattle.ion_atoms.specs.declared.refusal.Reason.{Reason}
+use Rattle.ion_atoms.specs.declared.timestamp.Precision.TheVariants as precisions
+use Rattle.ion_atoms.specs.Timestamps.{minutes_ahead}
 use Rattle.ion_scalar.specs.declared.timestamp_body.Utc.{Utc}
 use Rattle.ion_scalar.specs.binary.Fields.{positional, short, var_int, uint_field, int_field, int_magnitude, int_negative, is_last, is_negative, seven_bits, six_bits, signed_of}
 use Rattle.ion_scalar.specs.binary.Decimal.{with_power, with_coefficient, decimal_of_body}

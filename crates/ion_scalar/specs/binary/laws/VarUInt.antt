@@ -1,7 +1,7 @@
 -- A VarUInt is read back, and what is read is one.
 use Rattle.std.proofs.Common.{◌≡◌, ℕ, [], ◌∷◌, ◌++◌, ◌+◌, List, length, refl, sym, ap, subst, ◌∙◌, arith, Ok, Err, Result, length-append, append_assoc}
-use Rattle.ion_model.specs.declared.refusal.Reason.{Reason}
-use Rattle.ion_model.specs.declared.refusal.Reason.TheVariants.{TooLarge}
+use Rattle.ion_atoms.specs.declared.refusal.Reason.{Reason}
+use Rattle.ion_atoms.specs.declared.refusal.Reason.TheVariants.{TooLarge}
 use Rattle.ion_scalar.specs.binary.Fields.{positional, VarUInt, var_uint}
 use Rattle.ion_scalar.specs.binary.Reads.{BeginsWith, Reaches, ReadsVarUInt}
 use Rattle.ion_scalar.specs.binary.laws.Rests.{Ended, ReadsRest, rest_read, rest_reaches, rest_answers}

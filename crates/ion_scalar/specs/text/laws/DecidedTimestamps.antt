@@ -1,12 +1,12 @@
 -- Whether octets are the token of a timestamp, and whether there is such a day and time.
 use Rattle.std.proofs.Common.{◌≡◌, ℕ, ◌+◌, ◌*◌, ◌^◌, ◌≤◌, ◌⊎◌, inl, inr, List, length, drop, slice_index, ℤ, pos, neg_ℤ, Option, Some, None, refl}
 use Rattle.std.proofs.Math.Decide.{map_dec, ℕ_discrete, dec_le, dec_lt}
-use Rattle.ion_model.specs.Calendar.{IsDate, InYears, month_length, first_day, last_day}
-use Rattle.ion_model.specs.declared.calendar.Date.{Date}
-use Rattle.ion_model.specs.declared.timestamp.Local.{Local}
-use Rattle.ion_model.specs.declared.timestamp.Precision.{Precision}
-use Rattle.ion_model.specs.declared.timestamp.Precision.TheVariants as precisions
-use Rattle.ion_model.specs.Timestamps.{TimestampParts, IsTimestamp, IsTime, IsCut, IsOffset, HasOffset, local_date, utc_minute}
+use Rattle.ion_atoms.specs.Calendar.{IsDate, InYears, month_length, first_day, last_day}
+use Rattle.ion_atoms.specs.declared.calendar.Date.{Date}
+use Rattle.ion_atoms.specs.declared.timestamp.Local.{Local}
+use Rattle.ion_atoms.specs.declared.timestamp.Precision.{Precision}
+use Rattle.ion_atoms.specs.declared.timestamp.Precision.TheVariants as precisions
+use Rattle.ion_atoms.specs.Timestamps.{TimestampParts, IsTimestamp, IsTime, IsCut, IsOffset, HasOffset, local_date, utc_minute}
 use Rattle.ion_scalar.specs.text.Ints.{number}
 use Rattle.ion_scalar.specs.text.Decimals.{IsPlain}
 use Rattle.ion_scalar.specs.text.Timestamps.{IsAt, IsDigitAt, AreTwoAt, two, AreFourAt, four, BeginsWithMonth, BeginsWithDay, BeginsWithMinute, BeginsWithSecond, IsOffsetToken, IsYear, IsMonth, IsDay, IsTimestampToken, year, month, day, minute, second, fraction, dated, timed, IsShort}

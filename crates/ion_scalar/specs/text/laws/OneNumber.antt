@@ -3,9 +3,9 @@ use Rattle.std.proofs.Common.{◌≡◌, ◌≢◌, ℕ, ◌<◌, ◌≤◌, ◌
 use Rattle.std.proofs.lemmas.Bool.{false≢true, true≢false}
 use Rattle.std.proofs.lemmas.List.{append-nil, append_cancel_left}
 use Rattle.std.specs.Char.{digit_value}
-use Rattle.ion_model.specs.Decimals.{DecimalParts}
-use Rattle.ion_model.specs.declared.refusal.Reason.{Reason}
-use Rattle.ion_model.specs.declared.refusal.Reason.TheVariants.{TooLarge, Malformed, Float}
+use Rattle.ion_atoms.specs.Decimals.{DecimalParts}
+use Rattle.ion_atoms.specs.declared.refusal.Reason.{Reason}
+use Rattle.ion_atoms.specs.declared.refusal.Reason.TheVariants.{TooLarge, Malformed, Float}
 use Rattle.ion_scalar.specs.declared.number.Number.{Number}
 use Rattle.ion_scalar.specs.declared.number.Number.TheVariants as numbers
 use Rattle.ion_scalar.specs.text.Ints.{IsDigits, GoesNotOn, BeginsWithNone, digits_in, number, IsWhole, IsMagnitude, HasBase, minus, BeginsWithMinus}
@@ -15,7 +15,7 @@ use Rattle.ion_scalar.specs.text.laws.OneRun.{first_digit, one_run}
 use Rattle.ion_scalar.specs.text.laws.DecimalTails.{letter, none_first, end_stops, begins_front}
 use Rattle.ion_scalar.specs.text.laws.DecimalCuts.{whole_digits, tail_stops}
 use Rattle.std.proofs.lemmas.Str.{digit_value_digit}
-use Rattle.ion_model.specs.Timestamps.{TimestampParts, IsTimestamp}
+use Rattle.ion_atoms.specs.Timestamps.{TimestampParts, IsTimestamp}
 use Rattle.ion_scalar.specs.text.Timestamps.{IsAt, AreFourAt, IsTimestampToken, IsShort}
 use Rattle.ion_scalar.specs.text.laws.TimestampForms.{one_timestamp, stamp_front, there_short}
 use Rattle.ion_scalar.specs.text.laws.Signs.{one_magnitude}

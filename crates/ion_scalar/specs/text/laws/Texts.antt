@@ -10,8 +10,8 @@ use Rattle.std.proofs.lemmas.Bool.{cases_lt}
 use Rattle.std.proofs.lemmas.Fmt.{decimal_by_steps_wide, decimal_digit}
 use Rattle.std.proofs.lemmas.Str.{digit_value_digit}
 use Rattle.std.proofs.lemmas.List.{drop-set}
-use Rattle.ion_model.specs.Ranges.{IsWhole as IsKeptWhole}
-use Rattle.ion_model.specs.Decimals.{DecimalParts, IsDecimal}
+use Rattle.ion_atoms.specs.Ranges.{IsWhole as IsKeptWhole}
+use Rattle.ion_atoms.specs.Decimals.{DecimalParts, IsDecimal}
 use Rattle.ion_scalar.specs.declared.number.Number.TheVariants as numbers
 use Rattle.ion_scalar.specs.binary.Fields.{positional}
 use Rattle.ion_scalar.specs.Positional.{positional_push}

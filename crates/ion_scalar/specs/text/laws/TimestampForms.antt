@@ -6,10 +6,10 @@ use Rattle.std.proofs.Math.Nat.{pow-suc, pow-le-pow_right, mul-le-mul_right}
 use Rattle.ion_scalar.specs.binary.Fields.{positional}
 use Rattle.ion_scalar.specs.text.laws.DigitRuns.{not_mark}
 use Rattle.std.proofs.lemmas.List.{drop_more, take-append-drop, append_cancel_left, length-take-le}
-use Rattle.ion_model.specs.Timestamps.{TimestampParts, IsTimestamp, IsCut}
-use Rattle.ion_model.specs.declared.timestamp.Local.{Local}
-use Rattle.ion_model.specs.declared.timestamp.Precision.{Precision}
-use Rattle.ion_model.specs.declared.timestamp.Precision.TheVariants as precisions
+use Rattle.ion_atoms.specs.Timestamps.{TimestampParts, IsTimestamp, IsCut}
+use Rattle.ion_atoms.specs.declared.timestamp.Local.{Local}
+use Rattle.ion_atoms.specs.declared.timestamp.Precision.{Precision}
+use Rattle.ion_atoms.specs.declared.timestamp.Precision.TheVariants as precisions
 use Rattle.ion_scalar.specs.declared.timestamps.Stamp.{Stamp}
 use Rattle.ion_scalar.specs.text.Ints.{IsDigits, GoesNotOn, BeginsWithNone, digits_in, number, continued}
 use Rattle.ion_scalar.specs.text.Timestamps.{IsAt, AreTwoAt, two, AreFourAt, four, BeginsWithMinute, BeginsWithSecond, IsOffsetToken, offset_read, minute_read, dated, timed, IsYear, IsMonth, IsDay, IsFractionEnd, IsTimestampToken, year, month, day, minute, second, fraction, stamp, IsShort, read_precision}

@@ -9,11 +9,11 @@ use Rattle.std.proofs.Math.Nat.{pow-suc}
 use Rattle.std.proofs.lemmas.Nat.{div_below}
 use Rattle.std.proofs.lemmas.Int.{ints}
 use Rattle.std.proofs.lemmas.Bool.{false≢true, ne_eqb}
-use Rattle.ion_model.specs.Calendar.{month_length, is_leap}
-use Rattle.ion_model.specs.Timestamps.{TimestampParts, IsTimestamp, IsCut, IsOffset, HasOffset}
-use Rattle.ion_model.specs.declared.timestamp.Local.{Local}
-use Rattle.ion_model.specs.declared.timestamp.Precision.{Precision}
-use Rattle.ion_model.specs.declared.timestamp.Precision.TheVariants as precisions
+use Rattle.ion_atoms.specs.Calendar.{month_length, is_leap}
+use Rattle.ion_atoms.specs.Timestamps.{TimestampParts, IsTimestamp, IsCut, IsOffset, HasOffset}
+use Rattle.ion_atoms.specs.declared.timestamp.Local.{Local}
+use Rattle.ion_atoms.specs.declared.timestamp.Precision.{Precision}
+use Rattle.ion_atoms.specs.declared.timestamp.Precision.TheVariants as precisions
 use Rattle.ion_scalar.specs.binary.Fields.{positional}
 use Rattle.ion_scalar.specs.Positional.{positional_push}
 use Rattle.ion_scalar.specs.text.Ints.{IsDigits, digits_in, number}

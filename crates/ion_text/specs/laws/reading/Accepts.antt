@@ -2,8 +2,8 @@
 use Rattle.std.proofs.Common.{◌≡◌, ℕ, ◌+◌, ◌≤◌, ◌==◌, nat_le, List, [], ◌∷◌, ◌++◌, Bool, true, false, ◌&&◌, ◌||◌, Result, Ok, Err, Option, Some, None, refl, ap, sym, ◌∙◌, subst, arith, option_to_list, if◌then◌else◌, ◌⊎◌, inl, inr}
 use Rattle.std.proofs.lemmas.Bool.Decides.{nat_tests}
 use Rattle.ion_model.specs.declared.value.Value.{Value}
-use Rattle.ion_model.specs.declared.refusal.Reason.{Reason}
-use Rattle.ion_model.specs.declared.refusal.Reason.TheVariants as reasons
+use Rattle.ion_atoms.specs.declared.refusal.Reason.{Reason}
+use Rattle.ion_atoms.specs.declared.refusal.Reason.TheVariants as reasons
 use Rattle.ion_symtab.specs.declared.limits.Limits.{Limits}
 use Rattle.ion_symtab.specs.declared.catalog.Catalog.{Catalog}
 use Rattle.ion_symtab.specs.Slots.{Slot, system_slots}

@@ -6,7 +6,7 @@ use Rattle.ion_model.specs.declared.value.Value.{Value}
 use Rattle.ion_model.specs.declared.value.Field.{Field}
 use Rattle.ion_model.specs.declared.value.Payload.{Payload}
 use Rattle.ion_model.specs.declared.value.Payload.TheVariants as payloads
-use Rattle.ion_model.specs.declared.kind.Kind.TheVariants as values
+use Rattle.ion_atoms.specs.declared.kind.Kind.TheVariants as values
 use Rattle.ion_model.specs.Measures.{depth, annotated, greatest, field_of}
 use Rattle.ion_model.specs.laws.Measures.{depth-at-List, depth-at-Sexp, depth-at-Fields, deepest-more}
 use Rattle.ion_symtab.specs.declared.limits.Limits.{Limits}
@@ -19,7 +19,7 @@ use Rattle.ion_tokens.specs.declared.mode.Place.TheVariants as places
 use Rattle.ion_tokens.specs.declared.mode.TokenKind.{TokenKind}
 use Rattle.ion_tokens.specs.declared.mode.TokenKind.TheVariants as kinds
 use Rattle.ion_tokens.specs.Bodies.{Content, Word, Id, Quoted, Short, Long, Number', TypedNull, Operator, Clob, Blob, Mark', IsBody, Spells, IsWordBody, id_of, kind_named, null_of}
-use Rattle.ion_model.specs.declared.kind.Kind.{Kind}
+use Rattle.ion_atoms.specs.declared.kind.Kind.{Kind}
 use Rattle.ion_tokens.specs.Lexed.{Placed}
 use Rattle.ion_tokens.specs.machine.Ahead.{is_segment}
 use Rattle.ion_text.specs.declared.state.Held.{Held}

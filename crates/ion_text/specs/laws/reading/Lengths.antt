@@ -24,7 +24,7 @@ use Rattle.ion_tokens.specs.declared.mode.TokenKind.TheVariants as kinds
 use Rattle.ion_tokens.specs.declared.mode.Action.{Action}
 use Rattle.ion_tokens.specs.declared.mode.End.{End}
 use Rattle.ion_tokens.specs.declared.mode.End.TheVariants as ends'
-use Rattle.ion_model.specs.declared.refusal.Reason.TheVariants as reasons
+use Rattle.ion_atoms.specs.declared.refusal.Reason.TheVariants as reasons
 use Rattle.ion_tokens.specs.declared.mode.Action.TheVariants as actions
 use Rattle.ion_tokens.specs.Octets.{hexadecimal_digit, escaped, is_digit, is_white, begins_word, is_line_end, is_word_octet, is_operator_octet, is_stop, is_base64}
 use Rattle.ion_tokens.specs.machine.Table.{next, end_of, begins_value, digit_behind, in_infinity, in_text, in_lob, raw, lead, in_escape, meant, with_digit, after_digits, character, grow, close, close_long, is_other, stands, is_high, is_low}

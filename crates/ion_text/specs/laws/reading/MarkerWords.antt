@@ -2,7 +2,7 @@
 use Rattle.std.proofs.Common.{◌≡◌, ℕ, ◌-◌, ◌^◌, ◌==◌, min, arith, nat_lt, List, [], ◌∷◌, ◌++◌, length, Bool, true, false, Ok, Option, Some, None, refl, ap, ◌∙◌, if◌then◌else◌, codes, ◌&&◌}
 use Rattle.std.proofs.lemmas.Slice.Eq.{bytes_eq-Decides}
 use Rattle.std.specs.Str.{bytes_eq}
-use Rattle.ion_model.specs.declared.kind.Kind.TheVariants as values
+use Rattle.ion_atoms.specs.declared.kind.Kind.TheVariants as values
 use Rattle.ion_symtab.specs.Slots.{Slot}
 use Rattle.ion_tokens.specs.declared.mode.Place.{Place}
 use Rattle.ion_tokens.specs.declared.mode.TokenKind.{TokenKind}

@@ -3,7 +3,7 @@ use Rattle.std.proofs.Common.{◌≡◌, ℕ, ◌+◌, ◌-◌, ◌≤◌, ◌==
 use Rattle.std.proofs.lemmas.Bool.{cond-true, cond-false}
 use Rattle.std.proofs.lemmas.Bool.Decides.{nat_tests}
 use Rattle.ion_model.specs.declared.value.Value.{Value}
-use Rattle.ion_model.specs.declared.kind.Kind.{Kind}
+use Rattle.ion_atoms.specs.declared.kind.Kind.{Kind}
 use Rattle.ion_model.specs.Measures.{annotated}
 use Rattle.ion_model.specs.Kinds.{is_table}
 use Rattle.ion_symtab.specs.declared.limits.Limits.{Limits}

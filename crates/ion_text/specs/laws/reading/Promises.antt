@@ -1,7 +1,7 @@
 -- The promises of the reader of text, over the grammar.
 use Rattle.std.proofs.Common.{◌≡◌, ◌↔◌, ℕ, List, ◌++◌, Result, Ok, Err, Option, ap, sym, ◌∙◌, option_to_list, ◌⊎◌, inl, inr, subst, Some}
 use Rattle.ion_model.specs.declared.value.Value.{Value}
-use Rattle.ion_model.specs.declared.refusal.Refusal.{Refusal}
+use Rattle.ion_atoms.specs.declared.refusal.Refusal.{Refusal}
 use Rattle.ion_symtab.specs.declared.limits.Limits.{Limits}
 use Rattle.ion_symtab.specs.declared.catalog.Catalog.{Catalog}
 use Rattle.ion_symtab.specs.Trace.{Trace, Streams, plain}
@@ -9,8 +9,8 @@ use Rattle.ion_text.specs.Grammar.{Document}
 use Rattle.ion_text.specs.machine.Run.{trace}
 use Rattle.ion_text.specs.laws.reading.Admits.{admits}
 use Rattle.ion_text.specs.laws.reading.Accepts.{accepts}
-use Rattle.ion_model.specs.declared.refusal.Reason.{Reason}
-use Rattle.ion_model.specs.declared.refusal.Reason.TheVariants as reasons
+use Rattle.ion_atoms.specs.declared.refusal.Reason.{Reason}
+use Rattle.ion_atoms.specs.declared.refusal.Reason.TheVariants as reasons
 use Rattle.ion_symtab.specs.Decided.{IsDecided}
 use Rattle.ion_symtab.specs.Promises.{IsReadersReason, HasReasons}
 use Rattle.ion_text.specs.laws.reading.Reasons.{step_reason, end_reason}

@@ -8,8 +8,8 @@ use Rattle.ion_model.specs.declared.value.Field.{Field}
 use Rattle.ion_model.specs.declared.value.Payload.{Payload}
 use Rattle.ion_model.specs.declared.value.Payload.TheVariants as payloads
 use Rattle.ion_model.specs.declared.value.Payload.TheViews as views
-use Rattle.ion_model.specs.declared.refusal.Reason.{Reason}
-use Rattle.ion_model.specs.declared.refusal.Reason.TheVariants as reasons
+use Rattle.ion_atoms.specs.declared.refusal.Reason.{Reason}
+use Rattle.ion_atoms.specs.declared.refusal.Reason.TheVariants as reasons
 use Rattle.ion_model.specs.Measures.{nodes, annotated, field_of}
 use Rattle.ion_model.specs.laws.Measures.{layer_nodes, nodes-out, nodes-at-List, nodes-at-Sexp, nodes-at-Fields, nodes-more}
 use Rattle.ion_model.specs.Kinds.{is_table}

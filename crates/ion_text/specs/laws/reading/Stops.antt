@@ -2,9 +2,9 @@
 use Rattle.std.proofs.Common.{◌≡◌, ℕ, ◌+◌, ◌≤◌, List, [], ◌∷◌, ◌++◌, length, take, Bool, true, false, Result, Ok, Err, Option, Some, None, refl, ap, sym, ◌∙◌, subst, arith, append_assoc, append-nil, length-append, if◌then◌else◌}
 use Rattle.std.proofs.Math.Seq.{take-append-add}
 use Rattle.ion_model.specs.declared.value.Value.{Value}
-use Rattle.ion_model.specs.declared.refusal.Reason.{Reason}
-use Rattle.ion_model.specs.declared.refusal.Reason.TheVariants as reasons
-use Rattle.ion_model.specs.declared.refusal.Refusal.{Refusal}
+use Rattle.ion_atoms.specs.declared.refusal.Reason.{Reason}
+use Rattle.ion_atoms.specs.declared.refusal.Reason.TheVariants as reasons
+use Rattle.ion_atoms.specs.declared.refusal.Refusal.{Refusal}
 use Rattle.ion_model.specs.Kinds.{is_table}
 use Rattle.ion_symtab.specs.declared.limits.Limits.{Limits}
 use Rattle.ion_symtab.specs.declared.catalog.Catalog.{Catalog}

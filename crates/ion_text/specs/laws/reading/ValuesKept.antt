@@ -4,7 +4,7 @@ use Rattle.std.proofs.lemmas.Str.{IsUtf8-append}
 use Rattle.ion_model.specs.declared.value.Value.{Value}
 use Rattle.ion_model.specs.declared.value.Field.{Field}
 use Rattle.ion_model.specs.declared.value.Payload.{Payload}
-use Rattle.ion_model.specs.declared.kind.Kind.TheVariants as values
+use Rattle.ion_atoms.specs.declared.kind.Kind.TheVariants as values
 use Rattle.ion_model.specs.Kinds.{is_table}
 use Rattle.ion_model.specs.Kept.{IsText, AreTexts, IsKept, kept, KeptPayload, kept_null, kept_truth, kept_int, kept_decimal, kept_timestamp, kept_symbol, kept_string, kept_clob, kept_blob, kept_list, kept_sexp, kept_fields, KeptItems, no_items, KeptFields, no_fields, AreKept}
 use Rattle.ion_model.specs.laws.Kept.{texts_last, items_last, fields_last, kept_last}

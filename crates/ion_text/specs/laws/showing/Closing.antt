@@ -1,6 +1,6 @@
 -- Octets behind which `::`, or `''`, stands behind what waits at the top level.
 use Rattle.std.proofs.Common.{◌≡◌, ℕ, true, false, ◌||◌, List, [], ◌∷◌, ◌++◌, refl, sym, ap, ◌∙◌, arith, append_assoc, append-nil, codes}
-use Rattle.ion_model.specs.Octets.{AreOctets}
+use Rattle.ion_atoms.specs.Octets.{AreOctets}
 use Rattle.ion_tokens.specs.declared.mode.Place.TheVariants as places
 use Rattle.ion_tokens.specs.declared.mode.Style.TheVariants as styles
 use Rattle.ion_tokens.specs.declared.mode.Mode.{Mode}

@@ -1,7 +1,7 @@
 -- Octets of which none is refused show the values given, and what is left of them stands open.
 use Rattle.std.proofs.Common.{◌≡◌, ℕ, List, [], false, true, Result, Ok, Err, None}
 use Rattle.ion_model.specs.declared.value.Value.{Value}
-use Rattle.ion_model.specs.declared.refusal.Refusal.{Refusal}
+use Rattle.ion_atoms.specs.declared.refusal.Refusal.{Refusal}
 use Rattle.ion_symtab.specs.declared.limits.Limits.{Limits}
 use Rattle.ion_symtab.specs.declared.catalog.Catalog.{Catalog}
 use Rattle.ion_symtab.specs.Trace.{plain}

@@ -12,7 +12,7 @@ use Rattle.ion_tokens.specs.declared.mode.Style.TheVariants as styles
 use Rattle.ion_tokens.specs.Octets.{escaped, hexadecimal_digit}
 use Rattle.ion_tokens.specs.machine.Styles.{is_long, is_clob, quote_of}
 use Rattle.ion_tokens.specs.Quoted.{Element, Raw, Simple, Hex, IsElement, IsRaw, spelling, meaning, ends_in_cr, CrTakesLf, ClosesFirst, IsQuoted}
-use Rattle.ion_model.specs.Octets.{AreOctets}
+use Rattle.ion_atoms.specs.Octets.{AreOctets}
 use Rattle.ion_text.specs.declared.escape.Quotes.{Quotes}
 use Rattle.ion_text.specs.Output.{of_symbol, of_clob, hexadecimal_of, hexadecimal_escape, letter_for, stands_raw, escape_by, escape, escaped_text, quoted, is_unquoted, known_text}
 

@@ -1,14 +1,14 @@
 -- What is written of worked values.
 use Rattle.std.proofs.Common.{◌≡◌, pos, negsuc, true, false, List, [], ◌∷◌, Some, None, refl, ◌∙◌}
 use Rattle.std.specs.Prelude.{codes}
-use Rattle.ion_model.specs.declared.kind.Kind.TheVariants as kinds
+use Rattle.ion_atoms.specs.declared.kind.Kind.TheVariants as kinds
 use Rattle.ion_model.specs.declared.value.Value.{Value}
 use Rattle.ion_model.specs.declared.value.Field.{Field}
 use Rattle.ion_model.specs.declared.value.Payload.TheVariants as payloads
 use Rattle.ion_model.specs.declared.value.Payload.TheViews as views
-use Rattle.ion_model.specs.declared.timestamp.Precision.TheVariants as precisions
-use Rattle.ion_model.specs.Decimals.{DecimalParts}
-use Rattle.ion_model.specs.Timestamps.{TimestampParts}
+use Rattle.ion_atoms.specs.declared.timestamp.Precision.TheVariants as precisions
+use Rattle.ion_atoms.specs.Decimals.{DecimalParts}
+use Rattle.ion_atoms.specs.Timestamps.{TimestampParts}
 use Rattle.ion_model.specs.Measures.{bare, annotated, field_of}
 use Rattle.ion_text.specs.Output.{symbol_text, value_text, text_of}
 use Rattle.ion_text.specs.laws.writing.Output.{text_layer}

@@ -6,10 +6,10 @@ use Rattle.std.proofs.lemmas.Bool.{and_parts, false≢true}
 use Rattle.std.proofs.lemmas.Bool.Decides.{nat_tests}
 use Rattle.std.proofs.lemmas.Str.{IsUtf8-append, IsUtf8-nil, IsUtf8-encode, encode_ascii}
 use lib.Utf8.{low_scalar}
-use Rattle.ion_model.specs.Kinds.{kind_name}
-use Rattle.ion_model.specs.Octets.{AreOctets}
-use Rattle.ion_model.specs.declared.kind.Kind.{Kind}
-use Rattle.ion_model.specs.declared.kind.Kind.TheVariants as values
+use Rattle.ion_atoms.specs.Kinds.{kind_name}
+use Rattle.ion_atoms.specs.Octets.{AreOctets}
+use Rattle.ion_atoms.specs.declared.kind.Kind.{Kind}
+use Rattle.ion_atoms.specs.declared.kind.Kind.TheVariants as values
 use Rattle.ion_scalar.specs.declared.number.Number.{Number}
 use Rattle.ion_scalar.specs.text.Numbers.{ReadsNumber}
 use Rattle.ion_scalar.specs.text.Texts.{number_text}

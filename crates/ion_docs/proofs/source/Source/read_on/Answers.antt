@@ -1,5 +1,5 @@
 use Rattle.std.proofs.Common.{rules, ◌≢◌, false, arith, refl}
-use Rattle.ion_model.specs.declared.refusal.Reason.TheVariants as reasons
+use Rattle.ion_atoms.specs.declared.refusal.Reason.TheVariants as reasons
 use Rattle.std.proofs.lemmas.Result.{err_from_is_err_and}
 use Rattle.ion_docs.specs.reading.Read.{left_of}
 use Rattle.ion_docs.proofs.Steps.{gave_so_far, reads_went, reads_none, reads_failed, within_kept, on_err}

@@ -1,6 +1,6 @@
 use Rattle.std.proofs.Common.{Ok, Option, Result, sym, subst}
 use Rattle.ion_model.specs.declared.value.Value.{Value}
-use Rattle.ion_model.specs.declared.refusal.Reason.{Reason}
+use Rattle.ion_atoms.specs.declared.refusal.Reason.{Reason}
 use Rattle.ion_tokens.specs.declared.token.Token.{Token}
 use Rattle.ion_tokens.specs.machine.Steps.{Ends}
 use Rattle.ion_text.specs.machine.EachToken.{settle}

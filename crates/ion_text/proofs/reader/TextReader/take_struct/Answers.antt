@@ -1,6 +1,6 @@
 use Rattle.std.proofs.Common.{ℕ, Result, Ok, Err, arith}
 use Rattle.std.specs.Prelude.{IfOk}
-use Rattle.ion_model.specs.declared.refusal.Refusal.{Refusal}
+use Rattle.ion_atoms.specs.declared.refusal.Refusal.{Refusal}
 use Rattle.ion_text.specs.declared.state.Taken.{Taken}
 use Rattle.ion_text.specs.machine.Progress.{StaysSteady}
 use Rattle.ion_text.proofs.reader.TextReader.take_struct.Goals as goal

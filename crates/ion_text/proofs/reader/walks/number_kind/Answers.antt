@@ -1,5 +1,5 @@
 use Rattle.std.proofs.Common.{sym, subst}
-use Rattle.ion_model.specs.declared.kind.Kind.TheVariants as kinds
+use Rattle.ion_atoms.specs.declared.kind.Kind.TheVariants as kinds
 use Rattle.ion_scalar.specs.declared.number.Number.TheVariants as numbers
 use Rattle.ion_text.specs.machine.EachToken.{number_payload}
 use Rattle.ion_text.specs.machine.Walked.{IsFlat}

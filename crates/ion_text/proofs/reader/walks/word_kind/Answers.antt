@@ -1,7 +1,7 @@
 use Rattle.std.proofs.Common.{rules, ◌≡◌, true, false, Some}
 use Rattle.std.specs.Prelude.{codes}
 use Rattle.std.specs.Str.{bytes_eq}
-use Rattle.ion_model.specs.declared.kind.Kind.TheVariants as kinds
+use Rattle.ion_atoms.specs.declared.kind.Kind.TheVariants as kinds
 use Rattle.ion_model.specs.declared.value.Payload.TheVariants as payloads
 use Rattle.ion_text.proofs.Walks.{flat_null, flat_truth, flat_symbol, word_null, word_true, word_false, word_symbol}
 use Rattle.ion_text.proofs.reader.walks.word_kind.Goals as goal

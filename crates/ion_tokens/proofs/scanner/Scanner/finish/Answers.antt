@@ -1,7 +1,7 @@
 use Rattle.std.proofs.Common.{ℕ, List, [], ◌≢◌, refl, IfOk, IfErr}
 use Rattle.std.specs.Prelude.{Option, Result, Ok, Err}
-use Rattle.ion_model.specs.declared.refusal.Refusal.{Refusal}
-use Rattle.ion_model.specs.declared.refusal.Reason.TheVariants.{Memory}
+use Rattle.ion_atoms.specs.declared.refusal.Refusal.{Refusal}
+use Rattle.ion_atoms.specs.declared.refusal.Reason.TheVariants.{Memory}
 use Rattle.ion_tokens.specs.declared.token.Token.{Token}
 use Rattle.ion_tokens.specs.machine.Scanning.{at_end}
 use Rattle.ion_tokens.specs.Lexed.{Placed}

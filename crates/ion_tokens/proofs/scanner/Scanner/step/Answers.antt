@@ -1,7 +1,7 @@
 use Rattle.std.proofs.Common.{length, refl, ◌≢◌, IfOk, IfErr}
 use Rattle.std.specs.Prelude.{Result, Ok, Err}
-use Rattle.ion_model.specs.declared.refusal.Refusal.{Refusal}
-use Rattle.ion_model.specs.declared.refusal.Reason.TheVariants.{Memory}
+use Rattle.ion_atoms.specs.declared.refusal.Refusal.{Refusal}
+use Rattle.ion_atoms.specs.declared.refusal.Reason.TheVariants.{Memory}
 use Rattle.ion_tokens.specs.declared.token.Scan.{Scan}
 use Rattle.ion_tokens.specs.machine.Scanned.{Goes, RefusesAt}
 use Rattle.ion_tokens.specs.machine.Steps.{Answers}

@@ -1,0 +1,11 @@
+pub mod Octets
+pub mod Ranges
+pub mod Reasons
+pub mod Kinds
+pub mod Decimals
+pub mod Calendar
+pub mod Neighbours
+pub mod Timestamps
+pub mod FlatTimestamps
+pub mod Hashed
+pub mod laws

@@ -1,0 +1,152 @@
+//! The proleptic Gregorian calendar of the years 1 to 9999, whose days timestamps have (Ion 1.0,
+//! "Timestamp"). Nothing here takes memory.
+ghost use Rattle.std.specs.Prelude.{◌≡◌, ◌≤◌, ◌<◌, ◌+◌, ◌*◌, ◌⊎◌, ◌+ℤ◌, ◌≤ℤ◌, ◌<ℤ◌, pos, neg_ℤ, SomeIff, IfSome, IfNone, IsSome, ◌↔◌};
+ghost use Rattle.ion_atoms.specs.declared.calendar.Date.{Date as Day};
+ghost use Rattle.ion_atoms.specs.Calendar.{IsDate, IsMinute, InYears, is_leap, month_length, day_number, minute_number, first_day, last_day};
+ghost use Rattle.ion_atoms.specs.Neighbours.{day_of};
+
+/// A day: its year, and its month and day of the month, both counted from 1.
+#[derive(Clone, Copy, Debug, PartialEq, Eq)]
+pub struct Date {
+    pub year: u16,
+    pub month: u8,
+    pub day: u8,
+}
+
+/// A minute of a day: the hour from 0 to 23, the minute from 0 to 59.
+#[derive(Clone, Copy, Debug, PartialEq, Eq)]
+pub struct Minute {
+    pub date: Date,
+    pub hour: u8,
+    pub minute: u8,
+}
+
+/// How many days a month of the years 1 to 9999 has.
+#[inline]
+pub fn days_of_month(year: u16, month: u8) -> u8
+    requires year { (1 ≤ year) × (year ≤ 9999) }
+    requires month { (1 ≤ month) × (month ≤ 12) }
+    ensures { result ≡ month_length year month }
+{
+    match month {
+        2 if is_leap(year) => 29,
+        2 => 28,
+        4 | 6 | 9 | 11 => 30,
+        _ => 31,
+    }
+}
+
+fn is_leap(year: u16) -> bool
+    ensures { result ≡ is_leap year }
+{
+    year % 4 == 0 && (year % 100 != 0 || year % 400 == 0)
+}
+
+impl Date {
+    /// The day of this year, month and day of the month; `None` exactly where the years 1 to 9999 have
+    /// no such day.
+    pub fn new(year: u16, month: u8, day: u8) -> Option<Date>
+        ensures { let date : Day = record { year = year; month = month; day = day } in
+            SomeIff result (IsDate date) date }
+    {
+        if year < 1 || year > 9999 || month < 1 || month > 12 {
+            return None;
+        }
+        if day < 1 || day > days_of_month(year, month) {
+            return None;
+        }
+        Some(Date { year, month, day })
+    }
+
+    /// The day before; `None` exactly for 0001-01-01.
+    pub fn before(self) -> Option<Date>
+        requires { IsDate self }
+        ensures some { IfSome result (λ d. IsDate d × (day_number d + 1 ≡ day_number self)) }
+        ensures none { IfNone result (day_number self ≡ first_day) }
+    {
+        if self.day > 1 {
+            return Some(day_of(self.year, self.month, self.day - 1));
+        }
+        if self.month > 1 {
+            let last = days_of_month(self.year, self.month - 1);
+            return Some(day_of(self.year, self.month - 1, last));
+        }
+        if self.year > 1 {
+            return Some(day_of(self.year - 1, 12, 31));
+        }
+        None
+    }
+
+    /// The day after; `None` exactly for 9999-12-31.
+    pub fn after(self) -> Option<Date>
+        requires { IsDate self }
+        ensures some { IfSome result (λ d. IsDate d × (day_number d ≡ day_number self + 1)) }
+        ensures none { IfNone result (day_number self ≡ last_day) }
+    {
+        if self.day < days_of_month(self.year, self.month) {
+            return Some(day_of(self.year, self.month, self.day + 1));
+        }
+        if self.month < 12 {
+            return Some(day_of(self.year, self.month + 1, 1));
+        }
+        if self.year < 9999 {
+            return Some(day_of(self.year + 1, 1, 1));
+        }
+        None
+    }
+}
+
+#[inline(always)]
+fn day_of(year: u16, month: u8, day: u8) -> Date
+    ensures { result ≡ day_of year month day }
+{
+    Date { year, month, day }
+}
+
+// The day before, the day itself and the day after, for 0, 1 and 2 days.
+fn neighbour(date: Date, days: u16) -> Option<Date>
+    requires date { IsDate date }
+    requires days { days ≤ 2 }
+    ensures some { IfSome result (λ d. IsDate d × (day_number d + 1 ≡ day_number date + days)) }
+    ensures none { IfNone result ((day_number date + days < first_day + 1) ⊎ (last_day + 1 < day_number date + days)) }
+{
+    match days {
+        0 => date.before(),
+        1 => Some(date),
+        _ => date.after(),
+    }
+}
+
+// In how many days a minute of the day comes that lies so many minutes later, the day before counted
+// as 0, and which minute of that day it is.
+fn carried(minute: u16, by: i16) -> (u16, u16)
+    requires minute { minute < 1440 }
+    requires by { (neg_ℤ (pos 1439) ≤ℤ by) × (by ≤ℤ pos 1439) }
+    ensures sum { pos (result.0 * 1440 + result.1) ≡ pos (minute + 1440) +ℤ by }
+    ensures days { result.0 ≤ 2 }
+    ensures minute { result.1 < 1440 }
+{
+    let total = (i32::from(minute) + 1440 + i32::from(by)) as u16;
+    (total / 1440, total % 1440)
+}
+
+impl Minute {
+    /// The minute that lies so many minutes later, or earlier where the number is negative; `None`
+    /// exactly where that isn't in the years 1 to 9999. The number is at most 1439 either way.
+    pub fn moved(self, by: i16) -> Option<Minute>
+        requires minute { IsMinute self }
+        requires by { (neg_ℤ (pos 1439) ≤ℤ by) × (by ≤ℤ pos 1439) }
+        ensures some { IsSome result ↔ InYears (pos (minute_number self) +ℤ by) }
+        ensures value { IfSome result (λ m. IsMinute m × (pos (minute_number m) ≡ pos (minute_number self) +ℤ by)) }
+    {
+        let (days, minute) = carried(u16::from(self.hour) * 60 + u16::from(self.minute), by);
+        let Some(date) = neighbour(self.date, days) else {
+            return None;
+        };
+        Some(Minute {
+            date,
+            hour: (minute / 60) as u8,
+            minute: (minute % 60) as u8,
+        })
+    }
+}
