@@ -7,9 +7,10 @@ mod words;
 use crate::run::run;
 use crate::sources::Sources;
 use devices::{FrailShelf, Shelf};
-use ion_devices::FrailWriter;
+use ion_devices::{FrailWriter, NEVER};
 use ion_symtab::ToWrite;
 use std::alloc::{AllocError, Global};
+use std::fmt::Debug;
 use std::io;
 use std::process::Abort;
 use std::test::Fail;
@@ -40,6 +41,11 @@ impl Row {
     }
 }
 
+/// Fails the test where words have come to anything else than is wanted.
+fn same<T: Copy + Debug + PartialEq>(rt: &impl Abort, words: &[&str], found: T, wanted: T) {
+    assert_eq!(rt; found, wanted, "{words:?}");
+}
+
 /// Runs the words over these documents.
 fn ends_so<N: Sources>(
     rt: &impl Abort,
@@ -57,9 +63,9 @@ fn ends_so<N: Sources>(
         &mut ToWrite::new(&mut out),
         &mut ToWrite::new(&mut err),
     );
-    assert_eq!(rt; err.as_slice(), wanted.err.as_bytes(), "{words:?}");
-    assert_eq!(rt; out.as_slice(), wanted.out, "{words:?}");
-    assert_eq!(rt; status, wanted.status, "{words:?}");
+    same(rt, words, err.as_slice(), wanted.err.as_bytes());
+    same(rt, words, out.as_slice(), wanted.out);
+    same(rt, words, status, wanted.status);
 }
 
 static FILES: [(&str, &[u8]); 16] = [
@@ -406,81 +412,80 @@ fn each_read_fails(rt: HostRuntime) {
     }
 }
 
+/// The status of a row over these devices.
+fn status_over(alloc: Global, row: &Row, out: FrailWriter<'_>, err: FrailWriter<'_>) -> u8 {
+    run(
+        alloc,
+        row.words,
+        &mut shelf(),
+        &mut ToWrite::new(out),
+        &mut ToWrite::new(err),
+    )
+}
+
+/// One call of the output fails, each of which takes an octet.
+fn a_write_fails(rt: &impl Abort, alloc: Global, row: &Row, fails_at: u64) {
+    let mut out = Vec::new(alloc);
+    let mut err = Vec::new(alloc);
+    let failing = FrailWriter {
+        taken: &mut out,
+        takes: 1,
+        calls: 0,
+        fails_at,
+    };
+    let whole = FrailWriter {
+        taken: &mut err,
+        takes: 256,
+        calls: 0,
+        fails_at: NEVER,
+    };
+    let status = status_over(alloc, row, failing, whole);
+    let front = row.out.as_bytes().get(..fails_at as usize);
+    same(rt, row.words, status, 4);
+    same(rt, row.words, Some(out.as_slice()), front);
+    same(rt, row.words, err.as_slice(), b"fault Write\n".as_slice());
+}
+
 /// Each write of an octet to the output fails once, and so does the flush behind the last.
 #[test]
-fn each_write_fails(rt: HostRuntime) -> Result<(), Fail> {
-    let alloc = rt.alloc();
+fn each_write_fails(rt: HostRuntime) {
     for row in &ROWS[..9] {
-        let calls = if row.out.is_empty() {
-            0
-        } else {
-            row.out.len() as u64 + 1
-        };
-        for fails_at in 0..calls {
-            let mut shelf = shelf();
-            let mut out = Vec::new(alloc);
-            let mut err = Vec::new(alloc);
-            let status = run(
-                alloc,
-                row.words,
-                &mut shelf,
-                &mut ToWrite::new(FrailWriter {
-                    taken: &mut out,
-                    takes: 1,
-                    calls: 0,
-                    fails_at,
-                }),
-                &mut ToWrite::new(&mut err),
-            );
-            assert_eq!(rt; status, 4, "{:?}", row.words);
-            assert_eq!(rt; out.len() as u64, fails_at, "{:?}", row.words);
-            assert!(rt;
-                row.out.as_bytes().starts_with(out.as_slice()),
-                "{:?}",
-                row.words
-            );
-            assert_eq!(rt;
-                err.as_slice(),
-                b"fault Write\n".as_slice(),
-                "{:?}",
-                row.words
-            );
+        for fails_at in 0..row.out.len() as u64 + 1 {
+            if !row.out.is_empty() {
+                a_write_fails(&rt, rt.alloc(), row, fails_at);
+            }
         }
     }
-    Ok(())
+}
+
+/// The output takes no octet, and the errors three.
+fn takes_nothing(rt: &impl Abort, alloc: Global, row: &Row) {
+    let mut out = Vec::new(alloc);
+    let mut err = Vec::new(alloc);
+    let taking_nothing = FrailWriter {
+        taken: &mut out,
+        takes: 0,
+        calls: 0,
+        fails_at: NEVER,
+    };
+    let failing = FrailWriter {
+        taken: &mut err,
+        takes: 1,
+        calls: 0,
+        fails_at: 3,
+    };
+    let status = status_over(alloc, row, taking_nothing, failing);
+    let wanted = if row.out.is_empty() { row.status } else { 4 };
+    same(rt, row.words, status, wanted);
+    same(rt, row.words, (out.len(), err.len()), (0, 3));
 }
 
 /// A writer of the output that takes no octet is a fault; writers of the errors change no status.
 #[test]
-fn nothing_is_taken(rt: HostRuntime) -> Result<(), Fail> {
-    let alloc = rt.alloc();
+fn nothing_is_taken(rt: HostRuntime) {
     for row in &ROWS {
-        let mut shelf = shelf();
-        let mut out = Vec::new(alloc);
-        let mut err = Vec::new(alloc);
-        let status = run(
-            alloc,
-            row.words,
-            &mut shelf,
-            &mut ToWrite::new(FrailWriter {
-                taken: &mut out,
-                takes: 0,
-                calls: 0,
-                fails_at: u64::MAX,
-            }),
-            &mut ToWrite::new(FrailWriter {
-                taken: &mut err,
-                takes: 1,
-                calls: 0,
-                fails_at: 3,
-            }),
-        );
-        let wanted = if row.out.is_empty() { row.status } else { 4 };
-        assert_eq!(rt; status, wanted, "{:?}", row.words);
-        assert!(rt; out.is_empty(), "{:?}", row.words);
-        assert_eq!(rt; err.len(), 3, "{:?}", row.words);
+        takes_nothing(&rt, rt.alloc(), row);
     }
-    Ok(())
 }
 
 /// The status of a row, whose lines are as long as they should be where memory sufficed. Takes no
@@ -500,13 +505,22 @@ fn status_of(rt: &impl Abort, alloc: Global, row: &Row) -> u8 {
     );
     let out_len = out.position();
     let err_len = err.position();
+    let whole = row.out.len() as u64;
     if status == row.status {
-        assert_eq!(rt; out_len, row.out.len() as u64, "{:?}", row.words);
-        assert_eq!(rt; err_len, row.err.len() as u64, "{:?}", row.words);
+        same(
+            rt,
+            row.words,
+            (out_len, err_len),
+            (whole, row.err.len() as u64),
+        );
     } else {
-        assert_eq!(rt; status, 4, "{:?}", row.words);
-        assert!(rt; out_len <= row.out.len() as u64, "{:?}", row.words);
-        assert_eq!(rt; err_len, "fault Memory\n".len() as u64, "{:?}", row.words);
+        let found = (status, out_len <= whole, err_len);
+        same(
+            rt,
+            row.words,
+            found,
+            (4, true, "fault Memory\n".len() as u64),
+        );
     }
     status
 }

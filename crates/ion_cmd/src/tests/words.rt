@@ -1,5 +1,6 @@
 //! Rows of words: what they ask for, with memory enough.
 
+use crate::tests::same;
 use ion_symtab::Limits;
 use ion_words::{Encoding, Request, Task, WordsError, parse};
 use std::process::Abort;
@@ -104,7 +105,7 @@ fn plain(rt: HostRuntime) {
             catalog: None,
             limits: Limits::usual(),
         };
-        assert_eq!(rt; parse(rt.alloc(), words), Ok(request), "{words:?}");
+        same(&rt, words, parse(rt.alloc(), words), Ok(request));
     }
 }
 
@@ -117,22 +118,13 @@ fn with_options(rt: HostRuntime) {
             catalog: row.catalog,
             limits,
         });
-        assert_eq!(rt;
-            parse(rt.alloc(), row.words).ok(),
-            request,
-            "{:?}",
-            row.words
-        );
+        same(&rt, row.words, parse(rt.alloc(), row.words).ok(), request);
     }
 }
 
 #[test]
 fn refused(rt: HostRuntime) {
     for words in &REFUSED {
-        assert_eq!(rt;
-            parse(rt.alloc(), words),
-            Err(WordsError::Usage),
-            "{words:?}"
-        );
+        same(&rt, words, parse(rt.alloc(), words), Err(WordsError::Usage));
     }
 }
