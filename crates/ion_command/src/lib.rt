@@ -1,0 +1,15 @@
+//! What the command does with its words: over the files and the standard streams of a process, or over any sources and
+//! devices.
+#![tactic(auto)]
+
+mod files;
+mod lines;
+mod process;
+mod run;
+mod sources;
+
+pub use files::{FileSystem, Opened, words_given};
+pub use lines::Whose;
+pub use process::carry_out;
+pub use run::{Status, refuse_words, run};
+pub use sources::Sources;

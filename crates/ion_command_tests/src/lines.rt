@@ -1,0 +1,566 @@
+//! What the words mean, the lines and the statuses, over documents in memory.
+
+use crate::devices::{FrailShelf, Shelf};
+use ion_command::{Sources, run};
+use ion_devices::{FrailWriter, NEVER};
+use ion_symtab::ToWrite;
+use std::alloc::{AllocError, Global};
+use std::fmt::Debug;
+use std::io;
+use std::process::Abort;
+use std::test::Fail;
+
+/// The words, what goes to the output and to the errors, and the status.
+struct Row {
+    words: &'static [&'static str],
+    out: &'static str,
+    err: &'static str,
+    status: u8,
+}
+
+/// What has to come of words: what goes to the output and to the errors, and the status.
+#[derive(Clone, Copy)]
+pub struct Wanted<'a> {
+    pub out: &'a [u8],
+    pub err: &'a str,
+    pub status: u8,
+}
+
+impl Row {
+    fn wanted(&self) -> Wanted<'static> {
+        Wanted {
+            out: self.out.as_bytes(),
+            err: self.err,
+            status: self.status,
+        }
+    }
+}
+
+/// Fails the test where words have come to anything else than is wanted.
+pub fn same<T: Copy + Debug + PartialEq>(rt: &impl Abort, words: &[&str], found: T, wanted: T) {
+    assert_eq!(rt; found, wanted, "{words:?}");
+}
+
+/// Runs the words over these documents.
+pub fn ends_so<N: Sources>(
+    rt: &impl Abort,
+    alloc: Global,
+    sources: &mut N,
+    words: &[&str],
+    wanted: &Wanted<'_>,
+) {
+    let mut out = Vec::new(alloc);
+    let mut err = Vec::new(alloc);
+    let status = run(
+        alloc,
+        words,
+        sources,
+        &mut ToWrite::new(&mut out),
+        &mut ToWrite::new(&mut err),
+    );
+    same(rt, words, err.as_slice(), wanted.err.as_bytes());
+    same(rt, words, out.as_slice(), wanted.out);
+    same(rt, words, status, wanted.status);
+}
+
+static FILES: [(&str, &[u8]); 16] = [
+    ("-", b""),
+    ("marker", b"\xE0\x01\x00\xEA"),
+    ("list", b"\xE0\x01\x00\xEA\xB3\x21\x05\x11"),
+    ("spelled", b"\xE0\x01\x00\xEA\xBE\x83\x21\x05\x11"),
+    ("zero", b"\xE0\x01\x00\xEA\x20"),
+    ("zeros", b"\xE0\x01\x00\xEA\x20\x20"),
+    ("null", b"\xE0\x01\x00\xEA\x21\x05\x4F"),
+    ("bad", b"\xE0\x01\x00\xEA\x13"),
+    ("nested", b"\xE0\x01\x00\xEA\xB3\xB2\xB1\x20"),
+    // imports t 1 of two symbols, and the first of them
+    (
+        "imports",
+        b"\xE0\x01\x00\xEA\xEE\x8F\x81\x83\xDC\x86\xBA\xD9\x84\x81\x74\x85\x21\x01\x88\x21\x02\x71\x0A",
+    ),
+    // imports t 2, and the second symbol
+    (
+        "another",
+        b"\xE0\x01\x00\xEA\xEE\x8F\x81\x83\xDC\x86\xBA\xD9\x84\x81\x74\x85\x21\x02\x88\x21\x02\x71\x0B",
+    ),
+    // the symbol y
+    (
+        "y",
+        b"\xE0\x01\x00\xEA\xE7\x81\x83\xD4\x87\xB2\x81\x79\x71\x0A",
+    ),
+    // the shared table t 1 of x
+    (
+        "table",
+        b"\xE0\x01\x00\xEA\xED\x81\x89\xDA\x84\x81\x74\x85\x21\x01\x87\xB2\x81\x78",
+    ),
+    // and t 3 of x, y and z
+    (
+        "tables",
+        b"\xE0\x01\x00\xEA\xED\x81\x89\xDA\x84\x81\x74\x85\x21\x01\x87\xB2\x81\x78\xEE\x92\x81\x89\xDE\x8E\x84\x81\x74\x85\x21\x03\x87\xB6\x81\x78\x81\x79\x81\x7A",
+    ),
+    (
+        "twice",
+        b"\xE0\x01\x00\xEA\xED\x81\x89\xDA\x84\x81\x74\x85\x21\x01\x87\xB2\x81\x78\xED\x81\x89\xDA\x84\x81\x74\x85\x21\x01\x87\xB2\x81\x78",
+    ),
+    ("number", b"\xE0\x01\x00\xEA\x21\x01"),
+];
+
+/// The worked documents, each given whole.
+fn shelf() -> Shelf<'static> {
+    Shelf {
+        files: FILES.as_slice(),
+    }
+}
+
+static ROWS: [Row; 34] = [
+    Row {
+        words: &[],
+        out: "accepted 0\n",
+        err: "",
+        status: 0,
+    },
+    Row {
+        words: &["check", "list"],
+        out: "accepted 1\n",
+        err: "",
+        status: 0,
+    },
+    Row {
+        words: &["check", "bad"],
+        out: "",
+        err: "refused 5 Malformed\n",
+        status: 2,
+    },
+    Row {
+        words: &["show", "list"],
+        out: "1 list depth 1 nodes 3\naccepted 1\n",
+        err: "",
+        status: 0,
+    },
+    Row {
+        words: &["show", "null"],
+        out: "1 int depth 0 nodes 1\n2 float depth 0 nodes 1\naccepted 2\n",
+        err: "",
+        status: 0,
+    },
+    Row {
+        words: &["convert", "null", "--to", "text"],
+        out: "5\nnull.float\n",
+        err: "",
+        status: 0,
+    },
+    Row {
+        words: &["compare", "list", "spelled"],
+        out: "equivalent 1\n",
+        err: "",
+        status: 0,
+    },
+    Row {
+        words: &["compare", "-", "marker"],
+        out: "equivalent 0\n",
+        err: "",
+        status: 0,
+    },
+    Row {
+        words: &["compare", "zeros", "zero"],
+        out: "different 2\n",
+        err: "",
+        status: 1,
+    },
+    Row {
+        words: &["compare", "zero", "list", "--depth", "1"],
+        out: "different 1\n",
+        err: "",
+        status: 1,
+    },
+    Row {
+        words: &["compare", "bad", "marker"],
+        out: "",
+        err: "refused left 5 Malformed\n",
+        status: 2,
+    },
+    Row {
+        words: &["compare", "marker", "bad"],
+        out: "",
+        err: "refused right 5 Malformed\n",
+        status: 2,
+    },
+    Row {
+        words: &["check", "--depth=2", "nested", "--item", "7"],
+        out: "",
+        err: "refused 7 Depth\n",
+        status: 2,
+    },
+    Row {
+        words: &["check", "nested", "--depth", "3"],
+        out: "accepted 1\n",
+        err: "",
+        status: 0,
+    },
+    Row {
+        words: &["check", "list", "--item", "3"],
+        out: "",
+        err: "refused 5 ItemTooLong\n",
+        status: 2,
+    },
+    Row {
+        words: &["check", "list", "--item=4"],
+        out: "accepted 1\n",
+        err: "",
+        status: 0,
+    },
+    Row {
+        words: &["show", "list", "--depth", "128", "--item", "1073741824"],
+        out: "1 list depth 1 nodes 3\naccepted 1\n",
+        err: "",
+        status: 0,
+    },
+    Row {
+        words: &["check", "absent"],
+        out: "",
+        err: "fault Open\n",
+        status: 4,
+    },
+    // both are opened before one is read
+    Row {
+        words: &["compare", "bad", "absent"],
+        out: "",
+        err: "fault Open\n",
+        status: 4,
+    },
+    Row {
+        words: &["frob"],
+        out: "",
+        err: USAGE,
+        status: 3,
+    },
+    Row {
+        words: &["compare", "-", "-"],
+        out: "",
+        err: USAGE,
+        status: 3,
+    },
+    Row {
+        words: &["check", "imports"],
+        out: "",
+        err: "refused 21 MissingImport\n",
+        status: 2,
+    },
+    Row {
+        words: &["check", "imports", "--catalog", "table"],
+        out: "accepted 1\n",
+        err: "",
+        status: 0,
+    },
+    Row {
+        words: &["show", "imports", "--catalog=table"],
+        out: "1 symbol depth 0 nodes 1\naccepted 1\n",
+        err: "",
+        status: 0,
+    },
+    Row {
+        words: &["convert", "imports", "--to", "text", "--catalog", "table"],
+        out: "x\n",
+        err: "",
+        status: 0,
+    },
+    Row {
+        words: &["compare", "another", "y", "--catalog", "tables"],
+        out: "equivalent 1\n",
+        err: "",
+        status: 0,
+    },
+    Row {
+        words: &["compare", "y", "imports", "--catalog", "table"],
+        out: "different 1\n",
+        err: "",
+        status: 1,
+    },
+    Row {
+        words: &["check", "list", "--catalog", "-"],
+        out: "accepted 1\n",
+        err: "",
+        status: 0,
+    },
+    Row {
+        words: &["check", "imports", "--catalog", "number"],
+        out: "",
+        err: "refused catalog 6 BadTable\n",
+        status: 2,
+    },
+    Row {
+        words: &["check", "imports", "--catalog", "twice"],
+        out: "",
+        err: "refused catalog 32 DuplicateTable\n",
+        status: 2,
+    },
+    // the catalog is loaded before a document is opened
+    Row {
+        words: &["check", "absent", "--catalog", "bad"],
+        out: "",
+        err: "refused catalog 5 Malformed\n",
+        status: 2,
+    },
+    Row {
+        words: &["check", "imports", "--catalog", "absent"],
+        out: "",
+        err: "fault Open\n",
+        status: 4,
+    },
+    // within the limits of the documents
+    Row {
+        words: &["check", "list", "--catalog", "table", "--depth", "1"],
+        out: "",
+        err: "refused catalog 16 Depth\n",
+        status: 2,
+    },
+    Row {
+        words: &["check", "-", "--catalog", "-"],
+        out: "",
+        err: USAGE,
+        status: 3,
+    },
+];
+
+pub const USAGE: &str =
+    "usage: ion_cmd check|show|convert|compare FILE.. [--to text|binary] [--catalog FILE] [--depth N] [--item N]\n";
+
+#[test]
+fn rows(rt: HostRuntime) {
+    for row in &ROWS {
+        ends_so(&rt, rt.alloc(), &mut shelf(), row.words, &row.wanted());
+    }
+}
+
+/// A document, what it is converted to, the octets that go out, the line of the errors and the
+/// status.
+type Converted = (&'static str, &'static str, &'static [u8], &'static str, u8);
+
+static CONVERTED: [Converted; 8] = [
+    ("-", "binary", b"\xE0\x01\x00\xEA", "", 0),
+    ("-", "text", b"", "", 0),
+    (
+        "spelled",
+        "binary",
+        b"\xE0\x01\x00\xEA\xB3\x21\x05\x11",
+        "",
+        0,
+    ),
+    ("spelled", "text", b"[5,true]\n", "", 0),
+    (
+        "bad",
+        "binary",
+        b"\xE0\x01\x00\xEA",
+        "refused 5 Malformed\n",
+        2,
+    ),
+    ("bad", "text", b"", "refused 5 Malformed\n", 2),
+    ("absent", "binary", b"", "fault Open\n", 4),
+    ("absent", "text", b"", "fault Open\n", 4),
+];
+
+#[test]
+fn converts(rt: HostRuntime) {
+    for (name, target, out, err, status) in &CONVERTED {
+        let words = ["convert", name, "--to", target];
+        let wanted = Wanted {
+            out,
+            err,
+            status: *status,
+        };
+        ends_so(&rt, rt.alloc(), &mut shelf(), words.as_slice(), &wanted);
+    }
+}
+
+const FAILED_READ: Wanted<'static> = Wanted {
+    out: b"",
+    err: "fault Read\n",
+    status: 4,
+};
+
+const SAME: Wanted<'static> = Wanted {
+    out: b"equivalent 1\n",
+    err: "",
+    status: 0,
+};
+
+/// Each read of either document fails once; there are nine, the last of which answers the end.
+#[test]
+fn each_read_fails(rt: HostRuntime) {
+    for fails in &["left", "right"] {
+        for fails_at in 0..10 {
+            let files = [("left", FILES[2].1), ("right", FILES[2].1)];
+            let mut shelf = FrailShelf {
+                files: files.as_slice(),
+                fails,
+                fails_at,
+            };
+            let wanted = if fails_at < 9 { FAILED_READ } else { SAME };
+            ends_so(
+                &rt,
+                rt.alloc(),
+                &mut shelf,
+                &["compare", "left", "right"],
+                &wanted,
+            );
+        }
+    }
+}
+
+/// The status of a row over these devices.
+fn status_over(alloc: Global, row: &Row, out: FrailWriter<'_>, err: FrailWriter<'_>) -> u8 {
+    run(
+        alloc,
+        row.words,
+        &mut shelf(),
+        &mut ToWrite::new(out),
+        &mut ToWrite::new(err),
+    )
+}
+
+/// One call of the output fails, each of which takes an octet.
+fn a_write_fails(rt: &impl Abort, alloc: Global, row: &Row, fails_at: u64) {
+    let mut out = Vec::new(alloc);
+    let mut err = Vec::new(alloc);
+    let failing = FrailWriter {
+        taken: &mut out,
+        takes: 1,
+        calls: 0,
+        fails_at,
+    };
+    let whole = FrailWriter {
+        taken: &mut err,
+        takes: 256,
+        calls: 0,
+        fails_at: NEVER,
+    };
+    let status = status_over(alloc, row, failing, whole);
+    let front = row.out.as_bytes().get(..fails_at as usize);
+    same(rt, row.words, status, 4);
+    same(rt, row.words, Some(out.as_slice()), front);
+    same(rt, row.words, err.as_slice(), b"fault Write\n".as_slice());
+}
+
+/// Each write of an octet to the output fails once, and so does the flush behind the last.
+#[test]
+fn each_write_fails(rt: HostRuntime) {
+    for row in &ROWS[..9] {
+        for fails_at in 0..row.out.len() as u64 + 1 {
+            if !row.out.is_empty() {
+                a_write_fails(&rt, rt.alloc(), row, fails_at);
+            }
+        }
+    }
+}
+
+/// The output takes no octet, and the errors three.
+fn takes_nothing(rt: &impl Abort, alloc: Global, row: &Row) {
+    let mut out = Vec::new(alloc);
+    let mut err = Vec::new(alloc);
+    let taking_nothing = FrailWriter {
+        taken: &mut out,
+        takes: 0,
+        calls: 0,
+        fails_at: NEVER,
+    };
+    let failing = FrailWriter {
+        taken: &mut err,
+        takes: 1,
+        calls: 0,
+        fails_at: 3,
+    };
+    let status = status_over(alloc, row, taking_nothing, failing);
+    let wanted = if row.out.is_empty() { row.status } else { 4 };
+    same(rt, row.words, status, wanted);
+    same(rt, row.words, (out.len(), err.len()), (0, 3));
+}
+
+/// A writer of the output that takes no octet is a fault; writers of the errors change no status.
+#[test]
+fn nothing_is_taken(rt: HostRuntime) {
+    for row in &ROWS {
+        takes_nothing(&rt, rt.alloc(), row);
+    }
+}
+
+/// The status of a row, whose lines are as long as they should be where memory sufficed. Takes no
+/// memory of its own.
+fn status_of(rt: &impl Abort, alloc: Global, row: &Row) -> u8 {
+    let mut shelf = shelf();
+    let mut out_room = [0u8; 64];
+    let mut err_room = [0u8; 256];
+    let mut out = io::Cursor::new(out_room.as_mut_slice());
+    let mut err = io::Cursor::new(err_room.as_mut_slice());
+    let status = run(
+        alloc,
+        row.words,
+        &mut shelf,
+        &mut ToWrite::new(&mut out),
+        &mut ToWrite::new(&mut err),
+    );
+    let out_len = out.position();
+    let err_len = err.position();
+    let whole = row.out.len() as u64;
+    if status == row.status {
+        same(
+            rt,
+            row.words,
+            (out_len, err_len),
+            (whole, row.err.len() as u64),
+        );
+    } else {
+        let found = (status, out_len <= whole, err_len);
+        same(
+            rt,
+            row.words,
+            found,
+            (4, true, "fault Memory\n".len() as u64),
+        );
+    }
+    status
+}
+
+/// Where a growth is refused, each row gives its own answer, or want of memory. Here none is, but by
+/// `rt try --test --fail-alloc N`.
+#[test]
+fn growths(rt: HostRuntime) {
+    let alloc = rt.alloc();
+    for row in &ROWS {
+        status_of(&rt, alloc, row);
+    }
+}
+
+/// Takes all memory that the process can get, in blocks of falling size.
+fn all_memory(alloc: Global) -> Result<Vec<Vec<u8>>, AllocError> {
+    let mut blocks = Vec::with_capacity(alloc, 1 << 20)?;
+    let mut size: usize = 1 << 46;
+    for _ in 0..1000000u32 {
+        if size < 16 {
+            break;
+        }
+        match Vec::with_capacity(alloc, size) {
+            Ok(block) => blocks.push(block)?,
+            Err(_) => size /= 2,
+        }
+    }
+    Ok(blocks)
+}
+
+/// With all memory taken, and then one block more given back from one run to the next.
+#[test]
+fn starved(rt: HostRuntime) -> Result<(), Fail> {
+    let alloc = rt.alloc();
+    let row = &ROWS[5];
+    let mut blocks = all_memory(alloc)?;
+    let mut refused = 0u32;
+    for _ in 0..100000u32 {
+        if status_of(&rt, alloc, row) == row.status {
+            break;
+        }
+        refused = refused.saturating_add(1);
+        drop(blocks.pop());
+    }
+    drop(blocks);
+    assert!(rt; 0 < refused && refused < 100000);
+    Ok(())
+}
