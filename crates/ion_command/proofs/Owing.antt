@@ -30,13 +30,13 @@ use Rattle.ion_words.specs.declared.request.WordsError.TheVariants as words_erro
 use Rattle.std.specs.declared.io.Error.{Error}
 use Rattle.ion_command.specs.Arguments.{Arguments, words_of, no_words}
 use Rattle.ion_words.specs.Asked.{asked, Asked, Job, check, show, convert, compare, names_of, names_of_job, names_with, NamesInputOnce, NamesNoInput}
-use Rattle.ion_command.specs.declared.run.Ending.{Ending}
+use Rattle.ion_command.specs.declared.command.Ending.{Ending}
 use Rattle.ion_command.specs.Names.{Name, Keeps}
 use Rattle.ion_command.specs.Endings.{answer_line, verdict_line, EndsShown, PassesOn}
 use Rattle.ion_command.specs.Lines.{fault_line, refusal_line, usage_line, Reports}
-use Rattle.ion_command.specs.declared.run.Ending.TheVariants.{Refused}
-use Rattle.ion_command.specs.declared.run.Status.{Status}
-use Rattle.ion_command.specs.declared.run.Status.TheVariants as the_status
+use Rattle.ion_command.specs.declared.command.Ending.TheVariants.{Refused}
+use Rattle.ion_command.specs.declared.command.Status.{Status}
+use Rattle.ion_command.specs.declared.command.Status.TheVariants as the_status
 use Rattle.ion_command.specs.declared.lines.Whose.{Whose}
 use Rattle.ion_command.specs.Owed.{target_of, code_of, AreLimitsOf, IsCatalog, IsStopped, IsStoppedAt, NeedsLarge, IsDone, IsAnswered, WroteFront, WroteSoFar, is_done, Owes, usage, answered, untold, no_memory, OwesWithout, OwesFor}
 

@@ -7,8 +7,8 @@ use Rattle.ion_docs.specs.declared.comparison.Verdict.{Verdict}
 use Rattle.ion_docs.specs.declared.comparison.Verdict.TheVariants as verdicts
 use Rattle.ion_docs.specs.Listing.{accepted_line}
 use Rattle.ion_command.specs.declared.lines.Whose.TheVariants.{Only, One}
-use Rattle.ion_command.specs.declared.run.Ending.{Ending}
-use Rattle.ion_command.specs.declared.run.Ending.TheVariants.{Accepted, Different, Refused}
+use Rattle.ion_command.specs.declared.command.Ending.{Ending}
+use Rattle.ion_command.specs.declared.command.Ending.TheVariants.{Accepted, Different, Refused}
 use Rattle.ion_command.specs.Lines.{equivalent_line, different_line}
 
 -- `show` and `convert` end so with this answer; what they write has gone out before

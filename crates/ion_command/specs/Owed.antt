@@ -36,10 +36,10 @@ use Rattle.ion_command.specs.Lines.{fault_line, refusal_line, usage_line, Report
 use Rattle.ion_command.specs.Names.{Name}
 use Rattle.ion_command.specs.declared.lines.Whose.{Whose}
 use Rattle.ion_command.specs.declared.lines.Whose.TheVariants.{Catalog}
-use Rattle.ion_command.specs.declared.run.Status.{Status}
-use Rattle.ion_command.specs.declared.run.Status.TheVariants as the_status
-use Rattle.ion_command.specs.declared.run.Ending.{Ending}
-use Rattle.ion_command.specs.declared.run.Ending.TheVariants.{Accepted, Different, Refused}
+use Rattle.ion_command.specs.declared.command.Status.{Status}
+use Rattle.ion_command.specs.declared.command.Status.TheVariants as the_status
+use Rattle.ion_command.specs.declared.command.Ending.{Ending}
+use Rattle.ion_command.specs.declared.command.Ending.TheVariants.{Accepted, Different, Refused}
 
 -- what a document is converted to, by the encoding asked for
 abbrev pub target_of : Encoding → Target

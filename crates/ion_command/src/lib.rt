@@ -2,14 +2,14 @@
 //! devices.
 #![tactic(auto)]
 
+mod command;
 mod files;
 mod lines;
 mod process;
-mod run;
 mod sources;
 
+pub use command::{Status, refuse_words, run};
 pub use files::{FileSystem, Opened, words_given};
 pub use lines::Whose;
 pub use process::carry_out;
-pub use run::{Status, refuse_words, run};
 pub use sources::Sources;

@@ -1,8 +1,8 @@
 //! What the arguments of a process ask for.
 ghost use Rattle.ion_command.specs.Owed.{OwesFor};
 
+use crate::command::{refuse_words, run};
 use crate::files::words_given;
-use crate::run::{refuse_words, run};
 use crate::sources::Sources;
 use ion_docs::DocReader;
 use ion_symtab::{Inlet, Items, Outlet};

@@ -2,7 +2,7 @@ use Rattle.std.proofs.Common.{◌∷◌, [], inr}
 use Rattle.std.proofs.lemmas.Result.{IfOk-weaker, IfErr-weaker, on_err_weaker}
 use Rattle.ion_words.specs.Asked.{NamesInputOnce}
 use Rattle.ion_command.proofs.Owing.{first_of_names, behind_first, free_behind, stopped_comparing, done_converting, front_checking, front_converting, front_comparing}
-use Rattle.ion_command.proofs.run.ending_of.Goals as goal
+use Rattle.ion_command.proofs.command.ending_of.Goals as goal
 
 pub returns-in_ok-source-in-Check-clause-done : goal.returns-in_ok-source-in-Check-clause-done
 returns-in_ok-source-in-Check-clause-done g c =

@@ -1,10 +1,10 @@
 use Rattle.std.proofs.Common.{refl, ap}
 use Rattle.ion_symtab.specs.laws.Took.{Took-nil}
 use Rattle.ion_words.specs.Asked.{told}
-use Rattle.ion_command.specs.declared.run.Ending.TheVariants.{Accepted, Different}
+use Rattle.ion_command.specs.declared.command.Ending.TheVariants.{Accepted, Different}
 use Rattle.ion_command.specs.Owed.{code_of, answered, stopped}
 use Rattle.ion_command.proofs.Owing.{owes_refused}
-use Rattle.ion_command.proofs.run.answer.Goals as goal
+use Rattle.ion_command.proofs.command.answer.Goals as goal
 
 pub returns-in-Ok-Accepted : goal.returns-in-Ok-Accepted
 returns-in-Ok-Accepted g c =

@@ -1,7 +1,7 @@
 use Rattle.std.proofs.Common.{map}
 use Rattle.ion_words.specs.Asked.{asked}
 use Rattle.ion_command.proofs.Owing.{owes_usage}
-use Rattle.ion_command.proofs.run.run.Goals as goal
+use Rattle.ion_command.proofs.command.run.Goals as goal
 
 pub returns-in-Ok : goal.returns-in-Ok
 returns-in-Ok g c = record { owes = rw (c.in-Ok.ensures.asked, c.code.ensures) c.answer.ensures }

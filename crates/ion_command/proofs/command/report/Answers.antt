@@ -1,7 +1,7 @@
 use Rattle.std.proofs.Common.{rules}
 use Rattle.std.proofs.lemmas.Result.{IfErr-weaker}
 use Rattle.ion_command.proofs.Writes.{Reports-written, when_ok}
-use Rattle.ion_command.proofs.run.report.Goals as goal
+use Rattle.ion_command.proofs.command.report.Goals as goal
 
 pub returns-then-is_ok : goal.returns-then-is_ok
 returns-then-is_ok g c =

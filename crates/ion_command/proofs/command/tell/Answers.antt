@@ -1,6 +1,6 @@
 use Rattle.ion_symtab.specs.laws.Took.{Front-all}
 use Rattle.ion_command.proofs.Writes.{on_err}
-use Rattle.ion_command.proofs.run.tell.Goals as goal
+use Rattle.ion_command.proofs.command.tell.Goals as goal
 
 pub returns-clause-so_far : goal.returns-clause-so_far
 returns-clause-so_far g c =

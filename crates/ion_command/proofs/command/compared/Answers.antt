@@ -4,7 +4,7 @@ use Rattle.ion_symtab.specs.laws.Took.{Took-nil}
 use Rattle.ion_docs.specs.declared.comparison.Verdict.TheVariants.{Equivalent, Different, Refused}
 use Rattle.ion_command.specs.Lines.{equivalent_line, different_line}
 use Rattle.ion_command.proofs.Writes.{on_err}
-use Rattle.ion_command.proofs.run.compared.Goals as goal
+use Rattle.ion_command.proofs.command.compared.Goals as goal
 
 pub returns-in_ok-tell-in-Equivalent-clause-ending :
     goal.returns-in_ok-tell-in-Equivalent-clause-ending
