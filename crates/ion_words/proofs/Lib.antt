@@ -1,3 +1,4 @@
+mod Commands
 mod Found
 mod InputOnce
 mod Names

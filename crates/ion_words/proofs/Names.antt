@@ -1,76 +1,144 @@
 -- What command lines over any names and numbers ask for.
-use Rattle.std.proofs.Common.{◌≡◌, ◌≢◌, ◌++◌, ℕ, [], ◌∷◌, Option, Some, None, codes, refl, true, false, ap, ne_eqb}
-use Rattle.std.specs.Prelude.{◌==◌, ◌&&◌, ◌||◌, ◌^◌, not, if◌then◌else◌, option_map, option_and_then}
+use Rattle.std.proofs.Common.{◌≡◌, ◌≢◌, ◌∙◌, ◌++◌, ℕ, List, [], ◌∷◌, Option, Some, None, codes, refl, true, false, sym, ap, ap₂, is_some, ne_eqb}
+use Rattle.std.specs.Prelude.{◌==◌, ◌&&◌, ◌||◌, ◌^◌, not, if◌then◌else◌, option_map, option_and_then, find, fold, unwrap_or}
 use Rattle.std.specs.Str.{bytes_eq}
 use Rattle.clap.specs.Lexer.{long_of, long_of_rest, short_of, short_of_rest, strip_byte}
-use Rattle.clap.proofs.OnLiterals.{clap_on_literals}
+use Rattle.clap.specs.Kinds.{Kinds, or_else}
+use Rattle.clap.specs.Walk.{Held, Rule, Step, Waiting, Walk, after_step, answers_to, finished, idle, is_empty, nothing_held, option, plain_word, positional, settled, subcommand_met, walk_from, walked, word_met}
+use Rattle.clap.specs.Faults.{check_fault, defaults_fault, entered_fault, settle_fault, step_fault, walk_fault, word_fault}
+use Rattle.clap.specs.Simple.{Shape, built, entered, label_of, names_of}
 use Rattle.clap.specs.Words.{Text}
+use Rattle.clap.proofs.OnLiterals.{clap_on_literals}
+use Rattle.clap.proofs.FaultLemmas.{stopped_fault}
+use Rattle.clap.proofs.WalkLemmas.{walk_stopped}
 use Rattle.ion_words.specs.declared.request.Encoding.TheVariants as encoding
-use Rattle.ion_words.specs.Asked.{Asked, IsPlain, asked, check, show, convert, compare, usual, input_once, is_input, number_in}
-
-no_long : (x : ℕ) (name : Text) → (x == 45) ≡ false → long_of (x ∷ name) ≡ None
-no_long x name plain = ap (λ b. option_and_then long_of_rest (option_and_then (strip_byte 45) (if b then Some name else None))) plain
-
-no_short : (x : ℕ) (name : Text) → (x == 45) ≡ false → short_of (x ∷ name) ≡ None
-no_short x name plain = ap (λ b. option_and_then short_of_rest (if b then Some name else None)) plain
-
-no_hyphen : (rest : Text) (x : ℕ) (name : Text) → (x == 45) ≡ false → bytes_eq (x ∷ name) (45 ∷ rest) ≡ false
-no_hyphen rest x name plain = ap (λ b. b && bytes_eq name rest) plain
+use Rattle.ion_words.specs.Program.{program}
+use Rattle.ion_words.specs.Asked.{Asked, IsPlain, asked, asked_by, check, show, convert, compare, usual, input_once, is_input, number_in}
 
 plain_octet : (x : ℕ) → x ≢ 45 → (x == 45) ≡ false
 plain_octet x plain = ne_eqb _ _ plain
 
-check_octets : (x : ℕ) (name : Text) → (x == 45) ≡ false → asked (codes "check" ∷ (x ∷ name) ∷ []) ≡ Some (usual (check (x ∷ name)))
-unfolding clap_on_literals
-check_octets x name plain = rw (no_hyphen (45 ∷ []) x name plain, no_long x name plain, no_short x name plain) refl
+no_hyphen : (rest name : Text) → IsPlain name → bytes_eq name (45 ∷ rest) ≡ false
+no_hyphen rest [] plain = refl
+no_hyphen rest (x ∷ name) plain = ap (λ b. b && bytes_eq name rest) (plain_octet x plain)
 
-check_empty : asked (codes "check" ∷ [] ∷ []) ≡ Some (usual (check []))
+no_long : (name : Text) → IsPlain name → long_of name ≡ None
+no_long [] plain = refl
+no_long (x ∷ name) plain = ap (λ b. option_and_then long_of_rest (option_and_then (strip_byte 45) (if b then Some name else None))) (plain_octet x plain)
+
+no_short : (name : Text) → IsPlain name → short_of name ≡ None
+no_short [] plain = refl
+no_short (x ∷ name) plain = ap (λ b. option_and_then short_of_rest (if b then Some name else None)) (plain_octet x plain)
+
+-- ---- one step of the walk
+
+none_met : (waiting : Waiting) (word : Text) → subcommand_met [] waiting word ≡ None
+none_met idle word = refl
+none_met (option id) word = refl
+none_met positional word = refl
+
+plain_met : (c : List Rule) (waiting : Waiting) (position : ℕ) (name : Text) (held : Held) → IsPlain name → word_met c [] false waiting position name held ≡ plain_word c waiting name held
+plain_met c waiting position name held plain = rw (none_met waiting name, no_hyphen (45 ∷ []) name plain, no_long name plain, no_short name plain) refl
+
+no_fault : (s : Shape) (waiting : Waiting) (name : Text) (held : Held) → IsPlain name → word_fault s [] false waiting name held ≡ []
+no_fault s waiting name held plain = rw (none_met waiting name, no_hyphen (45 ∷ []) name plain, no_long name plain, no_short name plain) refl
+
+-- what a command asks for by the words that are left at a place of its walk, where the words before
+-- came to these faults
+abbrev asked_at : Text → Shape → Kinds → Walk → List Text → Option Asked
+asked_at command s faults w words =
+    let end = (fold (walked s.rules []) w words).held in
+    if is_empty (or_else (or_else (or_else faults (walk_fault s [] w words)) (or_else (settle_fault s.rules s.args_override_self end) (or_else (defaults_fault (settled s.rules end).rows s.rules) (check_fault s (finished s.rules end) false)))) [])
+    then asked_by command (finished s.rules end) else None
+
+abbrev place : Held → Waiting → ℕ → Walk
+place held waiting position = record { held = held; waiting = waiting; position = position; is_trailing = false; stopped = None }
+
+-- a plain name is no flag, so it goes to what waits for it
+plain_step : (command : Text) (s : Shape) (held : Held) (waiting : Waiting) (position : ℕ) (name : Text) (words : List Text) → IsPlain name
+    → asked_at command s [] (place held waiting position) (name ∷ words)
+    ≡ (let met = plain_word s.rules waiting name held in asked_at command s (step_fault s position met.0 met.1) (after_step s.rules name (place held waiting position) met.0 met.1) words)
+unfolding walked walk_fault
+plain_step command s held waiting position name words plain =
+    ap₂ (λ (fault : Kinds) (met : Held × Step). asked_at command s (or_else fault (step_fault s position met.0 met.1)) (after_step s.rules name (place held waiting position) met.0 met.1) words)
+    (no_fault s waiting name held plain) (plain_met s.rules waiting position name held plain)
+
+-- ---- the walk over the words of a command
+
+-- the command of this name, as the program holds it once it is built
+abbrev command_of : Text → Shape
+command_of name = unwrap_or (find (λ s. answers_to name (label_of s)) (built program).subs) program.top
+
+abbrev asked_in : Text → List Text → Option Asked
+asked_in command words = asked_at command (command_of command) [] (walk_from nothing_held) words
+
+-- what the program asks for where its own walk ends so, with these faults
+abbrev asked_above : Kinds → Walk → Option Asked
+asked_above faults end =
+    let a = built program in
+    let below = entered a end.stopped in
+    if is_empty (or_else faults (or_else (entered_fault a end.stopped) (or_else (settle_fault a.top.rules a.top.args_override_self end.held)
+    (or_else (defaults_fault (settled a.top.rules end.held).rows a.top.rules) (check_fault a.top (finished a.top.rules end.held) (is_some below))))))
+    then option_and_then (λ found. asked_by found.0 found.1) below else None
+
+abbrev stopped_at : Text → List Text → Walk
+stopped_at command words = record (walk_from nothing_held) { stopped = Some (command, words) }
+
+-- the words behind a command's name are left to it
+left_to : (command : Text) (words : List Text)
+    → asked_above (walk_fault (built program).top (names_of (built program)) (stopped_at command []) words) (fold (walked (built program).top.rules (names_of (built program))) (stopped_at command []) words)
+    ≡ asked_above [] (stopped_at command words)
+left_to command words =
+    ap₂ asked_above (stopped_fault (built program).top (names_of (built program)) (walk_from nothing_held) (command, []) words)
+    (sym (walk_stopped (built program).top.rules (names_of (built program)) (walk_from nothing_held) command [] words))
+
+in_check : (words : List Text) → asked (codes "check" ∷ words) ≡ asked_in (codes "check") words
 unfolding clap_on_literals
-check_empty = refl
+in_check words = left_to (codes "check") words
+
+in_show : (words : List Text) → asked (codes "show" ∷ words) ≡ asked_in (codes "show") words
+unfolding clap_on_literals
+in_show words = left_to (codes "show") words
+
+in_convert : (words : List Text) → asked (codes "convert" ∷ words) ≡ asked_in (codes "convert") words
+unfolding clap_on_literals
+in_convert words = left_to (codes "convert") words
+
+in_compare : (words : List Text) → asked (codes "compare" ∷ words) ≡ asked_in (codes "compare") words
+unfolding clap_on_literals
+in_compare words = left_to (codes "compare") words
+
+-- ---- the command lines
 
 pub check_plain : (name : Text) → IsPlain name → asked (codes "check" ∷ name ∷ []) ≡ Some (usual (check name))
-check_plain [] plain = check_empty
-check_plain (x ∷ name) plain = check_octets x name (plain_octet x plain)
-
-show_octets : (x : ℕ) (name : Text) → (x == 45) ≡ false → asked (codes "show" ∷ (x ∷ name) ∷ []) ≡ Some (usual (show (x ∷ name)))
 unfolding clap_on_literals
-show_octets x name plain = rw (no_hyphen (45 ∷ []) x name plain, no_long x name plain, no_short x name plain) refl
-
-show_empty : asked (codes "show" ∷ [] ∷ []) ≡ Some (usual (show []))
-unfolding clap_on_literals
-show_empty = refl
+check_plain name plain = in_check (name ∷ []) ∙ plain_step (codes "check") (command_of (codes "check")) nothing_held idle 1 name [] plain
 
 pub show_plain : (name : Text) → IsPlain name → asked (codes "show" ∷ name ∷ []) ≡ Some (usual (show name))
-show_plain [] plain = show_empty
-show_plain (x ∷ name) plain = show_octets x name (plain_octet x plain)
-
-to_text_octets : (x : ℕ) (name : Text) → (x == 45) ≡ false → asked (codes "convert" ∷ (x ∷ name) ∷ codes "--to" ∷ codes "text" ∷ []) ≡ Some (usual (convert (x ∷ name) encoding.Text))
 unfolding clap_on_literals
-to_text_octets x name plain = rw (no_hyphen (45 ∷ []) x name plain, no_long x name plain, no_short x name plain) refl
-
-to_text_empty : asked (codes "convert" ∷ [] ∷ codes "--to" ∷ codes "text" ∷ []) ≡ Some (usual (convert [] encoding.Text))
-unfolding clap_on_literals
-to_text_empty = refl
+show_plain name plain = in_show (name ∷ []) ∙ plain_step (codes "show") (command_of (codes "show")) nothing_held idle 1 name [] plain
 
 pub to_text_plain : (name : Text) → IsPlain name → asked (codes "convert" ∷ name ∷ codes "--to" ∷ codes "text" ∷ []) ≡ Some (usual (convert name encoding.Text))
-to_text_plain [] plain = to_text_empty
-to_text_plain (x ∷ name) plain = to_text_octets x name (plain_octet x plain)
-
-to_binary_octets : (x : ℕ) (name : Text) → (x == 45) ≡ false → asked (codes "convert" ∷ (x ∷ name) ∷ codes "--to" ∷ codes "binary" ∷ []) ≡ Some (usual (convert (x ∷ name) encoding.Binary))
 unfolding clap_on_literals
-to_binary_octets x name plain = rw (no_hyphen (45 ∷ []) x name plain, no_long x name plain, no_short x name plain) refl
-
-to_binary_empty : asked (codes "convert" ∷ [] ∷ codes "--to" ∷ codes "binary" ∷ []) ≡ Some (usual (convert [] encoding.Binary))
-unfolding clap_on_literals
-to_binary_empty = refl
+to_text_plain name plain = in_convert (name ∷ codes "--to" ∷ codes "text" ∷ []) ∙ plain_step (codes "convert") (command_of (codes "convert")) nothing_held idle 1 name (codes "--to" ∷ codes "text" ∷ []) plain
 
 pub to_binary_plain : (name : Text) → IsPlain name → asked (codes "convert" ∷ name ∷ codes "--to" ∷ codes "binary" ∷ []) ≡ Some (usual (convert name encoding.Binary))
-to_binary_plain [] plain = to_binary_empty
-to_binary_plain (x ∷ name) plain = to_binary_octets x name (plain_octet x plain)
+unfolding clap_on_literals
+to_binary_plain name plain = in_convert (name ∷ codes "--to" ∷ codes "binary" ∷ []) ∙ plain_step (codes "convert") (command_of (codes "convert")) nothing_held idle 1 name (codes "--to" ∷ codes "binary" ∷ []) plain
+
+-- what is held where a name was read for a place
+abbrev placed : Text → Text → Held
+placed id name = record nothing_held { pending = Some (id, name ∷ []) }
 
 -- a name that isn't the standard input's leaves the other free
 compare_once : (left right : Text) → is_input right ≡ false → input_once (usual (compare left right)) ≡ Some (usual (compare left right))
 compare_once left right e = ap (λ b. if (not ((b || false) && is_input left) && true) then Some (usual (compare left right)) else None) e
+
+pub compare_plain : (left right : Text) → IsPlain left → IsPlain right → asked (codes "compare" ∷ left ∷ right ∷ []) ≡ Some (usual (compare left right))
+unfolding clap_on_literals
+compare_plain left right plain right_plain = in_compare (left ∷ right ∷ []) ∙ plain_step (codes "compare") (command_of (codes "compare")) nothing_held idle 1 left (right ∷ []) plain
+    ∙ plain_step (codes "compare") (command_of (codes "compare")) (placed (codes "LEFT") left) idle 2 right [] right_plain
+    ∙ compare_once left right (no_hyphen [] right right_plain)
 
 abbrev with_catalog : Text → Text → Asked
 with_catalog name catalog = record (usual (check name)) { catalog = Some catalog }
@@ -78,64 +146,11 @@ with_catalog name catalog = record (usual (check name)) { catalog = Some catalog
 catalog_once : (name catalog : Text) → is_input name ≡ false → input_once (with_catalog name catalog) ≡ Some (with_catalog name catalog)
 catalog_once name catalog e = ap (λ b. if (not ((b || false) && is_input catalog) && true) then Some (with_catalog name catalog) else None) e
 
-module _ (x : ℕ) (name : Text) (plain : (x == 45) ≡ false) (y : ℕ) (other : Text) (other_plain : (y == 45) ≡ false) where
-  compare_octets : asked (codes "compare" ∷ (x ∷ name) ∷ (y ∷ other) ∷ []) ≡ Some (usual (compare (x ∷ name) (y ∷ other)))
-  unfolding clap_on_literals
-  compare_octets = rw (
-    no_hyphen (45 ∷ []) x name plain,
-    no_long x name plain,
-    no_short x name plain,
-    no_hyphen (45 ∷ []) y other other_plain,
-    no_long y other other_plain,
-    no_short y other other_plain,
-  ) (compare_once (x ∷ name) (y ∷ other) (no_hyphen [] y other other_plain))
-
-  catalog_octets : asked (codes "check" ∷ (x ∷ name) ∷ codes "--catalog" ∷ (y ∷ other) ∷ []) ≡ Some (record (usual (check (x ∷ name))) { catalog = Some (y ∷ other) })
-  unfolding clap_on_literals
-  catalog_octets = rw (
-    no_hyphen (45 ∷ []) x name plain,
-    no_long x name plain,
-    no_short x name plain,
-    no_hyphen (45 ∷ []) y other other_plain,
-    no_long y other other_plain,
-    no_short y other other_plain,
-  ) (catalog_once (x ∷ name) (y ∷ other) (no_hyphen [] x name plain))
-
-compare_left : (x : ℕ) (name : Text) → (x == 45) ≡ false → asked (codes "compare" ∷ (x ∷ name) ∷ [] ∷ []) ≡ Some (usual (compare (x ∷ name) []))
+pub catalog_plain : (name catalog : Text) → IsPlain name → IsPlain catalog → asked (codes "check" ∷ name ∷ codes "--catalog" ∷ catalog ∷ []) ≡ Some (with_catalog name catalog)
 unfolding clap_on_literals
-compare_left x name plain = rw (no_hyphen (45 ∷ []) x name plain, no_long x name plain, no_short x name plain) refl
-
-compare_right : (y : ℕ) (other : Text) → (y == 45) ≡ false → asked (codes "compare" ∷ [] ∷ (y ∷ other) ∷ []) ≡ Some (usual (compare [] (y ∷ other)))
-unfolding clap_on_literals
-compare_right y other plain = rw (no_hyphen (45 ∷ []) y other plain, no_long y other plain, no_short y other plain) (compare_once [] (y ∷ other) (no_hyphen [] y other plain))
-
-compare_neither : asked (codes "compare" ∷ [] ∷ [] ∷ []) ≡ Some (usual (compare [] []))
-unfolding clap_on_literals
-compare_neither = refl
-
-pub compare_plain : (name other : Text) → IsPlain name → IsPlain other → asked (codes "compare" ∷ name ∷ other ∷ []) ≡ Some (usual (compare name other))
-compare_plain [] [] plain other_plain = compare_neither
-compare_plain (x ∷ name) [] plain other_plain = compare_left x name (plain_octet x plain)
-compare_plain [] (y ∷ other) plain other_plain = compare_right y other (plain_octet y other_plain)
-compare_plain (x ∷ name) (y ∷ other) plain other_plain = compare_octets x name (plain_octet x plain) y other (plain_octet y other_plain)
-
-catalog_left : (x : ℕ) (name : Text) → (x == 45) ≡ false → asked (codes "check" ∷ (x ∷ name) ∷ codes "--catalog" ∷ [] ∷ []) ≡ Some (record (usual (check (x ∷ name))) { catalog = Some [] })
-unfolding clap_on_literals
-catalog_left x name plain = rw (no_hyphen (45 ∷ []) x name plain, no_long x name plain, no_short x name plain) (catalog_once (x ∷ name) [] (no_hyphen [] x name plain))
-
-catalog_right : (y : ℕ) (other : Text) → (y == 45) ≡ false → asked (codes "check" ∷ [] ∷ codes "--catalog" ∷ (y ∷ other) ∷ []) ≡ Some (record (usual (check [])) { catalog = Some (y ∷ other) })
-unfolding clap_on_literals
-catalog_right y other plain = rw (no_hyphen (45 ∷ []) y other plain, no_long y other plain, no_short y other plain) refl
-
-catalog_neither : asked (codes "check" ∷ [] ∷ codes "--catalog" ∷ [] ∷ []) ≡ Some (record (usual (check [])) { catalog = Some [] })
-unfolding clap_on_literals
-catalog_neither = refl
-
-pub catalog_plain : (name other : Text) → IsPlain name → IsPlain other → asked (codes "check" ∷ name ∷ codes "--catalog" ∷ other ∷ []) ≡ Some (record (usual (check name)) { catalog = Some other })
-catalog_plain [] [] plain other_plain = catalog_neither
-catalog_plain (x ∷ name) [] plain other_plain = catalog_left x name (plain_octet x plain)
-catalog_plain [] (y ∷ other) plain other_plain = catalog_right y other (plain_octet y other_plain)
-catalog_plain (x ∷ name) (y ∷ other) plain other_plain = catalog_octets x name (plain_octet x plain) y other (plain_octet y other_plain)
+catalog_plain name catalog plain other_plain = in_check (name ∷ codes "--catalog" ∷ catalog ∷ []) ∙ plain_step (codes "check") (command_of (codes "check")) nothing_held idle 1 name (codes "--catalog" ∷ catalog ∷ []) plain
+    ∙ plain_step (codes "check") (command_of (codes "check")) (record (settled (command_of (codes "check")).rules (placed (codes "FILE") name)) { pending = Some (codes "catalog", []) }) (option (codes "catalog")) 2 catalog [] other_plain
+    ∙ catalog_once name catalog (no_hyphen [] name plain)
 
 -- behind `--` any word is a name
 pub check_behind : (name : Text) → asked (codes "check" ∷ codes "--" ∷ name ∷ []) ≡ Some (usual (check name))

@@ -1,7 +1,7 @@
 //! The words of the command line, as its library is told of them.
-ghost use Rattle.std.specs.Prelude.{◌≡◌, false, IfOk};
-ghost use Rattle.clap.specs.Words.{rule_of, app_of};
-ghost use Rattle.ion_words.specs.Program.{program, over_one, converting, comparing, place, option, needed_option, with_options};
+ghost use Rattle.std.specs.Prelude.{◌≡◌, true, IfOk, IsOkAnd};
+ghost use Rattle.clap.specs.Words.{app_of, with_rule, with_subcommand};
+ghost use Rattle.ion_words.specs.Program.{program, bare, over_one, converting, comparing, place, option, needed_option, with_options};
 
 use clap::{Arg, Command};
 use std::alloc::{AllocError, Global};
@@ -10,20 +10,37 @@ use std::alloc::{AllocError, Global};
 pub fn command_line<'a>(alloc: Global) -> Result<Command<'a>, AllocError>
     ensures { IfOk result (λ command. app_of command ≡ program) }
 {
+    let program = with_command(bare(alloc), over_one(alloc, "check"))?;
+    let program = with_command(program, over_one(alloc, "show"))?;
+    let program = with_command(program, converting(alloc))?;
+    with_command(program, comparing(alloc))
+}
+
+/// The program with no command.
+fn bare<'a>(alloc: Global) -> Command<'a>
+    ensures { app_of result ≡ bare }
+{
     Command::new(alloc, "ion_cmd")
         .no_binary_name(true)
         .subcommand_required(true)
-        .subcommand(over_one(alloc, "check")?)?
-        .subcommand(over_one(alloc, "show")?)?
-        .subcommand(converting(alloc)?)?
-        .subcommand(comparing(alloc)?)
+}
+
+/// The program with one more command, where there was memory for it.
+fn with_command<'a>(
+    program: Command<'a>,
+    command: Result<Command<'a>, AllocError>,
+) -> Result<Command<'a>, AllocError>
+    ensures { IfOk result (λ r. IsOkAnd command.entry (λ added. (app_of added).top.is_plain ≡ true →
+        app_of r ≡ with_subcommand (app_of program.entry) (app_of added).top)) }
+{
+    program.subcommand(command?)
 }
 
 /// A command over one document.
 fn over_one<'a>(alloc: Global, name: &'a str) -> Result<Command<'a>, AllocError>
     ensures { IfOk result (λ command. app_of command ≡ over_one name.now) }
 {
-    let command = Command::new(alloc, name).arg(place(alloc, "FILE"))?;
+    let command = with_place(alloc, Command::new(alloc, name), "FILE")?;
     with_options(alloc, command)
 }
 
@@ -31,48 +48,58 @@ fn over_one<'a>(alloc: Global, name: &'a str) -> Result<Command<'a>, AllocError>
 fn converting<'a>(alloc: Global) -> Result<Command<'a>, AllocError>
     ensures { IfOk result (λ command. app_of command ≡ converting) }
 {
-    let command = Command::new(alloc, "convert").arg(place(alloc, "FILE"))?;
-    with_options(alloc, command.arg(needed_option(alloc, "to"))?)
+    let command = with_place(alloc, Command::new(alloc, "convert"), "FILE")?;
+    let command = with_needed_option(alloc, command, "to")?;
+    with_options(alloc, command)
 }
 
 /// The command over two documents.
 fn comparing<'a>(alloc: Global) -> Result<Command<'a>, AllocError>
     ensures { IfOk result (λ command. app_of command ≡ comparing) }
 {
-    let command = Command::new(alloc, "compare").arg(place(alloc, "LEFT"))?;
-    with_options(alloc, command.arg(place(alloc, "RIGHT"))?)
-}
-
-/// A name that must be given, by its place.
-fn place<'a>(alloc: Global, id: &'a str) -> Arg<'a>
-    ensures rule { rule_of result ≡ place id.now }
-    ensures local { result.global ≡ false }
-{
-    Arg::new(alloc, id).required(true)
-}
-
-/// `--id VALUE`, which may be given.
-fn option<'a>(alloc: Global, id: &'a str) -> Arg<'a>
-    ensures rule { rule_of result ≡ option id.now }
-    ensures local { result.global ≡ false }
-{
-    Arg::new(alloc, id).long(id)
-}
-
-/// `--id VALUE`, which must be given.
-fn needed_option<'a>(alloc: Global, id: &'a str) -> Arg<'a>
-    ensures rule { rule_of result ≡ needed_option id.now }
-    ensures local { result.global ≡ false }
-{
-    Arg::new(alloc, id).long(id).required(true)
+    let command = with_place(alloc, Command::new(alloc, "compare"), "LEFT")?;
+    let command = with_place(alloc, command, "RIGHT")?;
+    with_options(alloc, command)
 }
 
 /// The command with the options that each command takes.
 fn with_options<'a>(alloc: Global, command: Command<'a>) -> Result<Command<'a>, AllocError>
     ensures { IfOk result (λ r. app_of r ≡ with_options (app_of command.entry)) }
 {
-    command
-        .arg(option(alloc, "catalog"))?
-        .arg(option(alloc, "depth"))?
-        .arg(option(alloc, "item"))
+    let command = with_option(alloc, command, "catalog")?;
+    let command = with_option(alloc, command, "depth")?;
+    with_option(alloc, command, "item")
+}
+
+/// The command with a name that must be given, by its place.
+fn with_place<'a>(
+    alloc: Global,
+    command: Command<'a>,
+    id: &'a str,
+) -> Result<Command<'a>, AllocError>
+    ensures { IfOk result (λ r. app_of r ≡ with_rule (app_of command.entry) (place id.now)) }
+{
+    command.arg(Arg::new(alloc, id).required(true))
+}
+
+/// The command with `--id VALUE`, which may be given.
+fn with_option<'a>(
+    alloc: Global,
+    command: Command<'a>,
+    id: &'a str,
+) -> Result<Command<'a>, AllocError>
+    ensures { IfOk result (λ r. app_of r ≡ with_rule (app_of command.entry) (option id.now)) }
+{
+    command.arg(Arg::new(alloc, id).long(id))
+}
+
+/// The command with `--id VALUE`, which must be given.
+fn with_needed_option<'a>(
+    alloc: Global,
+    command: Command<'a>,
+    id: &'a str,
+) -> Result<Command<'a>, AllocError>
+    ensures { IfOk result (λ r. app_of r ≡ with_rule (app_of command.entry) (needed_option id.now)) }
+{
+    command.arg(Arg::new(alloc, id).long(id).required(true))
 }
