@@ -1,4 +1,5 @@
 //! Symbols, an empty path, the names and numbers of kinds and reasons, and values as keys of sets.
+use crate::answers::{holds, same};
 use ion_model::{
     Decimal, Field, Kind, Local, Path, Payload, Precision, Reason, Sequence, Symbol, Timestamp,
     Value,
@@ -10,32 +11,40 @@ use std::test::Fail;
 
 #[test]
 fn symbols(rt: HostRuntime) -> Result<(), Fail> {
-    let alloc = rt.alloc();
-    let name = Symbol::known(alloc, "name")?;
+    let name = Symbol::known(rt.alloc(), "name")?;
     let copy = name.copy()?;
-    assert_eq!(rt; copy.text(), Some("name"));
-    assert!(rt; copy.same(&name));
-    assert!(rt; !name.same(&Symbol::unknown()));
-    assert!(rt; !Symbol::known(alloc, "")?.same(&Symbol::unknown()));
+    same(&rt, &"the copy", &copy.text(), &Some("name"));
+    holds(&rt, "the copy is the same", copy.same(&name));
+    Ok(())
+}
+
+/// Neither a name nor the empty text is the unknown symbol.
+#[test]
+fn the_unknown_symbol(rt: HostRuntime) -> Result<(), Fail> {
+    for text in ["name", ""] {
+        let known = Symbol::known(rt.alloc(), text)?;
+        let found = known.same(&Symbol::unknown());
+        same(&rt, &text, &found, &false);
+    }
     Ok(())
 }
 
 #[test]
-fn an_empty_path_has_no_parts(rt: HostRuntime) -> Result<(), Fail> {
-    assert_eq!(rt; Path::empty(rt.alloc()).parts().len(), 0);
-    Ok(())
+fn an_empty_path_has_no_parts(rt: HostRuntime) {
+    let count = Path::empty(rt.alloc()).parts().len();
+    same(&rt, &"parts", &count, &0);
 }
 
 #[test]
-fn words(rt: HostRuntime) -> Result<(), Fail> {
+fn words(rt: HostRuntime) {
     for (reason, number, name) in [
         (Reason::Memory, 1, "Memory"),
         (Reason::Float, 5, "Float"),
         (Reason::Depth, 19, "Depth"),
         (Reason::KeywordAsName, 22, "KeywordAsName"),
     ] {
-        assert_eq!(rt; reason.number(), number, "the number of {name}");
-        assert_eq!(rt; reason.name(), name);
+        let found = (reason.number(), reason.name());
+        same(&rt, &name, &found, &(number, name));
     }
     for (kind, name) in [
         (Kind::Null, "null"),
@@ -43,9 +52,8 @@ fn words(rt: HostRuntime) -> Result<(), Fail> {
         (Kind::Sexp, "sexp"),
         (Kind::Fields, "struct"),
     ] {
-        assert_eq!(rt; kind.name(), name);
+        same(&rt, &kind, &kind.name(), &name);
     }
-    Ok(())
 }
 
 /// A struct whose one field is ten to this power.
@@ -70,10 +78,8 @@ fn finds<K: Ord + Hash>(alloc: Global, one: &K, equal: &K, other: &K) -> Result<
 }
 
 #[test]
-fn keys_of_sets(rt: HostRuntime) -> Result<(), Fail> {
-    let alloc = rt.alloc();
+fn scalars_as_keys(rt: HostRuntime) -> Result<(), Fail> {
     let (one, tenth) = (Decimal::new(false, 1, 0), Decimal::new(false, 1, -1));
-    assert!(rt; finds(alloc, &one, &one, &tenth)?);
     let noon = Local {
         year: 2024,
         month: 2,
@@ -85,10 +91,16 @@ fn keys_of_sets(rt: HostRuntime) -> Result<(), Fail> {
     };
     let unknown = Timestamp::new(noon, Precision::Minute, None);
     let utc = Timestamp::new(noon, Precision::Minute, Some(0));
-    assert!(rt; finds(alloc, &utc, &utc, &unknown)?);
-    let one = power(alloc, 2)?;
-    let equal = power(alloc, 2)?;
-    let other = power(alloc, 3)?;
-    assert!(rt; finds(alloc, &one, &equal, &other)?);
+    holds(&rt, "decimals", finds(rt.alloc(), &one, &one, &tenth)?);
+    holds(&rt, "timestamps", finds(rt.alloc(), &utc, &utc, &unknown)?);
+    Ok(())
+}
+
+#[test]
+fn values_as_keys(rt: HostRuntime) -> Result<(), Fail> {
+    let one = power(rt.alloc(), 2)?;
+    let equal = power(rt.alloc(), 2)?;
+    let other = power(rt.alloc(), 3)?;
+    holds(&rt, "structs", finds(rt.alloc(), &one, &equal, &other)?);
     Ok(())
 }
