@@ -23,12 +23,12 @@ fn reader_behind<'a>(
     catalog: &'a Catalog,
     limits: Limits,
     front: &[u8],
-) -> Result<BinaryReader<'a>, Fail>
+) -> Result<BinaryReader<'a>, &'static str>
     requires front { length front.now ≤ 100 }
     ensures taken { IfOk result (λ reader. ⟦<BinaryReader<'a> as Items>⟧.taken reader ≤ 100) }
 {
-    let mut reader = BinaryReader::new(alloc, catalog, limits)?;
-    reader.step(front)?;
+    let mut reader = BinaryReader::new(alloc, catalog, limits).map_err(|_| "no memory")?;
+    reader.step(front).map_err(|_| "a refused table")?;
     Ok(reader)
 }
 
@@ -39,9 +39,9 @@ fn taken_up(
     octets: &[u8],
     other_octets: &[u8],
     other_limits: Limits,
-) -> Result<Option<(usize, usize)>, Fail> {
+) -> Result<Option<(usize, usize)>, &'static str> {
     if octets.len() > 100 || other_octets.len() > 100 {
-        return Err("a long row".into());
+        return Err("a long row");
     }
     let catalog = Catalog::new(alloc);
     let mut reader = reader_behind(alloc, &catalog, Limits::usual(), &A_AND_B)?;
@@ -104,22 +104,25 @@ fn same_values(rt: HostRuntime) -> Result<(), Fail> {
     Ok(())
 }
 
+/// Three lists.
+const LISTS: &[u8] = &[0xB4, 0xB3, 0xB2, 0x21, 5];
+
+/// A blob of 16 octets.
+const BLOB: &[u8] = &[0xAE, 0x8E, 0, 0, 0, 0, 0, 0, 0, 0, 0, 0, 0, 0, 0, 0];
+
 #[test]
 fn limits_of_the_other_side(rt: HostRuntime) -> Result<(), Fail> {
-    // three lists, and 16 octets
-    let lists = [0xB4, 0xB3, 0xB2, 0x21, 5];
-    let blob = [0xAE, 0x8E, 0, 0, 0, 0, 0, 0, 0, 0, 0, 0, 0, 0, 0, 0];
-    for (depth, item, three, sixteen) in [
-        (3, 16, Some((5, 5)), Some((16, 16))),
-        (2, 16, None, Some((16, 16))),
-        (3, 15, Some((5, 5)), None),
+    for (depth, item, octets, taken) in [
+        (3, 16, LISTS, Some((5, 5))),
+        (3, 16, BLOB, Some((16, 16))),
+        (2, 16, LISTS, None),
+        (2, 16, BLOB, Some((16, 16))),
+        (3, 15, LISTS, Some((5, 5))),
+        (3, 15, BLOB, None),
     ] {
         let limits = Limits::new(depth, item, 1).ok_or("limits")?;
-        let found = [
-            taken_up(rt.alloc(), &lists, &lists, limits)?,
-            taken_up(rt.alloc(), &blob, &blob, limits)?,
-        ];
-        same(&rt, &(depth, item), &found, &[three, sixteen]);
+        let found = taken_up(rt.alloc(), octets, octets, limits)?;
+        same(&rt, &(depth, item, octets), &found, &taken);
     }
     Ok(())
 }

@@ -4,7 +4,7 @@ use ion_model::{
     Decimal, Field, Kind, Local, Path, Payload, Precision, Reason, Sequence, Symbol, Timestamp,
     Value,
 };
-use std::alloc::Global;
+use std::alloc::{AllocError, Global};
 use std::collections::{BTreeSet, HashSet};
 use std::hash::Hash;
 use std::test::Fail;
@@ -67,14 +67,23 @@ fn power(alloc: Global, exponent: i32) -> Result<Value, Fail> {
     Ok(Value::bare(alloc, Payload::Fields(fields)))
 }
 
+/// Whether a hashed set of the one key has the equal key too, and not the other.
+fn hashes<K: Ord + Hash>(alloc: Global, one: &K, equal: &K, other: &K) -> Result<bool, AllocError> {
+    let mut keys = HashSet::new(alloc);
+    keys.insert(one)?;
+    Ok(keys.contains(&equal) && !keys.contains(&other))
+}
+
+/// The same of a sorted set.
+fn sorts<K: Ord>(alloc: Global, one: &K, equal: &K, other: &K) -> Result<bool, AllocError> {
+    let mut keys = BTreeSet::new(alloc);
+    keys.insert(one)?;
+    Ok(keys.contains(&equal) && !keys.contains(&other))
+}
+
 /// Whether sets of the one key have the equal key too, and not the other.
-fn finds<K: Ord + Hash>(alloc: Global, one: &K, equal: &K, other: &K) -> Result<bool, Fail> {
-    let mut hashed = HashSet::new(alloc);
-    hashed.insert(one)?;
-    let mut sorted = BTreeSet::new(alloc);
-    sorted.insert(one)?;
-    let found = hashed.contains(&equal) && sorted.contains(&equal);
-    Ok(found && !hashed.contains(&other) && !sorted.contains(&other))
+fn finds<K: Ord + Hash>(alloc: Global, one: &K, equal: &K, other: &K) -> Result<bool, AllocError> {
+    Ok(hashes(alloc, one, equal, other)? && sorts(alloc, one, equal, other)?)
 }
 
 #[test]
@@ -96,11 +105,21 @@ fn scalars_as_keys(rt: HostRuntime) -> Result<(), Fail> {
     Ok(())
 }
 
+/// Structs whose one fields are ten to these powers.
+fn powers(alloc: Global, exponents: [i32; 3]) -> Result<Vec<Value>, Fail> {
+    let mut values = Vec::new(alloc);
+    for exponent in exponents {
+        values.push(power(alloc, exponent)?)?;
+    }
+    Ok(values)
+}
+
 #[test]
 fn values_as_keys(rt: HostRuntime) -> Result<(), Fail> {
-    let one = power(rt.alloc(), 2)?;
-    let equal = power(rt.alloc(), 2)?;
-    let other = power(rt.alloc(), 3)?;
-    holds(&rt, "structs", finds(rt.alloc(), &one, &equal, &other)?);
+    let powers = powers(rt.alloc(), [2, 2, 3])?;
+    let [one, equal, other] = powers.as_slice() else {
+        return Err("no powers".into());
+    };
+    holds(&rt, "structs", finds(rt.alloc(), one, equal, other)?);
     Ok(())
 }

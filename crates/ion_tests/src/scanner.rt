@@ -1,11 +1,10 @@
 //! What a scanner holds, foresees and lends, and what it says again.
-use crate::answers::{holds, same};
+use crate::answers::same;
 use ion_model::{Reason, Refusal};
 use ion_tokens::{Begun, Body, Foresight, Form, Place, Scanner, Token};
 use std::alloc::Global;
 use std::borrow::CowStr;
 use std::process::Abort;
-use std::test::Fail;
 
 /// What a step gave.
 #[derive(Clone, Copy, Debug, PartialEq)]
@@ -31,71 +30,72 @@ fn told(token: &Option<Token>) -> Given {
     }
 }
 
-/// Takes up a piece at the top level.
-fn step(scanner: &mut Scanner, piece: &[u8]) -> Result<Result<Stepped, Refusal>, Fail> {
+/// Takes up a piece at the top level, unless it is far too long.
+fn step(scanner: &mut Scanner, piece: &[u8]) -> Option<Result<Stepped, Refusal>> {
     if scanner.used() > 1 << 40 || piece.len() > 1 << 40 {
-        return Err("long".into());
+        return None;
     }
-    Ok(scanner
-        .step(piece, Place::Top)
-        .map(|scan| (scan.used, told(&scan.token), scan.left)))
+    Some(match scanner.step(piece, Place::Top) {
+        Ok(scan) => Ok((scan.used, told(&scan.token), scan.left)),
+        Err(refusal) => Err(refusal),
+    })
 }
 
 /// The same, where only the number of octets used is asked for.
-fn used(scanner: &mut Scanner, piece: &[u8]) -> Result<Result<usize, Refusal>, Fail> {
-    Ok(step(scanner, piece)?.map(|step| step.0))
+fn used(scanner: &mut Scanner, piece: &[u8]) -> Option<Result<usize, Refusal>> {
+    match step(scanner, piece)? {
+        Ok((count, _, _)) => Some(Ok(count)),
+        Err(refusal) => Some(Err(refusal)),
+    }
 }
 
-/// What has begun behind each piece, of which this many octets are used.
+/// How many octets of each piece are used, and what has begun behind it.
 #[test]
-fn open_octets(rt: HostRuntime) -> Result<(), Fail> {
-    let rows: [(&[u8], usize, Option<(u64, u64, Form)>); 6] = [
+fn open_octets(rt: HostRuntime) {
+    let rows: [(&[u8], usize, Option<Begun>); 6] = [
         (b"", 0, None),
-        (b" \"ab", 4, Some((1, 4, Form::Other))),
+        (b" \"ab", 4, at(1, 4, Form::Other)),
         (b"\"", 1, None),
         (b" /", 2, None),
-        (b"/ c\n''", 6, Some((11, 13, Form::Quote))),
-        (b"'", 1, Some((11, 14, Form::Long))),
+        (b"/ c\n''", 6, at(11, 13, Form::Quote)),
+        (b"'", 1, at(11, 14, Form::Long)),
     ];
     let mut scanner = Scanner::new(rt.alloc());
-    for row in &rows {
-        let (piece, count, wanted) = *row;
-        let count_found = used(&mut scanner, piece)?;
-        let begun = scanner
-            .begun()
-            .map(|begun| (begun.start, begun.end, begun.form));
-        same(&rt, row, &(count_found, begun), &(Ok(count), wanted));
+    for (piece, count, wanted) in &rows {
+        let found = used(&mut scanner, *piece);
+        same(&rt, piece, &found, &Some(Ok(*count)));
+        same(&rt, piece, &scanner.begun(), wanted);
     }
     same(&rt, &"looked at", &scanner.looked(), &14);
-    Ok(())
+}
+
+/// A token that begins and ends there.
+fn at(start: u64, end: u64, form: Form) -> Option<Begun> {
+    Some(Begun { start, end, form })
 }
 
 /// Octets are held while a token is open.
 #[test]
-fn held_octets(rt: HostRuntime) -> Result<(), Fail> {
+fn held_octets(rt: HostRuntime) {
     let mut scanner = Scanner::new(rt.alloc());
-    for (piece, count, held) in [(" \"ab", 4, true), ("\"", 1, false)] {
-        let found = used(&mut scanner, piece.as_bytes())?;
-        same(&rt, &piece, &(found, scanner.held() > 0), &(Ok(count), held));
-    }
-    Ok(())
+    let open = used(&mut scanner, b" \"ab");
+    same(&rt, &"open", &(open, scanner.held() > 0), &(Some(Ok(4)), true));
+    let ended = used(&mut scanner, b"\"");
+    same(&rt, &"ended", &(ended, scanner.held()), &(Some(Ok(1)), 0));
 }
 
 /// A refusal is answered again.
 #[test]
-fn refusal_stays(rt: HostRuntime) -> Result<(), Fail> {
+fn refusal_stays(rt: HostRuntime) {
     let refusal = Refusal {
         offset: 3,
         reason: Reason::BadEscape,
     };
     let mut scanner = Scanner::new(rt.alloc());
-    for piece in ["\"\\q", " "] {
-        let found = used(&mut scanner, piece.as_bytes())?;
-        same(&rt, &piece, &found, &Err(refusal));
-    }
+    let steps = [used(&mut scanner, b"\"\\q"), used(&mut scanner, b" ")];
+    same(&rt, &"steps", &steps, &[Some(Err(refusal)); 2]);
     let ended = scanner.finish(Place::Top).err();
     same(&rt, &"the end", &ended, &Some(refusal));
-    Ok(())
 }
 
 /// A piece, how many of its octets are used, and what each of some octets would show behind them.
@@ -140,47 +140,50 @@ static FORESEEN: [Foreseen; 5] = [
 
 /// What an octet would show behind a symbol, a colon, quotes and a segment of a long string.
 #[test]
-fn foresights(rt: HostRuntime) -> Result<(), Fail> {
+fn foresights(rt: HostRuntime) {
     let mut scanner = Scanner::new(rt.alloc());
     for (piece, count, shown) in &FORESEEN {
-        let found = used(&mut scanner, *piece)?;
-        same(&rt, piece, &found, &Ok(*count));
-        for (octet, wanted) in *shown {
-            let found = scanner.foresee(Place::Top, *octet);
-            same(&rt, &(*piece, *octet), &found, wanted);
-        }
+        let found = used(&mut scanner, *piece);
+        same(&rt, piece, &found, &Some(Ok(*count)));
+        foresees(&rt, &scanner, *shown);
     }
-    Ok(())
+}
+
+/// Each octet would show what stands beside it.
+fn foresees(rt: &impl Abort, scanner: &Scanner, shown: &[(u8, Foresight)]) {
+    for (octet, wanted) in shown {
+        let found = scanner.foresee(Place::Top, *octet);
+        same(rt, octet, &found, wanted);
+    }
 }
 
 /// Each piece in turn gives what stands beside it.
-fn gives(rt: &impl Abort, alloc: Global, rows: &[(&[u8], Stepped)]) -> Result<(), Fail> {
+fn gives(rt: &impl Abort, alloc: Global, rows: &[(&[u8], Stepped)]) {
     let mut scanner = Scanner::new(alloc);
     for (piece, wanted) in rows {
-        let found = step(&mut scanner, *piece)?;
-        same(rt, piece, &found, &Ok(*wanted));
+        let found = step(&mut scanner, *piece);
+        same(rt, piece, &found, &Some(Ok(*wanted)));
     }
-    Ok(())
 }
 
 /// Where an octet ended a token and isn't part of it, the step says so.
 #[test]
-fn left_octets(rt: HostRuntime) -> Result<(), Fail> {
+fn left_octets(rt: HostRuntime) {
     let rows: [(&[u8], Stepped); 3] = [
         (b"ab,", (2, Given::LentWord, true)),
         (b",c", (1, Given::Other, false)),
         (b"c", (1, Given::Nothing, false)),
     ];
-    gives(&rt, rt.alloc(), &rows)
+    gives(&rt, rt.alloc(), &rows);
 }
 
 /// A word whole in its piece is lent, and one that two pieces gave is owned.
 #[test]
-fn lent_words(rt: HostRuntime) -> Result<(), Fail> {
+fn lent_words(rt: HostRuntime) {
     let rows: [(&[u8], Stepped); 3] = [
         (b"ab cd", (2, Given::LentWord, true)),
         (b" cd", (3, Given::Nothing, false)),
         (b"e ", (1, Given::OwnedWord, true)),
     ];
-    gives(&rt, rt.alloc(), &rows)
+    gives(&rt, rt.alloc(), &rows);
 }
