@@ -86,7 +86,12 @@ fn write_takes_nothing(rt: HostRuntime) {
     let nothing = (writer.write(b""), writer.failed());
     same(&rt, &"nothing", &nothing, &(Ok(0), false));
     let refused = (writer.write(b"a"), writer.flush(), writer.failed());
-    same(&rt, &"an octet", &refused, &(Err(Failed), Err(Failed), true));
+    same(
+        &rt,
+        &"an octet",
+        &refused,
+        &(Err(Failed), Err(Failed), true),
+    );
 }
 
 #[test]

@@ -79,7 +79,12 @@ fn at(start: u64, end: u64, form: Form) -> Option<Begun> {
 fn held_octets(rt: HostRuntime) {
     let mut scanner = Scanner::new(rt.alloc());
     let open = used(&mut scanner, b" \"ab");
-    same(&rt, &"open", &(open, scanner.held() > 0), &(Some(Ok(4)), true));
+    same(
+        &rt,
+        &"open",
+        &(open, scanner.held() > 0),
+        &(Some(Ok(4)), true),
+    );
     let ended = used(&mut scanner, b"\"");
     same(&rt, &"ended", &(ended, scanner.held()), &(Some(Ok(1)), 0));
 }

@@ -43,8 +43,10 @@ fn gives(rt: &impl Abort, step: &Result<bool, Refusal>) {
 /// Whether a step over a text gives a value.
 fn read_text(alloc: Global) -> Result<bool, Refusal> {
     let catalog = Catalog::new(alloc);
-    let mut reader = TextReader::new(alloc, &catalog, Limits::usual())
-        .map_err(|reason| Refusal { offset: 0, reason })?;
+    let mut reader = TextReader::new(alloc, &catalog, Limits::usual()).map_err(|reason| Refusal {
+        offset: 0,
+        reason,
+    })?;
     let step = reader.step(TEXT)?;
     Ok(step.value.is_some())
 }
