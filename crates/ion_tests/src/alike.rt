@@ -28,7 +28,10 @@ fn reader_behind<'a>(
     ensures taken { IfOk result (λ reader. ⟦<BinaryReader<'a> as Items>⟧.taken reader ≤ 100) }
 {
     let mut reader = BinaryReader::new(alloc, catalog, limits).map_err(|_| "no memory")?;
-    reader.step(front).map_err(|_| "a refused table")?;
+    let Ok(_) = reader.step(front) else {
+        drop(reader);
+        return Err("a refused table");
+    };
     Ok(reader)
 }
 
@@ -45,8 +48,14 @@ fn taken_up(
     }
     let catalog = Catalog::new(alloc);
     let mut reader = reader_behind(alloc, &catalog, Limits::usual(), &A_AND_B)?;
-    let mut other = reader_behind(alloc, &catalog, other_limits, &B_AND_A)?;
-    Ok(reader.pass_alike(octets, &mut other, other_octets))
+    let Ok(mut other) = reader_behind(alloc, &catalog, other_limits, &B_AND_A) else {
+        drop(reader);
+        return Err("no other reader");
+    };
+    let taken = reader.pass_alike(octets, &mut other, other_octets);
+    drop(other);
+    drop(reader);
+    Ok(taken)
 }
 
 /// Two values, and how many octets of each are taken up.

@@ -47,8 +47,9 @@ fn read_text(alloc: Global) -> Result<bool, Refusal> {
         offset: 0,
         reason,
     })?;
-    let step = reader.step(TEXT)?;
-    Ok(step.value.is_some())
+    let step = reader.step(TEXT).map(|step| step.value.is_some());
+    drop(reader);
+    step
 }
 
 const TEXT: &[u8] = b"a::{b:[\"c\",1.5,2007T,d],e:{{Zg==}}} ";
