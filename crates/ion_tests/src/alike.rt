@@ -1,6 +1,7 @@
 //! Values at the fronts of two documents whose symbol tables differ, taken up at once where they are the same.
 ghost use Rattle.std.specs.Prelude.{◌≤◌, length, IfOk};
 
+use crate::answers::same;
 use ion_binary::BinaryReader;
 use ion_symtab::{Catalog, Items, Limits};
 use std::alloc::Global;
@@ -22,15 +23,16 @@ fn reader_behind<'a>(
     catalog: &'a Catalog,
     limits: Limits,
     front: &[u8],
-) -> Result<BinaryReader<'a>, Fail>
+) -> Result<BinaryReader<'a>, &'static str>
     requires front { length front.now ≤ 100 }
     ensures taken { IfOk result (λ reader. ⟦<BinaryReader<'a> as Items>⟧.taken reader ≤ 100) }
 {
-    let mut reader = BinaryReader::new(alloc, catalog, limits)?;
-    match reader.step(front) {
-        Ok(_) => Ok(reader),
-        Err(_) => Err("a refused table".into()),
-    }
+    let mut reader = BinaryReader::new(alloc, catalog, limits).map_err(|_| "no memory")?;
+    let Ok(_) = reader.step(front) else {
+        drop(reader);
+        return Err("a refused table");
+    };
+    Ok(reader)
 }
 
 /// What is taken up of two values, the first behind a table of `a` and `b`, the other behind one of `b`
@@ -40,14 +42,20 @@ fn taken_up(
     octets: &[u8],
     other_octets: &[u8],
     other_limits: Limits,
-) -> Result<Option<(usize, usize)>, Fail> {
+) -> Result<Option<(usize, usize)>, &'static str> {
     if octets.len() > 100 || other_octets.len() > 100 {
-        return Err("a long row".into());
+        return Err("a long row");
     }
     let catalog = Catalog::new(alloc);
     let mut reader = reader_behind(alloc, &catalog, Limits::usual(), &A_AND_B)?;
-    let mut other = reader_behind(alloc, &catalog, other_limits, &B_AND_A)?;
-    Ok(reader.pass_alike(octets, &mut other, other_octets))
+    let Ok(mut other) = reader_behind(alloc, &catalog, other_limits, &B_AND_A) else {
+        drop(reader);
+        return Err("no other reader");
+    };
+    let taken = reader.pass_alike(octets, &mut other, other_octets);
+    drop(other);
+    drop(reader);
+    Ok(taken)
 }
 
 /// Two values, and how many octets of each are taken up.
@@ -100,24 +108,30 @@ fn same_values(rt: HostRuntime) -> Result<(), Fail> {
     for row in &ROWS {
         let (octets, other_octets, taken) = *row;
         let found = taken_up(rt.alloc(), octets, other_octets, Limits::usual())?;
-        assert_eq!(rt; found, taken, "{row:?}");
+        same(&rt, row, &found, &taken);
     }
     Ok(())
 }
 
+/// Three lists.
+const LISTS: &[u8] = &[0xB4, 0xB3, 0xB2, 0x21, 5];
+
+/// A blob of 16 octets.
+const BLOB: &[u8] = &[0xAE, 0x8E, 0, 0, 0, 0, 0, 0, 0, 0, 0, 0, 0, 0, 0, 0];
+
 #[test]
 fn limits_of_the_other_side(rt: HostRuntime) -> Result<(), Fail> {
-    // three lists, and 16 octets
-    let lists = [0xB4, 0xB3, 0xB2, 0x21, 5];
-    let blob = [0xAE, 0x8E, 0, 0, 0, 0, 0, 0, 0, 0, 0, 0, 0, 0, 0, 0];
-    for (depth, item, three, sixteen) in [
-        (3, 16, Some((5, 5)), Some((16, 16))),
-        (2, 16, None, Some((16, 16))),
-        (3, 15, Some((5, 5)), None),
+    for (depth, item, octets, taken) in [
+        (3, 16, LISTS, Some((5, 5))),
+        (3, 16, BLOB, Some((16, 16))),
+        (2, 16, LISTS, None),
+        (2, 16, BLOB, Some((16, 16))),
+        (3, 15, LISTS, Some((5, 5))),
+        (3, 15, BLOB, None),
     ] {
         let limits = Limits::new(depth, item, 1).ok_or("limits")?;
-        assert_eq!(rt; taken_up(rt.alloc(), &lists, &lists, limits)?, three);
-        assert_eq!(rt; taken_up(rt.alloc(), &blob, &blob, limits)?, sixteen);
+        let found = taken_up(rt.alloc(), octets, octets, limits)?;
+        same(&rt, &(depth, item, octets), &found, &taken);
     }
     Ok(())
 }

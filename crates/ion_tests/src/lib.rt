@@ -5,6 +5,8 @@
 #[cfg(test)]
 mod alike;
 #[cfg(test)]
+mod answers;
+#[cfg(test)]
 mod devices;
 #[cfg(test)]
 mod documents;

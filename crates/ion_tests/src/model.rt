@@ -1,41 +1,50 @@
 //! Symbols, an empty path, the names and numbers of kinds and reasons, and values as keys of sets.
+use crate::answers::{holds, same};
 use ion_model::{
     Decimal, Field, Kind, Local, Path, Payload, Precision, Reason, Sequence, Symbol, Timestamp,
     Value,
 };
-use std::alloc::Global;
+use std::alloc::{AllocError, Global};
 use std::collections::{BTreeSet, HashSet};
 use std::hash::Hash;
 use std::test::Fail;
 
 #[test]
 fn symbols(rt: HostRuntime) -> Result<(), Fail> {
-    let alloc = rt.alloc();
-    let name = Symbol::known(alloc, "name")?;
+    let name = Symbol::known(rt.alloc(), "name")?;
     let copy = name.copy()?;
-    assert_eq!(rt; copy.text(), Some("name"));
-    assert!(rt; copy.same(&name));
-    assert!(rt; !name.same(&Symbol::unknown()));
-    assert!(rt; !Symbol::known(alloc, "")?.same(&Symbol::unknown()));
+    same(&rt, &"the copy", &copy.text(), &Some("name"));
+    holds(&rt, "the copy is the same", copy.same(&name));
+    Ok(())
+}
+
+/// Neither a name nor the empty text is the unknown symbol.
+#[test]
+fn the_unknown_symbol(rt: HostRuntime) -> Result<(), Fail> {
+    for text in ["name", ""] {
+        let known = Symbol::known(rt.alloc(), text)?;
+        let found = known.same(&Symbol::unknown());
+        same(&rt, &text, &found, &false);
+    }
     Ok(())
 }
 
 #[test]
-fn an_empty_path_has_no_parts(rt: HostRuntime) -> Result<(), Fail> {
-    assert_eq!(rt; Path::empty(rt.alloc()).parts().len(), 0);
-    Ok(())
+fn an_empty_path_has_no_parts(rt: HostRuntime) {
+    let count = Path::empty(rt.alloc()).parts().len();
+    same(&rt, &"parts", &count, &0);
 }
 
 #[test]
-fn words(rt: HostRuntime) -> Result<(), Fail> {
+fn words(rt: HostRuntime) {
     for (reason, number, name) in [
         (Reason::Memory, 1, "Memory"),
         (Reason::Float, 5, "Float"),
         (Reason::Depth, 19, "Depth"),
         (Reason::KeywordAsName, 22, "KeywordAsName"),
     ] {
-        assert_eq!(rt; reason.number(), number, "the number of {name}");
-        assert_eq!(rt; reason.name(), name);
+        let found = (reason.number(), reason.name());
+        same(&rt, &name, &found, &(number, name));
     }
     for (kind, name) in [
         (Kind::Null, "null"),
@@ -43,9 +52,8 @@ fn words(rt: HostRuntime) -> Result<(), Fail> {
         (Kind::Sexp, "sexp"),
         (Kind::Fields, "struct"),
     ] {
-        assert_eq!(rt; kind.name(), name);
+        same(&rt, &kind, &kind.name(), &name);
     }
-    Ok(())
 }
 
 /// A struct whose one field is ten to this power.
@@ -59,21 +67,28 @@ fn power(alloc: Global, exponent: i32) -> Result<Value, Fail> {
     Ok(Value::bare(alloc, Payload::Fields(fields)))
 }
 
+/// Whether a hashed set of the one key has the equal key too, and not the other.
+fn hashes<K: Ord + Hash>(alloc: Global, one: &K, equal: &K, other: &K) -> Result<bool, AllocError> {
+    let mut keys = HashSet::new(alloc);
+    keys.insert(one)?;
+    Ok(keys.contains(&equal) && !keys.contains(&other))
+}
+
+/// The same of a sorted set.
+fn sorts<K: Ord>(alloc: Global, one: &K, equal: &K, other: &K) -> Result<bool, AllocError> {
+    let mut keys = BTreeSet::new(alloc);
+    keys.insert(one)?;
+    Ok(keys.contains(&equal) && !keys.contains(&other))
+}
+
 /// Whether sets of the one key have the equal key too, and not the other.
-fn finds<K: Ord + Hash>(alloc: Global, one: &K, equal: &K, other: &K) -> Result<bool, Fail> {
-    let mut hashed = HashSet::new(alloc);
-    hashed.insert(one)?;
-    let mut sorted = BTreeSet::new(alloc);
-    sorted.insert(one)?;
-    let found = hashed.contains(&equal) && sorted.contains(&equal);
-    Ok(found && !hashed.contains(&other) && !sorted.contains(&other))
+fn finds<K: Ord + Hash>(alloc: Global, one: &K, equal: &K, other: &K) -> Result<bool, AllocError> {
+    Ok(hashes(alloc, one, equal, other)? && sorts(alloc, one, equal, other)?)
 }
 
 #[test]
-fn keys_of_sets(rt: HostRuntime) -> Result<(), Fail> {
-    let alloc = rt.alloc();
+fn scalars_as_keys(rt: HostRuntime) -> Result<(), Fail> {
     let (one, tenth) = (Decimal::new(false, 1, 0), Decimal::new(false, 1, -1));
-    assert!(rt; finds(alloc, &one, &one, &tenth)?);
     let noon = Local {
         year: 2024,
         month: 2,
@@ -85,10 +100,26 @@ fn keys_of_sets(rt: HostRuntime) -> Result<(), Fail> {
     };
     let unknown = Timestamp::new(noon, Precision::Minute, None);
     let utc = Timestamp::new(noon, Precision::Minute, Some(0));
-    assert!(rt; finds(alloc, &utc, &utc, &unknown)?);
-    let one = power(alloc, 2)?;
-    let equal = power(alloc, 2)?;
-    let other = power(alloc, 3)?;
-    assert!(rt; finds(alloc, &one, &equal, &other)?);
+    holds(&rt, "decimals", finds(rt.alloc(), &one, &one, &tenth)?);
+    holds(&rt, "timestamps", finds(rt.alloc(), &utc, &utc, &unknown)?);
+    Ok(())
+}
+
+/// Structs whose one fields are ten to these powers.
+fn powers(alloc: Global, exponents: [i32; 3]) -> Result<Vec<Value>, Fail> {
+    let mut values = Vec::new(alloc);
+    for exponent in exponents {
+        values.push(power(alloc, exponent)?)?;
+    }
+    Ok(values)
+}
+
+#[test]
+fn values_as_keys(rt: HostRuntime) -> Result<(), Fail> {
+    let powers = powers(rt.alloc(), [2, 2, 3])?;
+    let [one, equal, other] = powers.as_slice() else {
+        return Err("no powers".into());
+    };
+    holds(&rt, "structs", finds(rt.alloc(), one, equal, other)?);
     Ok(())
 }

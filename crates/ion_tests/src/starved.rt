@@ -3,14 +3,16 @@
 mod tables;
 mod values;
 
+use crate::answers::{same, same_or_starved};
 use ion_binary::{BinaryReader, BinaryWriter};
 use ion_model::{Reason, Refusal, Value};
-use ion_symtab::{Catalog, Fault, Items, Limits, Step, ToWrite};
+use ion_symtab::{Catalog, Fault, Items, Limits, ToWrite};
 use ion_text::{TextReader, TextWriter};
 use std::alloc::Global;
 use std::io;
 use std::io::Write;
 use std::process::Abort;
+use tables::value;
 
 /// A device that counts the octets that it takes, and so takes no memory.
 #[derive(Drop)]
@@ -30,84 +32,99 @@ impl Write for Counting {
 }
 
 /// A value; or want of memory, at which no octet was used.
-fn gives(rt: &impl Abort, answer: &Result<Step, Refusal>) {
-    match answer {
-        Ok(step) => assert!(rt; step.value.is_some()),
-        Err(refusal) => {
-            assert_eq!(rt; refusal.reason, Reason::Memory);
-            assert_eq!(rt; refusal.offset, 0);
-        }
-    }
+fn gives(rt: &impl Abort, step: &Result<bool, Refusal>) {
+    let starved = Refusal {
+        offset: 0,
+        reason: Reason::Memory,
+    };
+    same_or_starved(rt, &"a value", step, &true, &starved);
 }
 
-fn read_text(alloc: Global) -> Result<Step, Refusal> {
+/// Whether a step over a text gives a value.
+fn read_text(alloc: Global) -> Result<bool, Refusal> {
     let catalog = Catalog::new(alloc);
-    match TextReader::new(alloc, &catalog, Limits::usual()) {
-        Ok(mut reader) => reader.step(b"a::{b:[\"c\",1.5,2007T,d],e:{{Zg==}}} "),
-        Err(reason) => Err(Refusal { offset: 0, reason }),
-    }
+    let mut reader = TextReader::new(alloc, &catalog, Limits::usual()).map_err(|reason| Refusal {
+        offset: 0,
+        reason,
+    })?;
+    let step = reader.step(TEXT).map(|step| step.value.is_some());
+    drop(reader);
+    step
 }
+
+const TEXT: &[u8] = b"a::{b:[\"c\",1.5,2007T,d],e:{{Zg==}}} ";
 
 /// A table of the symbol `a`, and `[a,"$ion"]`.
-fn reads_binary(rt: &impl Abort, alloc: Global) -> Result<(), Reason> {
+const BINARY: [u8; 20] = [
+    0xE0, 1, 0, 0xEA, 0xE7, 0x81, 0x83, 0xD4, 0x87, 0xB2, 0x81, b'a', 0xB7, 0x71, 10, 0x84, b'$',
+    b'i', b'o', b'n',
+];
+
+/// Whether a step gives a value, and what the end refuses.
+fn read_binary(alloc: Global) -> Result<(Result<bool, Refusal>, Option<Refusal>), Reason> {
     let catalog = Catalog::new(alloc);
     let mut reader = BinaryReader::new(alloc, &catalog, Limits::usual())?;
-    let answer = reader.step(&[
-        0xE0, 1, 0, 0xEA, 0xE7, 0x81, 0x83, 0xD4, 0x87, 0xB2, 0x81, b'a', 0xB7, 0x71, 10, 0x84,
-        b'$', b'i', b'o', b'n',
-    ]);
-    gives(rt, &answer);
-    if let Err(refusal) = answer {
-        assert_eq!(rt; reader.finish().err(), Some(refusal));
-    }
-    Ok(())
+    let step = reader.step(&BINARY).map(|step| step.value.is_some());
+    Ok((step, reader.finish().err()))
 }
 
 #[test]
 fn starved_readers(rt: HostRuntime) {
     gives(&rt, &read_text(rt.alloc()));
-    if let Err(reason) = reads_binary(&rt, rt.alloc()) {
-        assert_eq!(rt; reason, Reason::Memory);
+    match read_binary(rt.alloc()) {
+        Ok((step, end)) => {
+            gives(&rt, &step);
+            same(&rt, &"end", &end, &step.err());
+        }
+        Err(reason) => same(&rt, &"binary", &reason, &Reason::Memory),
     }
 }
 
-/// Without memory nothing goes out, and each later call answers the same.
-fn puts_text(rt: &impl Abort, alloc: Global, value: &Value) {
+/// What a put answers, what it answers again if it was refused, and what the end answers.
+type Puts = [Result<(), Fault>; 3];
+
+/// A put is done or wants memory, and each later call answers the same.
+fn stays(rt: &impl Abort, puts: Puts) {
+    same_or_starved(rt, &"put", &puts[0], &(), &Fault::Memory);
+    same(rt, &"again", &puts, &[puts[0]; 3]);
+}
+
+/// Puts a value as text; whether octets went out, too.
+fn puts_text(alloc: Global, value: &Value) -> (Puts, bool) {
     let mut out = ToWrite::new(Counting { taken: 0 });
     let mut writer = TextWriter::new(alloc);
-    let answer = writer.put(&mut out, value);
-    if let Err(fault) = answer {
-        assert_eq!(rt; fault, Fault::Memory);
-        assert_eq!(rt; writer.put(&mut out, value), answer);
-    }
-    assert_eq!(rt; writer.finish(&mut out), answer);
-    assert_eq!(rt; out.into_inner().taken > 0, answer.is_ok());
+    let put = writer.put(&mut out, value);
+    let again = match put {
+        Ok(()) => put,
+        Err(_) => writer.put(&mut out, value),
+    };
+    let end = writer.finish(&mut out);
+    ([put, again, end], out.into_inner().taken > 0)
 }
 
-fn puts_binary(rt: &impl Abort, alloc: Global, value: &Value) -> Result<(), Fault> {
+/// Puts a value in binary.
+fn puts_binary(alloc: Global, value: &Value) -> Result<Puts, Fault> {
     let mut out = ToWrite::new(Counting { taken: 0 });
     let mut writer = BinaryWriter::new(alloc)?;
-    let answer = writer.put(&mut out, value);
-    if let Err(fault) = answer {
-        assert_eq!(rt; fault, Fault::Memory);
-        assert_eq!(rt; writer.put(&mut out, value), answer);
-    }
-    assert_eq!(rt; writer.finish(&mut out), answer);
-    Ok(())
+    let put = writer.put(&mut out, value);
+    let again = match put {
+        Ok(()) => put,
+        Err(_) => writer.put(&mut out, value),
+    };
+    Ok([put, again, writer.finish(&mut out)])
 }
 
+/// Without memory nothing goes out as text.
 #[test]
 fn starved_writers(rt: HostRuntime) {
-    if let Ok(
-        Step {
-            used: _,
-            value: Some(value),
-        },
-    ) = read_text(rt.alloc())
-    {
-        puts_text(&rt, rt.alloc(), &value);
-        if let Err(fault) = puts_binary(&rt, rt.alloc(), &value) {
-            assert_eq!(rt; fault, Fault::Memory);
-        }
+    let Ok(value) = value(rt.alloc(), TEXT) else {
+        return;
+    };
+    let (puts, went_out) = puts_text(rt.alloc(), &value);
+    stays(&rt, puts);
+    same(&rt, &"octets", &went_out, &puts[0].is_ok());
+    match puts_binary(rt.alloc(), &value) {
+        Ok(puts) => stays(&rt, puts),
+        Err(fault) => same(&rt, &"binary", &fault, &Fault::Memory),
     }
 }

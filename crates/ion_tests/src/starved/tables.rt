@@ -9,7 +9,9 @@ use std::alloc::Global;
 pub(crate) fn value(alloc: Global, text: &[u8]) -> Result<Value, Reason> {
     let catalog = Catalog::new(alloc);
     let mut reader = TextReader::new(alloc, &catalog, Limits::usual())?;
-    match reader.step(text) {
+    let step = reader.step(text);
+    drop(reader);
+    match step {
         Ok(step) => step.value.ok_or(Reason::Incomplete),
         Err(refusal) => Err(refusal.reason),
     }

@@ -1,18 +1,12 @@
 //! Calls that get no memory once: each gives its own answer or `Memory`, keeps what it says that it keeps, and asked
 //! again gives its own answer. `tests/starved.py` refuses each growth in turn; elsewhere none is refused.
 use super::tables::{catalog, local, value};
-use ion_model::{Reason, equivalent, normalise, parting, same_slow};
+use crate::answers::{holds, same, same_or_starved};
+use ion_model::{Reason, Value, equivalent, normalise, parting, same_slow};
 use ion_scalar::{Number, number_of, put_decimal, put_number, put_timestamp};
-use ion_symtab::{Context, SharedTable};
+use ion_symtab::{Catalog, Context, SharedTable};
 use std::alloc::Global;
 use std::process::Abort;
-
-/// What is refused is so for want of memory.
-fn accepts(rt: &impl Abort, answer: Result<(), Reason>) {
-    if let Err(reason) = answer {
-        assert_eq!(rt; reason, Reason::Memory);
-    }
-}
 
 /// Appends a number as text, or a decimal or timestamp as its binary body.
 fn put(number: &Number, as_text: bool, out: &mut Vec<u8>) -> Result<(), Reason> {
@@ -20,6 +14,15 @@ fn put(number: &Number, as_text: bool, out: &mut Vec<u8>) -> Result<(), Reason> 
         Number::Decimal(decimal) if !as_text => put_decimal(*decimal, out),
         Number::Timestamp(timestamp) if !as_text => put_timestamp(*timestamp, out),
         _ => put_number(number, out),
+    }
+}
+
+/// Appends a number, or nothing where memory is wanted, and then the number.
+fn put_at_last(rt: &impl Abort, number: &Number, as_text: bool, out: &mut Vec<u8>) {
+    if let Err(reason) = put(number, as_text, out) {
+        let refused = (reason, out.is_empty());
+        same(rt, &"refused", &refused, &(Reason::Memory, true));
+        same(rt, &"again", &put(number, as_text, out), &Ok(()));
     }
 }
 
@@ -35,20 +38,34 @@ fn starved_scalars(rt: HostRuntime) {
     for (token, as_text, wanted) in rows {
         let mut out = Vec::new(rt.alloc());
         if let Ok(number) = number_of(token.as_bytes()) {
-            if let Err(reason) = put(&number, as_text, &mut out) {
-                assert_eq!(rt; reason, Reason::Memory);
-                assert!(rt; out.is_empty());
-                assert_eq!(rt; put(&number, as_text, &mut out), Ok(()));
-            }
+            put_at_last(&rt, &number, as_text, &mut out);
         }
-        assert_eq!(rt; out.as_slice(), wanted, "{token}");
+        same(&rt, &token, &out.as_slice(), &wanted);
     }
 }
 
 /// The shared table t 1 of x.
 const SHARED: &[u8] = b"$ion_shared_symbol_table::{name:\"t\",version:1,symbols:[\"x\"]}";
 
-/// A context takes up a table that imports, and one that appends. One that is refused leaves it as it was.
+/// A context takes up a table; or it is as it was, and takes it up then.
+fn apply_at_last(
+    rt: &impl Abort,
+    context: &mut Context,
+    table: &Value,
+    tables: &Catalog,
+) -> Result<(), Reason> {
+    let before = context.max_id();
+    if table.is_table()
+        && let Err(reason) = context.apply(table, tables)
+    {
+        let refused = (reason, context.max_id());
+        same(rt, &"refused", &refused, &(Reason::Memory, before));
+        context.apply(table, tables)?;
+    }
+    Ok(())
+}
+
+/// A context takes up a table that imports, and one that appends.
 fn applies(rt: &impl Abort, alloc: Global) -> Result<(), Reason> {
     let tables = catalog(alloc, SHARED)?;
     let mut context = Context::system(alloc)?;
@@ -57,61 +74,75 @@ fn applies(rt: &impl Abort, alloc: Global) -> Result<(), Reason> {
         b"{imports:$ion_symbol_table,symbols:[\"a\",\"b\"]}",
     ];
     for text in texts {
-        let table = local(alloc, text)?;
-        let before = context.max_id();
-        if table.is_table()
-            && let Err(reason) = context.apply(&table, &tables)
-        {
-            assert_eq!(rt; reason, Reason::Memory);
-            assert_eq!(rt; context.max_id(), before);
-            context.apply(&table, &tables)?;
-        }
+        apply_at_last(rt, &mut context, &local(alloc, text)?, &tables)?;
     }
-    assert_eq!(rt; context.max_id(), 12);
-    assert_eq!(rt; context.resolve(10)?.text(), Some("x"));
-    assert_eq!(rt; context.resolve(12)?.text(), Some("b"));
+    same(rt, &"greatest id", &context.max_id(), &12);
+    for (id, text) in [(10, "x"), (12, "b")] {
+        let symbol = context.resolve(id)?;
+        same(rt, &id, &symbol.text(), &Some(text));
+    }
     Ok(())
 }
 
-/// A catalog takes a table, or hands it back and is as it was.
-fn takes_tables(rt: &impl Abort, alloc: Global) -> Result<(), Reason> {
-    let mut tables = catalog(alloc, SHARED)?;
+/// The shared table u 1 of y.
+fn table_of_y(alloc: Global) -> Result<SharedTable, Reason> {
     let mut symbols = Vec::new(alloc);
     symbols.push(Some(String::from_str(alloc, "y")?))?;
-    let added = SharedTable::new(alloc, String::from_str(alloc, "u")?, 1, symbols)?;
+    SharedTable::new(alloc, String::from_str(alloc, "u")?, 1, symbols)
+}
+
+/// A catalog takes a table; or it hands it back and is as it was, and takes it then.
+fn add_at_last(rt: &impl Abort, tables: &mut Catalog, added: SharedTable) {
     if let Err((table, reason)) = tables.add(added) {
-        assert_eq!(rt; reason, Reason::Memory);
-        assert!(rt; tables.find("u", 1).is_none());
-        assert!(rt; tables.add(table).is_ok());
+        let refused = (reason, tables.find("u", 1).is_none());
+        same(rt, &"refused", &refused, &(Reason::Memory, true));
+        holds(rt, "it takes the table then", tables.add(table).is_ok());
     }
-    assert!(rt; tables.find("u", 1).is_some());
-    assert!(rt; tables.find("t", 1).is_some());
+}
+
+/// A catalog takes a table beside another.
+fn takes_tables(rt: &impl Abort, alloc: Global) -> Result<(), Reason> {
+    let mut tables = catalog(alloc, SHARED)?;
+    add_at_last(rt, &mut tables, table_of_y(alloc)?);
+    for name in ["u", "t"] {
+        holds(rt, name, tables.find(name, 1).is_some());
+    }
     Ok(())
 }
 
 #[test]
 fn starved_tables(rt: HostRuntime) {
-    accepts(&rt, applies(&rt, rt.alloc()));
-    accepts(&rt, takes_tables(&rt, rt.alloc()));
+    let applied = applies(&rt, rt.alloc());
+    same_or_starved(&rt, &"context", &applied, &(), &Reason::Memory);
+    let taken = takes_tables(&rt, rt.alloc());
+    same_or_starved(&rt, &"catalog", &taken, &(), &Reason::Memory);
+}
+
+/// The normal form of a value; or the value as it was.
+fn normal_or_back(rt: &impl Abort, alloc: Global, value: &Value) -> Result<Value, Reason> {
+    let normalised = normalise(alloc, value.copy(alloc)?);
+    let (back, reason) = match normalised {
+        Ok(normal) => return Ok(normal),
+        Err(refused) => refused,
+    };
+    let refused = (reason, same_slow(&back, value));
+    same(rt, &"refused", &refused, &(Reason::Memory, true));
+    Ok(back)
 }
 
 /// `{b:2,a:{x:1,y:2},a:0}`, its copy and its normal form are equivalent, and no path leads to where they part.
 fn normalises(rt: &impl Abort, alloc: Global) -> Result<(), Reason> {
     let value = value(alloc, b"{b:2,a:{x:1,y:2},a:0}")?;
-    let normal = match normalise(alloc, value.copy(alloc)?) {
-        Ok(normal) => normal,
-        Err((back, reason)) => {
-            assert_eq!(rt; reason, Reason::Memory);
-            assert!(rt; same_slow(&back, &value));
-            back
-        }
-    };
-    assert!(rt; equivalent(alloc, &normal, &value)?);
-    assert!(rt; parting(alloc, &normal, &value)?.is_none());
+    let normal = normal_or_back(rt, alloc, &value)?;
+    let same_value = equivalent(alloc, &normal, &value)?;
+    holds(rt, "equivalent", same_value);
+    let path = parting(alloc, &normal, &value)?;
+    holds(rt, "no path", path.is_none());
     Ok(())
 }
 
 #[test]
 fn starved_values(rt: HostRuntime) {
-    accepts(&rt, normalises(&rt, rt.alloc()));
+    let normalised = normalises(&rt, rt.alloc());
+    same_or_starved(&rt, &"normal", &normalised, &(), &Reason::Memory);
 }
