@@ -30,7 +30,7 @@ pub(crate) fn order_value(a: &Value, b: &Value) -> Ordering
     }
 }
 
-fn is_full(value: &Value) -> bool
+pub(crate) fn is_full(value: &Value) -> bool
     ensures { result ≡ (scalar (out-Payload value.now.payload)).full }
 {
     match &value.payload {

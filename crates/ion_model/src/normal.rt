@@ -7,11 +7,9 @@ ghost use Rattle.ion_model.specs.declared.value.Payload.TheViews.{out-Payload};
 ghost use Rattle.ion_model.specs.Normal.{IsNormal, LayerNormal, AllNormal, AllFieldsNormal, FieldsInOrder};
 
 use crate::compare::order_field;
-use crate::sequence::Sequence;
 use crate::value::{Field, Payload, Value};
-use ion_atoms::{Kind, Reason};
+use ion_atoms::Reason;
 use std::alloc::{AllocError, Global};
-use std::mem;
 
 /// The normal form of a value: the fields of every struct in ascending order, inner levels first. It is
 /// equivalent to the value, and of two normal forms `order` is `Equal` just where the values are
@@ -34,34 +32,19 @@ fn tidy(alloc: Global, value: &mut Value) -> Result<(), AllocError>
     ensures same { same value.new value.old ≡ true }
     ensures normal { OnOk result (IsNormal value.new) }
 {
-    let payload = mem::replace(&mut value.payload, Payload::Null(Kind::Null));
-    let (payload, outcome) = tidy_payload(alloc, payload);
-    value.payload = payload;
-    outcome
+    tidy_payload(alloc, &mut value.payload)
 }
 
 #[cycle(tidy)]
-fn tidy_payload(alloc: Global, payload: Payload) -> (Payload, Result<(), AllocError>)
-    ensures same { layer_same same (out-Payload result.0) (out-Payload payload) ≡ true }
-    ensures normal { OnOk result.1 (LayerNormal (out-Payload result.0)) }
+fn tidy_payload(alloc: Global, payload: &mut Payload) -> Result<(), AllocError>
+    ensures same { layer_same same (out-Payload payload.new) (out-Payload payload.old) ≡ true }
+    ensures normal { OnOk result (LayerNormal (out-Payload payload.new)) }
 {
     match payload {
-        Payload::List(items) => {
-            let mut values = items.into_vec();
-            let outcome = tidy_values(alloc, &mut values);
-            (Payload::List(Sequence::from_vec(values)), outcome)
-        }
-        Payload::Sexp(items) => {
-            let mut values = items.into_vec();
-            let outcome = tidy_values(alloc, &mut values);
-            (Payload::Sexp(Sequence::from_vec(values)), outcome)
-        }
-        Payload::Fields(fields) => {
-            let mut rows = fields.into_vec();
-            let outcome = tidy_fields(alloc, &mut rows);
-            (Payload::Fields(Sequence::from_vec(rows)), outcome)
-        }
-        other => (other, Ok(())),
+        Payload::List(items) => tidy_values(alloc, &mut items.items),
+        Payload::Sexp(items) => tidy_values(alloc, &mut items.items),
+        Payload::Fields(fields) => tidy_fields(alloc, &mut fields.items),
+        _ => Ok(()),
     }
 }
 

@@ -8,7 +8,7 @@ use std::marker::Model;
 /// whatever their capacities.
 #[derive(Debug, Drop)]
 pub struct Sequence<T> {
-    items: Vec<T>,
+    pub(crate) items: Vec<T>,
 }
 
 impl<T> Model for Sequence<T> {

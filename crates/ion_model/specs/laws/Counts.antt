@@ -1,5 +1,5 @@
 -- Two lists in which each item stands as often, up to an equivalence E.
-use Rattle.std.proofs.Common.{◌≡◌, ℕ, ◌<◌, ◌+◌, zero, suc, List, [], ◌∷◌, length, get_or, Bool, true, false, ◌&&◌, cond, eqb, eq-eqb, refl, arith, ap, ◌∙◌, sym, true≢false}
+use Rattle.std.proofs.Common.{◌≡◌, ℕ, ◌<◌, ◌+◌, zero, suc, List, [], ◌∷◌, length, get_or, Bool, true, false, ◌&&◌, cond, eqb, eq-eqb, refl, arith, ap, ◌∙◌, sym}
 use Rattle.std.specs.List.{list_all, count_by}
 use Rattle.std.specs.Cmp.{IsEquivalence}
 use Rattle.std.proofs.lemmas.List.Sums.{sum_by-cons}

@@ -1,11 +1,9 @@
 -- Parts of a payload that agree are equal, and so are parts that tie in the order.
-use Rattle.std.proofs.Common.{◌≡◌, ℕ, ℤ, ◌+◌, ◌<◌, zero, suc, length, get_or, List, [], ◌∷◌, Bool, true, false, ◌&&◌, Ordering, Less, Equal, Greater, Option, Some, None, nat_eq, refl, arith, ap, ◌∙◌, sym, subst, true≢false}
+use Rattle.std.proofs.Common.{◌≡◌, ℕ, ◌<◌, suc, length, get_or, List, [], ◌∷◌, Bool, true, Ordering, Equal, Option, Some, None, nat_eq, refl, arith, ap, sym, subst, true≢false}
 use Rattle.std.specs.Bool.{beq}
-use Rattle.std.specs.Cmp.{signed_Decides, booleans_Decides}
 use Rattle.std.specs.Cmp.Lexicographic.{slice_cmp}
-use Rattle.std.specs.Ordering.{ordering_then, is_eq, nat_cmp, int_cmp, int_eq, bool_cmp}
+use Rattle.std.specs.Ordering.{nat_cmp, int_cmp, int_eq, bool_cmp}
 use Rattle.std.proofs.lemmas.Bool.{eqb-true}
-use Rattle.std.proofs.lemmas.Bool.Decides.{nat_tests}
 use Rattle.std.proofs.lemmas.Cmp.{tied_itself}
 use Rattle.std.proofs.lemmas.Slice.Eq.{bytes_eq-Decides}
 use lib.Pointwise.{pointwise}

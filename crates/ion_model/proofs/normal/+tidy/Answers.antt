@@ -1,4 +1,4 @@
-use Rattle.std.proofs.Common.{◌<◌, length, arith, sym, ◌∙◌, refl, length-set}
+use Rattle.std.proofs.Common.{◌<◌, length, arith, ◌∙◌, refl, length-set}
 use Rattle.std.proofs.lemmas.Result.{on_ok_weaker}
 use Rattle.std.proofs.lemmas.List.Sorted.{IsPermutation-refl, All-permutation}
 use Rattle.std.proofs.lemmas.Cmp.{lists_equiv}
@@ -12,14 +12,14 @@ use Rattle.ion_model.specs.laws.Equivalence.{same-equiv, field_same-equiv, symbo
 use Rattle.ion_model.proofs.NormalLaws.{normal_from, same_with, fields_moved, walked, later_more, done_more, always_ok}
 use Rattle.ion_model.proofs.normal.+tidy.Goals as goal
 
-pub tidy-tidy_payload-payload-requires : goal.tidy-tidy_payload-payload-requires
-tidy-tidy_payload-payload-requires t c = (omega (arith, c.decreases, depth-at c.args.value.now _ (sym c.replace-payload.ensures.value)), tt)
+pub tidy-tidy_payload-requires : goal.tidy-tidy_payload-requires
+tidy-tidy_payload-requires t c = (omega (arith, c.decreases, depth-at c.args.value.now _ refl), tt)
 
 pub tidy-returns-clause-same : goal.tidy-returns-clause-same
-tidy-returns-clause-same t c = same_with c.args.value.now c.tidy_payload-payload.result.0 c.replace-payload.result c.replace-payload.ensures.value c.tidy_payload-payload.ensures.same
+tidy-returns-clause-same t c = same_with c.args.value.now c.tidy_payload.new.payload c.args.value.now.payload refl c.tidy_payload.ensures.same
 
 pub tidy-returns-clause-normal : goal.tidy-returns-clause-normal
-tidy-returns-clause-normal t c = on_ok_weaker _ (normal_from _) c.tidy_payload-payload.ensures.normal
+tidy-returns-clause-normal t c = on_ok_weaker _ (normal_from _) c.tidy_payload.ensures.normal
 
 pub tidy_fields-returns-in_err-tidy_rows-clause-same : goal.tidy_fields-returns-in_err-tidy_rows-clause-same
 tidy_fields-returns-in_err-tidy_rows-clause-same t c = fields_moved c.args.rows.now.items c.tidy_rows.new.rows.items _ c.in_err-tidy_rows.ensures.same (IsPermutation-refl c.tidy_rows.new.rows.items)

@@ -13,7 +13,7 @@ abbrev pub decreases-tidy : goal.decreases-tidy
 decreases-tidy l = 4 * depth l.value.now + 1
 
 abbrev pub decreases-tidy_payload : goal.decreases-tidy_payload
-decreases-tidy_payload l = 4 * layer_depth (out-Payload l.payload)
+decreases-tidy_payload l = 4 * layer_depth (out-Payload l.payload.now)
 
 abbrev pub decreases-tidy_fields : goal.decreases-tidy_fields
 decreases-tidy_fields l = 4 * greatest (map (λ f. depth f.value) l.rows.now.items) + 3
