@@ -11,6 +11,14 @@ use ion_scalar::{decimal_of, timestamp_of, uint_of};
 use ion_symtab::Context;
 use std::alloc::Global;
 
+/// Puts a value in the place of another. What is let go is let go here alone, of whatever type.
+#[inline(always)]
+pub(crate) fn put<T: Drop>(slot: &mut T, value: T)
+    ensures { slot.new ≡ value }
+{
+    *slot = value;
+}
+
 /// Whether a body is this scalar, which the slot then holds (Ion 1.0, "Ion Binary Encoding", typed value
 /// formats). `false` also for want of memory.
 #[inline(always)]
@@ -82,7 +90,7 @@ fn put_int(body: &[u8], slot: &mut Payload) -> bool
     let Some(whole) = whole_of(false, magnitude) else {
         return false;
     };
-    *slot = Payload::Int(whole);
+    put(slot, Payload::Int(whole));
     true
 }
 
@@ -99,7 +107,7 @@ fn put_negative(body: &[u8], slot: &mut Payload) -> bool
     let Some(whole) = whole_of(true, magnitude) else {
         return false;
     };
-    *slot = Payload::Int(whole);
+    put(slot, Payload::Int(whole));
     true
 }
 
@@ -110,7 +118,7 @@ fn put_decimal(body: &[u8], slot: &mut Payload) -> bool
     let Ok(decimal) = decimal_of(body) else {
         return false;
     };
-    *slot = Payload::Decimal(decimal);
+    put(slot, Payload::Decimal(decimal));
     true
 }
 
@@ -121,7 +129,7 @@ fn put_timestamp(body: &[u8], slot: &mut Payload) -> bool
     let Ok(timestamp) = timestamp_of(body) else {
         return false;
     };
-    *slot = Payload::Timestamp(timestamp);
+    put(slot, Payload::Timestamp(timestamp));
     true
 }
 
@@ -135,7 +143,7 @@ fn put_symbol(context: &Context, body: &[u8], slot: &mut Payload) -> bool
     let Ok(symbol) = context.resolve(id) else {
         return false;
     };
-    *slot = Payload::Symbol(symbol);
+    put(slot, Payload::Symbol(symbol));
     true
 }
 
@@ -151,7 +159,7 @@ fn put_text(alloc: Global, body: &[u8], slot: &mut Payload) -> bool
     };
     // checked just now
     let text = unsafe { String::from_utf8_unchecked(octets) };
-    *slot = Payload::Str(Text::from_string(text));
+    put(slot, Payload::Str(Text::from_string(text)));
     true
 }
 
@@ -162,7 +170,7 @@ fn put_clob(alloc: Global, body: &[u8], slot: &mut Payload) -> bool
     let Ok(octets) = Vec::from_slice(alloc, body) else {
         return false;
     };
-    *slot = Payload::Clob(Bytes::from_vec(octets));
+    put(slot, Payload::Clob(Bytes::from_vec(octets)));
     true
 }
 
@@ -173,6 +181,6 @@ fn put_blob(alloc: Global, body: &[u8], slot: &mut Payload) -> bool
     let Ok(octets) = Vec::from_slice(alloc, body) else {
         return false;
     };
-    *slot = Payload::Blob(Bytes::from_vec(octets));
+    put(slot, Payload::Blob(Bytes::from_vec(octets)));
     true
 }

@@ -329,13 +329,29 @@ fn put_number(context: &Context, scalar: Scalar, body: &[u8], out: &mut Vec<u8>)
     are_octets(body);
     let mut number = Payload::Null(Kind::Null);
     if !put_scalar(*out.allocator(), context, scalar, body, &mut number) {
+        drop(number);
         return None;
     }
-    match number {
-        Payload::Int(whole) => put_whole(whole, out).ok(),
-        Payload::Decimal(decimal) => put_decimal_value(decimal, out).ok(),
-        Payload::Timestamp(timestamp) => put_timestamp_value(timestamp, out).ok(),
-        _ => None,
+    match &number {
+        Payload::Int(whole) => {
+            let whole = *whole;
+            drop(number);
+            put_whole(whole, out).ok()
+        }
+        Payload::Decimal(decimal) => {
+            let decimal = *decimal;
+            drop(number);
+            put_decimal_value(decimal, out).ok()
+        }
+        Payload::Timestamp(timestamp) => {
+            let timestamp = *timestamp;
+            drop(number);
+            put_timestamp_value(timestamp, out).ok()
+        }
+        _ => {
+            drop(number);
+            None
+        }
     }
 }
 

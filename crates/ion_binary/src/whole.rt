@@ -1,14 +1,15 @@
 //! Values whose octets lie whole in memory. What is cut, refused or unusual isn't told here: the reader
 //! takes it up octet by octet.
-ghost use Rattle.std.specs.Prelude.{◌≡◌, ◌≤◌, ◌<◌, ◌+◌, ◌∷◌, true, length, take, [], get_or, IfSome};
+ghost use Rattle.std.specs.Prelude.{◌≡◌, ◌≤◌, ◌<◌, ◌+◌, ◌-◌, ◌∷◌, ◌++◌, true, length, take, [], get_or, IfSome};
 ghost use Rattle.ion_model.specs.Measures.{bare, depth};
 ghost use Rattle.ion_scalar.specs.binary.Fields.{VarUInt};
 ghost use Rattle.ion_binary.specs.Opening.{opening_of};
-ghost use Rattle.ion_binary.specs.Grammar.{listed, Ids, IsPad, Plain, Binary};
+ghost use Rattle.ion_binary.specs.Grammar.{listed, Ids, IsPad, Plain, Binary, Fields, Sequence as Items};
+ghost use Rattle.ion_binary.specs.laws.reading.Stands.{depths, field_depths};
 ghost use Rattle.ion_binary.specs.machine.Framed.{Heads, Framed, Wraps, IsListing, IsStruct};
 
 use crate::form::{Form, Listing, Opening, opening_of};
-use crate::slots::put_scalar;
+use crate::slots::{put, put_scalar};
 use ion_model::{Field, Kind, Payload, Sequence, Symbol, Value};
 use ion_scalar::{Size, read_var_uint};
 use ion_symtab::Context;
@@ -106,6 +107,14 @@ pub(crate) fn blank(alloc: Global) -> Value
     Value::bare(alloc, Payload::Null(Kind::Null))
 }
 
+/// Puts an item behind the others, where memory suffices.
+#[inline(always)]
+fn put_behind<T: Drop>(items: &mut Vec<T>, item: T) -> bool
+    ensures { result ≡ true → items.new.items ≡ items.old.items ++ item ∷ [] }
+{
+    items.push(item).is_ok()
+}
+
 /// A list or an s-expression of these items.
 pub(crate) fn listed(listing: Listing, items: Sequence<Value>) -> Payload
     ensures { result ≡ listed listing items }
@@ -192,7 +201,7 @@ fn wrapped(alloc: Global, context: &Context, body: &[u8], level: u32, slot: &mut
     let Some(symbols) = symbols_of(alloc, context, &body[used..stop]) else {
         return false;
     };
-    slot.annotations = Sequence::from_vec(symbols);
+    put(&mut slot.annotations, Sequence::from_vec(symbols));
     let inner = &body[stop..];
     match whole_payload(
         alloc,
@@ -226,11 +235,11 @@ fn whole_payload(
 {
     match opening {
         Opening::Null(kind) => {
-            *slot = Payload::Null(kind);
+            put(slot, Payload::Null(kind));
             Some(1)
         }
         Opening::Truth(truth) => {
-            *slot = Payload::Truth(truth);
+            put(slot, Payload::Truth(truth));
             Some(1)
         }
         Opening::Sized(form, size) => {
@@ -282,10 +291,33 @@ fn items(
     ensures value { result ≡ true → IsListing context.now listing body.now slot.new }
     ensures depth { result ≡ true → depth (bare slot.new) ≤ level }
 {
+    let mut values: Vec<Value> = Vec::new(alloc);
+    if gather_items(alloc, context, body, level, &mut values) {
+        put(slot, listed(listing, Sequence::from_vec(values)));
+        return true;
+    }
+    drop(values);
+    false
+}
+
+/// The same, where nothing was gathered yet: the items that it gathers.
+#[cycle(whole)]
+#[inline(always)]
+fn gather_items(
+    alloc: Global,
+    context: &Context,
+    body: &[u8],
+    level: u32,
+    values: &mut Vec<Value>,
+) -> bool
+    requires { values.old.items ≡ [] }
+    ensures value { result ≡ true → Items context.now body.now values.new.items }
+    ensures some { result ≡ true → 0 < level }
+    ensures depth { result ≡ true → depths values.new.items ≤ level - 1 }
+{
     if level == 0 {
         return false;
     }
-    let mut values: Vec<Value> = Vec::new(alloc);
     let mut at = 0;
     for _ in 0..body.len() {
         if at >= body.len() {
@@ -295,7 +327,7 @@ fn items(
             at += count;
             continue;
         }
-        if values.push(blank(alloc)).is_err() {
+        if !put_behind(values, blank(alloc)) {
             return false;
         }
         match values.last_mut() {
@@ -306,11 +338,7 @@ fn items(
             },
         }
     }
-    if at < body.len() {
-        return false;
-    }
-    *slot = listed(listing, Sequence::from_vec(values));
-    true
+    at >= body.len()
 }
 
 /// Whether these octets are fields one behind the other, as the slot then holds them: an id and its
@@ -321,10 +349,33 @@ fn fields(alloc: Global, context: &Context, body: &[u8], level: u32, slot: &mut 
     ensures value { result ≡ true → IsStruct context.now body.now slot.new }
     ensures depth { result ≡ true → depth (bare slot.new) ≤ level }
 {
+    let mut rows: Vec<Field> = Vec::new(alloc);
+    if gather_fields(alloc, context, body, level, &mut rows) {
+        put(slot, Payload::Fields(Sequence::from_vec(rows)));
+        return true;
+    }
+    drop(rows);
+    false
+}
+
+/// The same, where nothing was gathered yet: the fields that it gathers.
+#[cycle(whole)]
+#[inline(always)]
+fn gather_fields(
+    alloc: Global,
+    context: &Context,
+    body: &[u8],
+    level: u32,
+    rows: &mut Vec<Field>,
+) -> bool
+    requires { rows.old.items ≡ [] }
+    ensures value { result ≡ true → Fields context.now body.now rows.new.items }
+    ensures some { result ≡ true → 0 < level }
+    ensures depth { result ≡ true → field_depths rows.new.items ≤ level - 1 }
+{
     if level == 0 {
         return false;
     }
-    let mut rows: Vec<Field> = Vec::new(alloc);
     let mut at = 0;
     for _ in 0..body.len() {
         if at >= body.len() {
@@ -345,7 +396,7 @@ fn fields(alloc: Global, context: &Context, body: &[u8], level: u32, slot: &mut 
             name,
             value: blank(alloc),
         };
-        if rows.push(row).is_err() {
+        if !put_behind(rows, row) {
             return false;
         }
         match rows.last_mut() {
@@ -358,9 +409,5 @@ fn fields(alloc: Global, context: &Context, body: &[u8], level: u32, slot: &mut 
             }
         }
     }
-    if at < body.len() {
-        return false;
-    }
-    *slot = Payload::Fields(Sequence::from_vec(rows));
-    true
+    at >= body.len()
 }

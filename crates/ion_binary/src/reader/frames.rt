@@ -6,6 +6,7 @@ ghost use Rattle.ion_binary.specs.machine.Views.{setting_of, spot_of, open_frame
 
 use super::BinaryReader;
 use crate::form::Listing;
+use crate::slots::put;
 use crate::state::{Effect, Frame, Phase, Purpose};
 use crate::whole::listed;
 use ion_model::{Field, Payload, Reason, Sequence, Symbol, Value};
@@ -43,12 +44,18 @@ impl BinaryReader<'_> {
         self.start = self.used;
         self.phase = Phase::Ready;
         if !value.is_table() {
-            self.given = Some(value);
+            put(&mut self.given, Some(value));
             return Ok(Effect::Gives);
         }
         match self.context.apply(&value, self.catalog) {
-            Ok(()) => Ok(Effect::Goes),
-            Err(reason) => Err(reason),
+            Ok(()) => {
+                drop(value);
+                Ok(Effect::Goes)
+            }
+            Err(reason) => {
+                drop(value);
+                Err(reason)
+            }
         }
     }
 
@@ -69,12 +76,23 @@ impl BinaryReader<'_> {
                 listing,
                 items,
             } => self.put_item(end, listing, items, value),
-            Frame::Fields { .. } => Err(Reason::Malformed),
+            Frame::Fields { fields, .. } => {
+                drop(fields);
+                drop(value);
+                Err(Reason::Malformed)
+            }
             Frame::Named { end, fields, name } => self.put_field(end, fields, name, value),
-            Frame::Annotated { annotations, .. } => Ok(Some(Value {
-                annotations,
-                payload: value.payload,
-            })),
+            Frame::Annotated { annotations, .. } => {
+                let Value {
+                    annotations: none,
+                    payload,
+                } = value;
+                drop(none);
+                Ok(Some(Value {
+                    annotations,
+                    payload,
+                }))
+            }
         }
     }
 
@@ -96,7 +114,10 @@ impl BinaryReader<'_> {
         ensures setting { SameSetting self.old self.new }
     {
         let mut items = items;
-        items.push(item)?;
+        if let Err(_) = items.push(item) {
+            drop(items);
+            return Err(Reason::Memory);
+        }
         if self.used == end {
             return Ok(Some(Value::bare(self.alloc, listed(listing, items))));
         }
@@ -126,9 +147,19 @@ impl BinaryReader<'_> {
         ensures used { self.new.used ≡ self.old.used }
         ensures setting { SameSetting self.old self.new }
     {
-        let name = name?;
+        let name = match name {
+            Ok(name) => name,
+            Err(reason) => {
+                drop(fields);
+                drop(value);
+                return Err(reason);
+            }
+        };
         let mut fields = fields;
-        fields.push(Field { name, value })?;
+        if let Err(_) = fields.push(Field { name, value }) {
+            drop(fields);
+            return Err(Reason::Memory);
+        }
         if self.used == end {
             return Ok(Some(Value::bare(self.alloc, Payload::Fields(fields))));
         }
@@ -171,8 +202,14 @@ impl BinaryReader<'_> {
                 items,
             } => self.next_item(end, listing, items),
             Frame::Fields { end, fields } => self.next_field(end, fields),
-            Frame::Named { end, fields, .. } => self.next_field(end, fields),
-            Frame::Annotated { .. } => Err(Reason::Malformed),
+            Frame::Named { end, fields, name } => {
+                drop(name);
+                self.next_field(end, fields)
+            }
+            Frame::Annotated { annotations, .. } => {
+                drop(annotations);
+                Err(Reason::Malformed)
+            }
         }
     }
 

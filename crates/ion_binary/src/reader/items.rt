@@ -202,14 +202,18 @@ impl Items for BinaryReader<'_> {
     }
 
     fn finish(self) -> Result<Option<Value>, Refusal> {
-        if let Some(refusal) = self.failed {
+        let failed = self.failed;
+        let whole = self.is_whole();
+        let end = self.used;
+        drop(self);
+        if let Some(refusal) = failed {
             return Err(refusal);
         }
-        if self.is_whole() {
+        if whole {
             return Ok(None);
         }
         Err(Refusal {
-            offset: self.used,
+            offset: end,
             reason: Reason::Incomplete,
         })
     }

@@ -115,14 +115,21 @@ impl BinaryReader<'_> {
         ensures used { self.new.used ≡ self.old.used }
         ensures setting { SameSetting self.old self.new }
     {
-        let Frame::Fields { end, fields } = frame else {
-            return Err(Reason::Malformed);
+        let (end, fields) = match frame {
+            Frame::Fields { end, fields } => (end, fields),
+            other => {
+                drop(other);
+                return Err(Reason::Malformed);
+            }
         };
         if self.used >= end {
+            drop(fields);
             return Err(Reason::Malformed);
         }
         let name = self.context.resolve(id);
         if let Err(Reason::Memory) = name {
+            drop(name);
+            drop(fields);
             return Err(Reason::Memory);
         }
         self.frames.push(Frame::Named { end, fields, name })?;
@@ -178,16 +185,23 @@ impl BinaryReader<'_> {
         ensures used { self.new.used ≡ self.old.used }
         ensures setting { SameSetting self.old self.new }
     {
-        let Frame::Annotated {
-            end,
-            mut annotations,
-        } = frame
-        else {
-            return Err(Reason::Malformed);
+        let (end, mut annotations) = match frame {
+            Frame::Annotated { end, annotations } => (end, annotations),
+            other => {
+                drop(other);
+                return Err(Reason::Malformed);
+            }
         };
-        match self.context.resolve(id) {
-            Err(reason) => return Err(reason),
-            Ok(symbol) => annotations.push(symbol)?,
+        let symbol = match self.context.resolve(id) {
+            Ok(symbol) => symbol,
+            Err(reason) => {
+                drop(annotations);
+                return Err(reason);
+            }
+        };
+        if let Err(_) = annotations.push(symbol) {
+            drop(annotations);
+            return Err(Reason::Memory);
         }
         self.frames.push(Frame::Annotated { end, annotations })?;
         self.phase = if self.used == stop {

@@ -1,6 +1,6 @@
 use Rattle.std.proofs.lemmas.Grind.{common_steps}
 use Rattle.ion_binary.specs.declared.form.Opening.TheVariants.{Sized}
-use Rattle.std.proofs.Common.{rules, ℕ, length-take, length-drop, [], ◌∷◌, ◌++◌, Ok, ◌≡◌, ◌+◌, ◌-◌, ◌<◌, ◌≤◌, length, take, drop, ◌∙◌, ap, sym, subst, arith}
+use Rattle.std.proofs.Common.{ℕ, length-take, length-drop, [], ◌∷◌, ◌++◌, Ok, ◌≡◌, ◌+◌, ◌-◌, ◌<◌, ◌≤◌, length, take, drop, ◌∙◌, ap, sym, subst, arith, true}
 use Rattle.std.specs.Vec.{vec_len}
 use Rattle.ion_model.specs.Measures.{depth, bare, field_of}
 use Rattle.ion_model.specs.declared.value.Payload.TheVariants as payloads
@@ -37,48 +37,50 @@ whole_payload-returns-then-whole_body-clause-value t c =
 
 pub whole_payload-returns-in-Null-clause-value : goal.whole_payload-returns-in-Null-clause-value
 whole_payload-returns-in-Null-clause-value t c =
-    plain_null _ _ _ c.requires.some (sym c.requires.opens ∙ c.in-Null.is)
+    subst (λ p. Plain c.args.context.now (take 1 c.args.octets.now) p) (sym c.put.ensures) (plain_null _ _ _ c.requires.some (sym c.requires.opens ∙ c.in-Null.is))
 
 pub whole_payload-returns-in-Null-clause-depth : goal.whole_payload-returns-in-Null-clause-depth
-whole_payload-returns-in-Null-clause-depth t c = omega (arith, flat_null c.in-Null.kind)
+whole_payload-returns-in-Null-clause-depth t c = subst (λ p. depth (bare p) ≤ c.args.level) (sym c.put.ensures) (omega (arith, flat_null c.in-Null.kind))
 
 pub whole_payload-returns-in-Truth-clause-value : goal.whole_payload-returns-in-Truth-clause-value
 whole_payload-returns-in-Truth-clause-value t c =
-    plain_truth _ _ _ c.requires.some (sym c.requires.opens ∙ c.in-Truth.is)
+    subst (λ p. Plain c.args.context.now (take 1 c.args.octets.now) p) (sym c.put-in-Truth.ensures) (plain_truth _ _ _ c.requires.some (sym c.requires.opens ∙ c.in-Truth.is))
 
 pub whole_payload-returns-in-Truth-clause-depth : goal.whole_payload-returns-in-Truth-clause-depth
-whole_payload-returns-in-Truth-clause-depth t c = omega (arith, flat_truth c.in-Truth.truth)
+whole_payload-returns-in-Truth-clause-depth t c = subst (λ p. depth (bare p) ≤ c.args.level) (sym c.put-in-Truth.ensures) (omega (arith, flat_truth c.in-Truth.truth))
 
 pub whole_value-returns-clause-value : goal.whole_value-returns-clause-value
 whole_value-returns-clause-value t c =
     bare_some c.args.context.now c.args.octets.now c.args.slot.now.annotations c.whole_payload.new.slot c.whole_payload.result c.requires.blank c.whole_payload.ensures.value
 
-pub items-loop-init : goal.items-loop-init
-items-loop-init t c = subst (λ vs. record { within : 0 ≤ length c.args.body.now; so_far : Sequence c.args.context.now [] vs; deep : depths vs ≤ c.args.level - 1 }) (sym c.new-values.ensures.items) (record { within = omega arith; so_far = nothing; deep = omega arith })
+pub gather_items-loop-init : goal.gather_items-loop-init
+gather_items-loop-init t c = subst (λ vs. record { within : 0 ≤ length c.args.body.now; so_far : Sequence c.args.context.now [] vs; deep : depths vs ≤ c.args.level - 1 }) (sym c.requires) (record { within = omega arith; so_far = nothing; deep = omega arith })
 
-pub items-whole_value-requires : goal.items-whole_value-requires
-items-whole_value-requires t c =
-    let pushed : c.push.new.self.items ≡ c.loop.values.items ++ c.blank.result ∷ [] = search rules in
-    let size : length c.push.new.self.items ≡ vec_len c.push.new.self = omega (arith, c.push.new.self.ok.0) in
-    (omega (arith, c.if-level-eq0.false), ap (λ v. v.annotations) (c.in-Some-last_mut.ensures.value ∙ last_was c.loop.values.items c.push.new.self.items c.blank.result c.in-Some-last_mut.last.now (vec_len c.push.new.self) pushed size) ∙ c.blank.ensures)
+pub gather_items-whole_value-requires : goal.gather_items-whole_value-requires
+gather_items-whole_value-requires t c =
+    let yes : c.put_behind.result ≡ true = cc in
+    let pushed : c.put_behind.new.items.items ≡ c.loop.values.items ++ c.blank.result ∷ [] = c.put_behind.ensures yes in
+    let size : length c.put_behind.new.items.items ≡ vec_len c.put_behind.new.items = omega (arith, c.put_behind.new.items.ok.0) in
+    (omega (arith, c.if-level-eq0.false), ap (λ v. v.annotations) (c.in-Some-last_mut.ensures.value ∙ last_was c.loop.values.items c.put_behind.new.items.items c.blank.result c.in-Some-last_mut.last.now (vec_len c.put_behind.new.items) pushed size) ∙ c.blank.ensures)
 
-pub items-loop-preserved : goal.items-loop-preserved
-items-loop-preserved t c =
+pub gather_items-loop-preserved : goal.gather_items-loop-preserved
+gather_items-loop-preserved t c =
     let body = c.args.body.now in
     let at = c.loop.at in
     let n = c.in-Some-whole_value.count in
     let v = c.whole_value.new.slot in
-    let pushed : c.push.new.self.items ≡ c.loop.values.items ++ c.blank.result ∷ [] = search rules in
-    let size : length c.push.new.self.items ≡ vec_len c.push.new.self = omega (arith, c.push.new.self.ok.0) in
-    let whole = set_last c.loop.values.items c.push.new.self.items c.blank.result v (vec_len c.push.new.self) pushed size in
+    let yes : c.put_behind.result ≡ true = cc in
+    let pushed : c.put_behind.new.items.items ≡ c.loop.values.items ++ c.blank.result ∷ [] = c.put_behind.ensures yes in
+    let size : length c.put_behind.new.items.items ≡ vec_len c.put_behind.new.items = omega (arith, c.put_behind.new.items.ok.0) in
+    let whole = set_last c.loop.values.items c.put_behind.new.items.items c.blank.result v (vec_len c.put_behind.new.items) pushed size in
     record {
       within = within_more body at n c.loop.invariant.within c.in-Some-whole_value.ensures.within;
       so_far = subst (λ vs. Sequence c.args.context.now (take (at + n) body) vs) (sym whole) (sequence_more c.args.context.now body (take (length body - at) (drop at body)) at n c.loop.values.items v (whole_rest body at) c.loop.invariant.so_far c.in-Some-whole_value.ensures.value);
       deep = subst (λ vs. depths vs ≤ c.args.level - 1) (sym whole) (depths_more c.loop.values.items v (c.args.level - 1) c.loop.invariant.deep c.in-Some-whole_value.ensures.depth);
     }
 
-pub items-loop-preserved-in-Some : goal.items-loop-preserved-in-Some
-items-loop-preserved-in-Some t c =
+pub gather_items-loop-preserved-in-Some : goal.gather_items-loop-preserved-in-Some
+gather_items-loop-preserved-in-Some t c =
     let body = c.args.body.now in
     let at = c.loop.at in
     let n = c.in-Some.count in
@@ -88,33 +90,41 @@ items-loop-preserved-in-Some t c =
       deep = c.loop.invariant.deep;
     }
 
-pub items-returns-clause-depth : goal.items-returns-clause-depth
-items-returns-clause-depth t c =
-    λ _.
-    let some : 0 < c.args.level = omega (arith, c.if-level-eq0.false) in
-    subst (λ p. depth (bare p) ≤ c.args.level) (sym (c.listed.ensures ∙ ap (listed c.args.listing) c.from_vec.ensures)) (depth_listing c.args.listing c.loop.values.items c.args.level some c.loop.invariant.deep)
+pub gather_items-returns-clause-value : goal.gather_items-returns-clause-value
+gather_items-returns-clause-value t c =
+    λ e.
+    let all : length c.args.body.now ≤ c.loop.at = grind (arith, common_steps, e) in
+    subst (λ w. Sequence c.args.context.now w c.loop.values.items) (take_whole c.args.body.now c.loop.at all) c.loop.invariant.so_far
 
-pub items-returns-clause-value : goal.items-returns-clause-value
-items-returns-clause-value t c =
+pub items-returns-then-gather_items-clause-depth : goal.items-returns-then-gather_items-clause-depth
+items-returns-then-gather_items-clause-depth t c =
+    λ _.
+    let yes = c.if-gather_items.true in
+    subst (λ p. depth (bare p) ≤ c.args.level) (sym (c.put.ensures ∙ c.listed.ensures ∙ ap (listed c.args.listing) c.from_vec.ensures))
+    (depth_listing c.args.listing c.gather_items.new.values.items c.args.level (c.gather_items.ensures.some yes) (c.gather_items.ensures.depth yes))
+
+pub items-returns-then-gather_items-clause-value : goal.items-returns-then-gather_items-clause-value
+items-returns-then-gather_items-clause-value t c =
     λ _.
     record {
-      values = c.loop.values.items;
-      same = c.listed.ensures ∙ ap (listed c.args.listing) c.from_vec.ensures;
-      items = subst (λ w. Sequence c.args.context.now w c.loop.values.items) (take_whole c.args.body.now c.loop.at c.if-at-body-2.false) c.loop.invariant.so_far;
+      values = c.gather_items.new.values.items;
+      same = c.put.ensures ∙ c.listed.ensures ∙ ap (listed c.args.listing) c.from_vec.ensures;
+      items = c.gather_items.ensures.value c.if-gather_items.true;
     }
 
-pub fields-loop-init : goal.fields-loop-init
-fields-loop-init t c = subst (λ ms. record { within : 0 ≤ length c.args.body.now; so_far : Fields c.args.context.now [] ms; deep : field_depths ms ≤ c.args.level - 1 }) (sym c.new-rows.ensures.items) (record { within = omega arith; so_far = no_fields; deep = omega arith })
+pub gather_fields-loop-init : goal.gather_fields-loop-init
+gather_fields-loop-init t c = subst (λ ms. record { within : 0 ≤ length c.args.body.now; so_far : Fields c.args.context.now [] ms; deep : field_depths ms ≤ c.args.level - 1 }) (sym c.requires) (record { within = omega arith; so_far = no_fields; deep = omega arith })
 
-pub fields-whole_value-requires : goal.fields-whole_value-requires
-fields-whole_value-requires t c =
+pub gather_fields-whole_value-requires : goal.gather_fields-whole_value-requires
+gather_fields-whole_value-requires t c =
     let row = field_of c.in-Ok.name c.blank.result in
-    let pushed : c.push.new.self.items ≡ c.loop.rows.items ++ row ∷ [] = search rules in
-    let size : length c.push.new.self.items ≡ vec_len c.push.new.self = omega (arith, c.push.new.self.ok.0) in
-    (omega (arith, c.if-level-eq0.false), ap (λ m. m.value.annotations) (c.in-Some-last_mut.ensures.value ∙ last_was c.loop.rows.items c.push.new.self.items row c.in-Some-last_mut.row.now (vec_len c.push.new.self) pushed size) ∙ c.blank.ensures)
+    let yes : c.put_behind.result ≡ true = cc in
+    let pushed : c.put_behind.new.items.items ≡ c.loop.rows.items ++ row ∷ [] = c.put_behind.ensures yes in
+    let size : length c.put_behind.new.items.items ≡ vec_len c.put_behind.new.items = omega (arith, c.put_behind.new.items.ok.0) in
+    (omega (arith, c.if-level-eq0.false), ap (λ m. m.value.annotations) (c.in-Some-last_mut.ensures.value ∙ last_was c.loop.rows.items c.put_behind.new.items.items row c.in-Some-last_mut.row.now (vec_len c.put_behind.new.items) pushed size) ∙ c.blank.ensures)
 
-pub fields-loop-preserved-in-Some-pad_of : goal.fields-loop-preserved-in-Some-pad_of
-fields-loop-preserved-in-Some-pad_of t c =
+pub gather_fields-loop-preserved-in-Some-pad_of : goal.gather_fields-loop-preserved-in-Some-pad_of
+gather_fields-loop-preserved-in-Some-pad_of t c =
     let body = c.args.body.now in
     let at = c.loop.at in
     let used = c.in-Some.used in
@@ -128,8 +138,8 @@ fields-loop-preserved-in-Some-pad_of t c =
       deep = c.loop.invariant.deep;
     }
 
-pub fields-loop-preserved : goal.fields-loop-preserved
-fields-loop-preserved t c =
+pub gather_fields-loop-preserved : goal.gather_fields-loop-preserved
+gather_fields-loop-preserved t c =
     let body = c.args.body.now in
     let at = c.loop.at in
     let used = c.in-Some.used in
@@ -137,10 +147,11 @@ fields-loop-preserved t c =
     let v = c.whole_value.new.slot in
     let name = c.in-Some-last_mut.row.now.name in
     let row = field_of c.in-Ok.name c.blank.result in
-    let pushed : c.push.new.self.items ≡ c.loop.rows.items ++ row ∷ [] = search rules in
-    let size : length c.push.new.self.items ≡ vec_len c.push.new.self = omega (arith, c.push.new.self.ok.0) in
-    let was = c.in-Some-last_mut.ensures.value ∙ last_was c.loop.rows.items c.push.new.self.items row c.in-Some-last_mut.row.now (vec_len c.push.new.self) pushed size in
-    let whole = set_last c.loop.rows.items c.push.new.self.items row (field_of name v) (vec_len c.push.new.self) pushed size in
+    let yes : c.put_behind.result ≡ true = cc in
+    let pushed : c.put_behind.new.items.items ≡ c.loop.rows.items ++ row ∷ [] = c.put_behind.ensures yes in
+    let size : length c.put_behind.new.items.items ≡ vec_len c.put_behind.new.items = omega (arith, c.put_behind.new.items.ok.0) in
+    let was = c.in-Some-last_mut.ensures.value ∙ last_was c.loop.rows.items c.put_behind.new.items.items row c.in-Some-last_mut.row.now (vec_len c.put_behind.new.items) pushed size in
+    let whole = set_last c.loop.rows.items c.put_behind.new.items.items row (field_of name v) (vec_len c.put_behind.new.items) pushed size in
     let number_fits : at + used ≤ length body = within_more body at used c.loop.invariant.within c.in-Some.ensures.within in
     record {
       within = within_more body (at + used) n number_fits c.in-Some-whole_value.ensures.within;
@@ -151,19 +162,26 @@ fields-loop-preserved t c =
       deep = subst (λ ms. field_depths ms ≤ c.args.level - 1) (sym whole) (field_depths_more c.loop.rows.items (field_of name v) (c.args.level - 1) c.loop.invariant.deep c.in-Some-whole_value.ensures.depth);
     }
 
-pub fields-returns-clause-depth : goal.fields-returns-clause-depth
-fields-returns-clause-depth t c =
-    λ _.
-    let some : 0 < c.args.level = omega (arith, c.if-level-eq0.false) in
-    subst (λ ms. depth (bare (payloads.Fields ms)) ≤ c.args.level) (sym c.from_vec.ensures) (depth_struct c.loop.rows.items c.args.level some c.loop.invariant.deep)
+pub gather_fields-returns-clause-value : goal.gather_fields-returns-clause-value
+gather_fields-returns-clause-value t c =
+    λ e.
+    let all : length c.args.body.now ≤ c.loop.at = grind (arith, common_steps, e) in
+    subst (λ w. Fields c.args.context.now w c.loop.rows.items) (take_whole c.args.body.now c.loop.at all) c.loop.invariant.so_far
 
-pub fields-returns-clause-value : goal.fields-returns-clause-value
-fields-returns-clause-value t c =
+pub fields-returns-then-gather_fields-clause-depth : goal.fields-returns-then-gather_fields-clause-depth
+fields-returns-then-gather_fields-clause-depth t c =
+    λ _.
+    let yes = c.if-gather_fields.true in
+    subst (λ p. depth (bare p) ≤ c.args.level) (sym (c.put.ensures ∙ ap payloads.Fields c.from_vec.ensures))
+    (depth_struct c.gather_fields.new.rows.items c.args.level (c.gather_fields.ensures.some yes) (c.gather_fields.ensures.depth yes))
+
+pub fields-returns-then-gather_fields-clause-value : goal.fields-returns-then-gather_fields-clause-value
+fields-returns-then-gather_fields-clause-value t c =
     λ _.
     record {
-      fields = c.loop.rows.items;
-      same = ap payloads.Fields c.from_vec.ensures;
-      items = subst (λ w. Fields c.args.context.now w c.loop.rows.items) (take_whole c.args.body.now c.loop.at c.if-at-body-2.false) c.loop.invariant.so_far;
+      fields = c.gather_fields.new.rows.items;
+      same = c.put.ensures ∙ ap payloads.Fields c.from_vec.ensures;
+      items = c.gather_fields.ensures.value c.if-gather_fields.true;
     }
 
 pub whole_value-returns-then-wrapped-clause-value : goal.whole_value-returns-then-wrapped-clause-value
@@ -185,8 +203,8 @@ wrapped-returns-in-Some-whole_payload-clause-value t c =
     let fits : used + size ≤ length body = omega (arith, c.if-size-body.false, c.in-Some.ensures.within) in
     let behind : length body - (used + size) ≤ n = grind (arith, common_steps, e) in
     let all : length inner ≤ n = omega (arith, behind, length-take {A = ℕ}, length-drop {A = ℕ}) in
-    wraps c.args.context.now body ids inner used size n c.from_vec.result c.whole_payload.new.slot (slice_of used size body) (whole_rest body (used + size)) c.in-Some.ensures.is some fits
-    (subst (λ ss. Ids c.args.context.now ids ss) (sym c.from_vec.ensures) c.in-Some-symbols_of.ensures) c.in-Some-whole_payload.ensures.value all
+    wraps c.args.context.now body ids inner used size n c.put.new.slot c.whole_payload.new.slot (slice_of used size body) (whole_rest body (used + size)) c.in-Some.ensures.is some fits
+    (subst (λ ss. Ids c.args.context.now ids ss) (sym (c.put.ensures ∙ c.from_vec.ensures)) c.in-Some-symbols_of.ensures) c.in-Some-whole_payload.ensures.value all
 
 pub wrapped-returns-in-Some-whole_payload-clause-depth : goal.wrapped-returns-in-Some-whole_payload-clause-depth
-wrapped-returns-in-Some-whole_payload-clause-depth t c = λ _. depth_wrapped c.from_vec.result c.whole_payload.new.slot c.args.level c.in-Some-whole_payload.ensures.depth
+wrapped-returns-in-Some-whole_payload-clause-depth t c = λ _. depth_wrapped c.put.new.slot c.whole_payload.new.slot c.args.level c.in-Some-whole_payload.ensures.depth
