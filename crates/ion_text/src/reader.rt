@@ -129,6 +129,21 @@ impl TextReader<'_> {
         self.frames.len() < self.limits.depth as usize
     }
 
+    /// From now on this may come next.
+    fn set_stage(&mut self, stage: Now)
+        ensures { self.new ≡ record self.old { stage = stage } }
+    {
+        drop(mem::replace(&mut self.stage, stage));
+    }
+
+    /// The annotations so far, which then are none.
+    fn take_notes(&mut self) -> Sequence<Symbol>
+        ensures notes { result ≡ self.old.notes }
+        ensures none { self.new ≡ record self.old { notes = [] } }
+    {
+        mem::replace(&mut self.notes, Sequence::new(self.alloc))
+    }
+
     /// The annotations and a payload are a whole value, which ended at `end`.
     fn whole(&mut self, payload: Payload, end: u64) -> Result<Effect, Reason>
         ensures does { Does
@@ -137,7 +152,7 @@ impl TextReader<'_> {
             result self.new }
         ensures setting { SameSetting self.old self.new }
     {
-        let annotations = mem::replace(&mut self.notes, Sequence::new(self.alloc));
+        let annotations = self.take_notes();
         self.deliver(
             Value {
                 annotations,
@@ -159,7 +174,8 @@ impl TextReader<'_> {
             None => self.give(value, end),
             Some(Frame::Named(_, _, _)) => self.put_field(value),
             Some(_) => {
-                self.stage = put_innermost(&mut self.frames, value)?;
+                let stage = put_innermost(&mut self.frames, value)?;
+                self.set_stage(stage);
                 Ok(Effect::Goes)
             }
         }
@@ -178,7 +194,7 @@ impl TextReader<'_> {
             Some(Frame::Named(annotations, mut fields, name)) => {
                 fields.push(Field { name, value })?;
                 self.frames.push(Frame::Fields(annotations, fields))?;
-                self.stage = Now::After;
+                self.set_stage(Now::After);
                 Ok(Effect::Goes)
             }
             _ => unreachable!(),
@@ -196,16 +212,19 @@ impl TextReader<'_> {
         ensures setting { SameSetting self.old self.new }
     {
         let last = self.start.saturating_add(self.limits.item);
-        self.stage = Now::Ready;
+        self.set_stage(Now::Ready);
         self.start = 0;
         if value.is_table() {
-            self.context.apply(&value, self.catalog)?;
+            let applied = self.context.apply(&value, self.catalog);
+            drop(value);
+            applied?;
             if end > last {
                 return Err(Reason::ItemTooLong);
             }
             return Ok(Effect::Goes);
         }
         if end > last {
+            drop(value);
             return Err(Reason::ItemTooLong);
         }
         self.given = Some(value);

@@ -6,22 +6,15 @@ ghost use Rattle.ion_atoms.specs.declared.refusal.Reason.TheVariants as reasons;
 ghost use Rattle.ion_scalar.specs.text.Texts.{number_text};
 ghost use Rattle.ion_symtab.specs.declared.fault.Fault.TheVariants as faults;
 ghost use Rattle.ion_tokens.specs.Octets.{is_word_octet};
-ghost use Rattle.ion_text.specs.Grammar.{is_keyword};
 ghost use Rattle.ion_text.specs.Output.{begins_identifier, is_identifier, is_unquoted, known_text, symbol_text, null_text, truth_text, blob_text, clob_text};
 
 use crate::escape::{OF_CLOB, OF_SYMBOL, put_quoted};
+use crate::words::is_keyword;
 use base64::engine::general_purpose::STANDARD;
 use ion_model::{Kind, Reason, Symbol};
 use ion_scalar::{Number, put_number};
 use ion_symtab::Fault;
 use std::alloc::Global;
-
-/// A word that says something else than a symbol.
-fn is_keyword(text: &str) -> bool
-    ensures { result ≡ is_keyword text.now }
-{
-    matches!(text, "null" | "true" | "false" | "nan")
-}
 
 /// A letter or `_`.
 fn begins_identifier(octet: u8) -> bool

@@ -59,28 +59,24 @@ fn is_version(word: &[u8]) -> bool
 pub(crate) fn is_keyword(word: &str) -> bool
     ensures { result ≡ is_keyword word.now }
 {
-    (word == "null" || word == "true") || (word == "false" || word == "nan")
+    matches!(word, "null" | "true" | "false" | "nan")
 }
 
 /// What a word is as a value, or as an annotation. The only refusal is `Memory`.
 pub(crate) fn held_word(alloc: Global, word: &str) -> Result<Held, Reason>
     ensures { MatchResult result (λ held. held ≡ held_word word.now) (λ r. r ≡ reasons.Memory) }
 {
-    if word == "null" {
-        return Ok(Held::Null(Kind::Null));
+    match word {
+        "null" => Ok(Held::Null(Kind::Null)),
+        "true" => Ok(Held::Truth(true)),
+        "false" => Ok(Held::Truth(false)),
+        "nan" => Ok(Held::Nan),
+        _ => {
+            let symbol = Symbol::known(alloc, word)?;
+            if is_version(word.as_bytes()) {
+                return Ok(Held::Version(word == "$ion_1_0", symbol));
+            }
+            Ok(Held::Symbol(symbol))
+        }
     }
-    if word == "true" {
-        return Ok(Held::Truth(true));
-    }
-    if word == "false" {
-        return Ok(Held::Truth(false));
-    }
-    if word == "nan" {
-        return Ok(Held::Nan);
-    }
-    let symbol = Symbol::known(alloc, word)?;
-    if is_version(word.as_bytes()) {
-        return Ok(Held::Version(word == "$ion_1_0", symbol));
-    }
-    Ok(Held::Symbol(symbol))
 }

@@ -9,7 +9,6 @@ ghost use Rattle.ion_text.specs.machine.Views.{setting_of, spot_of, open_frames,
 use super::TextReader;
 use crate::state::{Effect, Frame, Now};
 use ion_model::{Payload, Reason, Sequence, Symbol, Value};
-use std::mem;
 
 impl TextReader<'_> {
     /// Behind `[`.
@@ -26,7 +25,7 @@ impl TextReader<'_> {
         if !self.may_deepen() {
             return Err(Reason::Depth);
         }
-        let annotations = mem::replace(&mut self.notes, Sequence::new(self.alloc));
+        let annotations = self.take_notes();
         let items = Sequence::new(self.alloc);
         self.frames.push(Frame::List(annotations, items))?;
         Ok(Effect::Goes)
@@ -46,7 +45,7 @@ impl TextReader<'_> {
         if !self.may_deepen() {
             return Err(Reason::Depth);
         }
-        let annotations = mem::replace(&mut self.notes, Sequence::new(self.alloc));
+        let annotations = self.take_notes();
         let items = Sequence::new(self.alloc);
         self.frames.push(Frame::Sexp(annotations, items))?;
         Ok(Effect::Goes)
@@ -64,10 +63,10 @@ impl TextReader<'_> {
         ensures setting { SameSetting self.old self.new }
     {
         let admits = self.may_deepen();
-        let annotations = mem::replace(&mut self.notes, Sequence::new(self.alloc));
+        let annotations = self.take_notes();
         let fields = Sequence::new(self.alloc);
         self.frames.push(Frame::Fields(annotations, fields))?;
-        self.stage = Now::Name;
+        self.set_stage(Now::Name);
         if admits {
             return Ok(Effect::Goes);
         }
@@ -93,7 +92,10 @@ impl TextReader<'_> {
                     end,
                 )
             }
-            _ => Err(Reason::Unexpected),
+            other => {
+                drop(other);
+                Err(Reason::Unexpected)
+            }
         }
     }
 
@@ -116,7 +118,10 @@ impl TextReader<'_> {
                     end,
                 )
             }
-            _ => Err(Reason::Unexpected),
+            other => {
+                drop(other);
+                Err(Reason::Unexpected)
+            }
         }
     }
 
@@ -139,7 +144,10 @@ impl TextReader<'_> {
                     end,
                 )
             }
-            _ => Err(Reason::Unexpected),
+            other => {
+                drop(other);
+                Err(Reason::Unexpected)
+            }
         }
     }
 
@@ -152,8 +160,8 @@ impl TextReader<'_> {
         ensures setting { SameSetting self.old self.new }
     {
         match self.frames.last() {
-            Some(Frame::List(_, _)) => self.stage = Now::Ready,
-            Some(Frame::Fields(_, _)) => self.stage = Now::Name,
+            Some(Frame::List(_, _)) => self.set_stage(Now::Ready),
+            Some(Frame::Fields(_, _)) => self.set_stage(Now::Name),
             _ => return Err(Reason::Unexpected),
         }
         Ok(Effect::Goes)
@@ -173,7 +181,10 @@ impl TextReader<'_> {
                 self.frames.push(Frame::Named(annotations, fields, name))?;
                 Ok(Effect::Goes)
             }
-            _ => Err(Reason::Unexpected),
+            other => {
+                drop(other);
+                Err(Reason::Unexpected)
+            }
         }
     }
 }

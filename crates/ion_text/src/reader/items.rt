@@ -1,7 +1,10 @@
 //! The reader as `Items`: steps over pieces, and the end.
-ghost use Rattle.std.specs.Prelude.{◌≡◌, [], IfOk, IfErr, None};
+ghost use Rattle.std.specs.Prelude.{◌≡◌, ℕ, List, [], Err, IfOk, IfErr, IfSome, IsNone, None};
+ghost use Rattle.ion_model.specs.declared.value.Value.{Value as AnyValue};
 ghost use Rattle.ion_atoms.specs.declared.refusal.Reason.TheVariants.{Memory};
-ghost use Rattle.ion_text.specs.machine.Progress.{failed};
+ghost use Rattle.ion_symtab.specs.Trace.{Finishes};
+ghost use Rattle.ion_text.specs.machine.Run.{trace};
+ghost use Rattle.ion_text.specs.machine.Progress.{Stands, failed, octets_used};
 
 use super::TextReader;
 use crate::state::Now;
@@ -54,6 +57,25 @@ impl TextReader<'_> {
         match self.failed {
             Some(refusal) => Some(refusal),
             None => self.scanner.refusal(),
+        }
+    }
+
+    /// What the end answers, where a step refused before too.
+    fn end_or_refuse(&mut self) -> Result<Option<Value>, Refusal>
+        requires { IsNone self.old.awaited }
+        ensures ends { (u : List ℕ) (s : List (AnyValue × ℕ)) → Stands self.old u s →
+            Finishes (trace self.old.catalog.now self.old.limits) u result }
+        ensures memory { IfErr result (λ refusal. refusal.reason ≡ Memory → IsNone (failed self.old) →
+            refusal.offset ≡ octets_used self.old) }
+        ensures again { IfSome (failed self.old) (λ refusal. result ≡ Err refusal) }
+    {
+        if let Some(refusal) = self.failure() {
+            return Err(refusal);
+        }
+        let offset = self.scanner.used();
+        match self.end() {
+            Ok(value) => Ok(value),
+            Err(reason) => Err(Refusal { offset, reason }),
         }
     }
 }
@@ -156,15 +178,10 @@ impl Items for TextReader<'_> {
     }
 
     fn finish(self) -> Result<Option<Value>, Refusal> {
-        if let Some(refusal) = self.failure() {
-            return Err(refusal);
-        }
         let mut reader = self;
-        let offset = reader.scanner.used();
-        match reader.end() {
-            Ok(value) => Ok(value),
-            Err(reason) => Err(Refusal { offset, reason }),
-        }
+        let answer = reader.end_or_refuse();
+        drop(reader);
+        answer
     }
 
     fn held(&self) -> usize {

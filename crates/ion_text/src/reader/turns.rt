@@ -1,15 +1,15 @@
 //! What each token does (Ion 1.0, "Ion Text Encoding").
-ghost use Rattle.std.specs.Prelude.{◌≡◌, [], ◌∷◌, ◌++◌, MatchResult};
+ghost use Rattle.std.specs.Prelude.{◌≡◌, [], ◌∷◌, ◌++◌, Some, MatchResult};
 ghost use Rattle.ion_atoms.specs.declared.refusal.Reason.TheVariants as reasons;
 ghost use Rattle.ion_text.specs.declared.state.Now.TheVariants as nows;
-ghost use Rattle.ion_text.specs.machine.EachToken.{at, goes, turn, on_ready, on_pending, on_long, on_name, on_long_name, on_after, on_keyed, number_payload};
+ghost use Rattle.ion_text.specs.machine.EachToken.{at, goes, keyed, turn, on_ready, on_pending, on_long, on_name, on_long_name, on_after, on_keyed, number_payload};
 ghost use Rattle.ion_tokens.specs.Bodies.{content, Word, Mark'};
 ghost use Rattle.ion_text.specs.machine.Views.{setting_of, spot_of, open_frames, reading_of, token_in, Does, SameSetting};
 
 use super::TextReader;
 use crate::state::{Effect, Held, Now};
 use crate::words::{held_word, is_keyword};
-use ion_model::{Payload, Reason, Sequence, Symbol, Text};
+use ion_model::{Payload, Reason, Symbol, Text};
 use ion_scalar::Number;
 use ion_tokens::{Body, Mark, Token};
 use std::mem;
@@ -42,19 +42,19 @@ impl TextReader<'_> {
             Now::Pending(held, _) => self.on_pending(held, body),
             Now::Long(text, _) => self.on_long(text, end, body),
             Now::After => {
-                self.notes = Sequence::new(self.alloc);
+                drop(self.take_notes());
                 self.on_after(end, body)
             }
             Now::Name => {
-                self.notes = Sequence::new(self.alloc);
+                drop(self.take_notes());
                 self.on_name(end, body)
             }
             Now::LongName(text) => {
-                self.notes = Sequence::new(self.alloc);
+                drop(self.take_notes());
                 self.on_long_name(text, body)
             }
             Now::Keyed(name) => {
-                self.notes = Sequence::new(self.alloc);
+                drop(self.take_notes());
                 self.on_keyed(name, body)
             }
         }
@@ -84,7 +84,7 @@ impl TextReader<'_> {
             }
             Body::TypedNull(kind) => self.wait(Held::Null(kind), end),
             Body::Long(text) => {
-                self.stage = Now::Long(text, end);
+                self.set_stage(Now::Long(text, end));
                 Ok(Effect::Goes)
             }
             Body::Short(text) => self.whole(Payload::Str(text), end),
@@ -126,7 +126,7 @@ impl TextReader<'_> {
             result self.new }
         ensures setting { SameSetting self.old self.new }
     {
-        self.stage = Now::Pending(held, end);
+        self.set_stage(Now::Pending(held, end));
         Ok(Effect::Goes)
     }
 
@@ -166,10 +166,16 @@ impl TextReader<'_> {
     {
         match body {
             Body::Long(more) => {
-                self.stage = Now::Long(joined(text, &more)?, end);
+                let text = joined(text, &more);
+                drop(more);
+                self.set_stage(Now::Long(text?, end));
                 Ok(Effect::Goes)
             }
-            _ => Err(Reason::Unexpected),
+            other => {
+                drop(other);
+                drop(text);
+                Err(Reason::Unexpected)
+            }
         }
     }
 
@@ -184,10 +190,16 @@ impl TextReader<'_> {
     {
         match body {
             Body::Long(more) => {
-                self.stage = Now::LongName(joined(text, &more)?);
+                let text = joined(text, &more);
+                drop(more);
+                self.set_stage(Now::LongName(text?));
                 Ok(Effect::Goes)
             }
-            _ => Err(Reason::Unexpected),
+            other => {
+                drop(other);
+                drop(text);
+                Err(Reason::Unexpected)
+            }
         }
     }
 
@@ -203,28 +215,40 @@ impl TextReader<'_> {
         match body {
             Body::Word(word) => self.word_named(word.as_str()),
             Body::TypedNull(_) => {
-                self.stage = Now::Keyed(Symbol::unknown());
+                self.set_stage(Now::Keyed(Symbol::unknown()));
                 Ok(Effect::Late(Reason::KeywordAsName))
             }
             Body::Id(id) => {
-                self.stage = Now::Keyed(self.context.resolve(id)?);
+                let name = self.context.resolve(id)?;
+                self.set_stage(Now::Keyed(name));
                 Ok(Effect::Goes)
             }
-            Body::Quoted(text) => {
-                self.stage = Now::Keyed(Symbol::known(self.alloc, text.as_str())?);
-                Ok(Effect::Goes)
-            }
-            Body::Short(text) => {
-                self.stage = Now::Keyed(Symbol::known(self.alloc, text.as_str())?);
-                Ok(Effect::Goes)
-            }
+            Body::Quoted(text) => self.text_named(text),
+            Body::Short(text) => self.text_named(text),
             Body::Long(text) => {
-                self.stage = Now::LongName(text);
+                self.set_stage(Now::LongName(text));
                 Ok(Effect::Goes)
             }
             Body::Mark(Mark::FieldsClose) => self.close_struct(end),
-            _ => Err(Reason::Unexpected),
+            other => {
+                drop(other);
+                Err(Reason::Unexpected)
+            }
         }
+    }
+
+    /// A text in quotes that is a field's name.
+    fn text_named(&mut self, text: Text) -> Result<Effect, Reason>
+        requires notes { self.old.notes ≡ [] }
+        ensures does { Does
+            (goes (keyed self.old.start self.old.context (open_frames self.old) (Some text)))
+            result self.new }
+        ensures setting { SameSetting self.old self.new }
+    {
+        let name = Symbol::known(self.alloc, text.as_str());
+        drop(text);
+        self.set_stage(Now::Keyed(name?));
+        Ok(Effect::Goes)
     }
 
     /// A word that is a field's name. The octet behind a keyword may be refused for a smaller reason.
@@ -236,7 +260,8 @@ impl TextReader<'_> {
             result self.new }
         ensures setting { SameSetting self.old self.new }
     {
-        self.stage = Now::Keyed(Symbol::known(self.alloc, word)?);
+        let name = Symbol::known(self.alloc, word)?;
+        self.set_stage(Now::Keyed(name));
         if is_keyword(word) {
             return Ok(Effect::Late(Reason::KeywordAsName));
         }
@@ -254,7 +279,10 @@ impl TextReader<'_> {
     {
         match body {
             Body::Mark(mark) => self.on_mark_after(end, mark),
-            _ => Err(Reason::Unexpected),
+            other => {
+                drop(other);
+                Err(Reason::Unexpected)
+            }
         }
     }
 
@@ -287,7 +315,11 @@ impl TextReader<'_> {
     {
         match body {
             Body::Mark(Mark::Colon) => self.named(name),
-            _ => Err(Reason::Unexpected),
+            other => {
+                drop(other);
+                drop(name);
+                Err(Reason::Unexpected)
+            }
         }
     }
 }

@@ -22,11 +22,13 @@ impl TextReader<'_> {
             Now::Pending(held, end) => self.release(held, end),
             Now::Long(text, end) => self.whole(Payload::Str(text), end),
             Now::LongName(text) => {
-                self.stage = Now::Keyed(Symbol::known(self.alloc, text.as_str())?);
+                let name = Symbol::known(self.alloc, text.as_str());
+                drop(text);
+                self.set_stage(Now::Keyed(name?));
                 Ok(Effect::Goes)
             }
             now => {
-                self.stage = now;
+                self.set_stage(now);
                 Ok(Effect::Goes)
             }
         }
