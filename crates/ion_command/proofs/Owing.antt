@@ -15,14 +15,14 @@ use Rattle.ion_symtab.specs.declared.inlet.Inlet.{Ghosts as Inlet}
 use Rattle.ion_symtab.specs.declared.items.Items.{Ghosts as Items}
 use Rattle.ion_symtab.specs.declared.limits.Limits.{Limits}
 use Rattle.ion_symtab.specs.declared.outlet.Outlet.{Ghosts as Outlet}
-use Rattle.ion_docs.specs.Checked.{IsChecked}
-use Rattle.ion_docs.specs.Compared.{IsCompared}
-use Rattle.ion_docs.specs.declared.comparison.Verdict.{Verdict}
+use Rattle.ion_streams.specs.Checked.{IsChecked}
+use Rattle.ion_streams.specs.Compared.{IsCompared}
+use Rattle.ion_streams.specs.declared.comparison.Verdict.{Verdict}
 use Rattle.ion_docs.specs.Conversion.{KeepsStream}
 use Rattle.ion_docs.specs.Converted.{IsConverted, ConvertsSoFar, ReadSoFar}
 use Rattle.ion_docs.specs.Encodings.{encoding_of}
 use Rattle.ion_docs.specs.Formats.{documents}
-use Rattle.ion_docs.specs.Listing.{IsWriteCause}
+use Rattle.ion_streams.specs.Listing.{IsWriteCause}
 use Rattle.ion_docs.specs.declared.conversion.Target.{Target}
 use Rattle.ion_words.specs.declared.request.Encoding.{Encoding}
 use Rattle.ion_words.specs.declared.request.WordsError.{WordsError}

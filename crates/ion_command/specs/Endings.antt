@@ -3,9 +3,9 @@ use Rattle.std.specs.Prelude.{◌≡◌, ℕ, List, [], Result, Ok, Err}
 use Rattle.ion_symtab.specs.Took.{Took}
 use Rattle.ion_symtab.specs.declared.outlet.Outlet.{Ghosts as Outlet}
 use Rattle.ion_atoms.specs.declared.refusal.Refusal.{Refusal as the_refusal}
-use Rattle.ion_docs.specs.declared.comparison.Verdict.{Verdict}
-use Rattle.ion_docs.specs.declared.comparison.Verdict.TheVariants as verdicts
-use Rattle.ion_docs.specs.Listing.{accepted_line}
+use Rattle.ion_streams.specs.declared.comparison.Verdict.{Verdict}
+use Rattle.ion_streams.specs.declared.comparison.Verdict.TheVariants as verdicts
+use Rattle.ion_streams.specs.Listing.{accepted_line}
 use Rattle.ion_command.specs.declared.lines.Whose.TheVariants.{Only, One}
 use Rattle.ion_command.specs.declared.command.Ending.{Ending}
 use Rattle.ion_command.specs.declared.command.Ending.TheVariants.{Accepted, Different, Refused}

@@ -8,7 +8,7 @@ use Rattle.ion_symtab.specs.declared.fault.Fault.{Fault}
 use Rattle.ion_symtab.specs.declared.fault.Fault.TheVariants.{Memory, Read, Write, TooManyReads, TooLarge, Open}
 use Rattle.ion_model.specs.declared.path.Part.{Part}
 use Rattle.ion_docs.specs.Paths.{path_text}
-use Rattle.ion_docs.specs.declared.comparison.Side.TheVariants.{Left, Right}
+use Rattle.ion_streams.specs.declared.comparison.Side.TheVariants.{Left, Right}
 use Rattle.ion_command.specs.declared.lines.Whose.{Whose}
 use Rattle.ion_command.specs.declared.lines.Whose.TheVariants.{Only, Catalog, One}
 

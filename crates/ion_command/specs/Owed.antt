@@ -13,15 +13,15 @@ use Rattle.ion_symtab.specs.declared.inlet.Inlet.{Ghosts as Inlet}
 use Rattle.ion_symtab.specs.declared.items.Items.{Ghosts as Items}
 use Rattle.ion_symtab.specs.declared.limits.Limits.{Limits}
 use Rattle.ion_symtab.specs.declared.outlet.Outlet.{Ghosts as Outlet}
-use Rattle.ion_docs.specs.Checked.{IsChecked}
-use Rattle.ion_docs.specs.Compared.{IsCompared}
+use Rattle.ion_streams.specs.Checked.{IsChecked}
+use Rattle.ion_streams.specs.Compared.{IsCompared}
 use Rattle.ion_docs.specs.Conversion.{KeepsStream}
 use Rattle.ion_docs.specs.Converted.{IsConverted, ReadSoFar, ConvertsSoFar}
 use Rattle.ion_docs.specs.Encodings.{encoding_of}
 use Rattle.ion_docs.specs.Formats.{documents}
-use Rattle.ion_docs.specs.Listing.{IsShown, ShowsSoFar}
-use Rattle.ion_docs.specs.Loaded.{IsLoaded}
-use Rattle.ion_docs.specs.declared.comparison.Verdict.{Verdict}
+use Rattle.ion_streams.specs.Listing.{IsShown, ShowsSoFar}
+use Rattle.ion_streams.specs.Loaded.{IsLoaded}
+use Rattle.ion_streams.specs.declared.comparison.Verdict.{Verdict}
 use Rattle.ion_docs.specs.declared.conversion.Target.{Target}
 use Rattle.ion_docs.specs.declared.conversion.Target.TheVariants as target
 use Rattle.std.specs.declared.io.Error.{Error}

@@ -3,12 +3,12 @@ ghost use Rattle.std.specs.Prelude.{◌≡◌, ◌^◌, ◌⊎◌, ℕ, true, fa
 ghost use Rattle.ion_atoms.specs.declared.refusal.Refusal.{Refusal};
 ghost use Rattle.ion_symtab.specs.Cause.{IsReadCause};
 ghost use Rattle.ion_symtab.specs.Took.{Took, TookFront};
-ghost use Rattle.ion_docs.specs.declared.comparison.Verdict.{Verdict};
+ghost use Rattle.ion_streams.specs.declared.comparison.Verdict.{Verdict};
 ghost use Rattle.ion_docs.specs.Encodings.{encoding_of};
 ghost use Rattle.ion_docs.specs.Formats.{documents};
-ghost use Rattle.ion_docs.specs.Checked.{IsChecked};
-ghost use Rattle.ion_docs.specs.Listing.{IsShown, ShowsSoFar, IsWriteCause};
-ghost use Rattle.ion_docs.specs.Compared.{IsCompared};
+ghost use Rattle.ion_streams.specs.Checked.{IsChecked};
+ghost use Rattle.ion_streams.specs.Listing.{IsShown, ShowsSoFar, IsWriteCause};
+ghost use Rattle.ion_streams.specs.Compared.{IsCompared};
 ghost use Rattle.ion_docs.specs.Conversion.{KeepsStream};
 ghost use Rattle.ion_docs.specs.Converted.{IsConverted, IsConvertCause, ReadSoFar, ConvertsSoFar};
 ghost use Rattle.ion_words.specs.Asked.{asked, told, names_of, names_of_job, names_with, NamesInputOnce};

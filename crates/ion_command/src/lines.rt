@@ -4,7 +4,7 @@
 
 ghost use Rattle.std.specs.Prelude.{◌≡◌, IfOk, IfErr, string_bytes};
 ghost use Rattle.ion_command.specs.Lines.{fault_line, whose_word, refusal_line, equivalent_line, different_line};
-ghost use Rattle.ion_docs.specs.Listing.{accepted_line};
+ghost use Rattle.ion_streams.specs.Listing.{accepted_line};
 
 use ion_docs::{Side, path_text};
 use ion_model::{Path, Refusal};

@@ -15,14 +15,14 @@ use Rattle.ion_binary.specs.Carrying.{WritesValue}
 use Rattle.ion_binary.specs.Output.{Progress, nothing_yet, adds, after}
 use Rattle.ion_binary.specs.writer.Puts.{puts, behind}
 use Rattle.ion_binary.specs.Writing.{Writing}
-use Rattle.ion_docs.specs.declared.source.Source.{Source}
+use Rattle.ion_streams.specs.declared.source.Source.{Source}
 use Rattle.ion_docs.specs.declared.writers.Encoder.{Ghosts as Encoder}
 use Rattle.ion_docs.specs.Carried.{PutValue}
 use Rattle.ion_docs.specs.Encodings.{TookBehind, TookSomeBehind, IsPuttingFault, binary_encoding}
 use Rattle.ion_docs.specs.laws.Encodings.{puts_one, behind_one, binary_fault}
-use Rattle.ion_docs.specs.reading.Alongside.{WentPast}
-use Rattle.ion_docs.specs.reading.Read.{IsReady, IsWithin, work, Reads}
-use Rattle.ion_docs.proofs.Steps.{plain_next, reads_went}
+use Rattle.ion_streams.specs.reading.Alongside.{WentPast}
+use Rattle.ion_streams.specs.reading.Read.{IsReady, IsWithin, work, Reads}
+use Rattle.ion_streams.proofs.Steps.{plain_next, reads_went}
 use Rattle.ion_docs.proofs.Conversions.{took_whole}
 
 pub some_each : {A : Type 0} {P Q : A → Type 0} (o : Option A) → ((x : A) → P x → Q x) → IfSome o P → IfSome o Q

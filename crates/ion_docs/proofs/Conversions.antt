@@ -1,5 +1,5 @@
 -- What a device took of a document, one value after another.
-use Rattle.std.proofs.Common.{◌≡◌, ℕ, List, [], ◌++◌, length, arith, Bool, false, sym, subst, append-nil}
+use Rattle.std.proofs.Common.{◌≡◌, ◌∙◌, ℕ, List, [], ◌++◌, length, ap, arith, Bool, true, false, sym, subst, append-nil, append_assoc, Result, Ok, Err, IfOk, OnOk}
 use Rattle.ion_model.specs.declared.value.Value.{Value}
 use Rattle.ion_model.specs.Kept.{AreKept}
 use Rattle.ion_symtab.specs.Took.{Took, TookFront}
@@ -11,13 +11,13 @@ use Rattle.ion_symtab.specs.declared.limits.Limits.{Limits}
 use Rattle.ion_symtab.specs.declared.inlet.Inlet.{Ghosts as Inlet}
 use Rattle.ion_symtab.specs.declared.items.Items.{Ghosts as Items}
 use Rattle.ion_symtab.specs.declared.outlet.Outlet.{Ghosts as Outlet}
-use Rattle.ion_docs.specs.reading.Read.{left_of}
-use Rattle.ion_docs.specs.Checked.{counted}
+use Rattle.ion_streams.specs.reading.Read.{left_of}
+use Rattle.ion_streams.specs.Checked.{counted}
 use Rattle.ion_docs.specs.Conversion.{WritesKept}
-use Rattle.ion_docs.specs.Formats.{format_of}
-use Rattle.ion_docs.specs.reading.Standing.{IfOpen, Stood}
-use Rattle.ion_docs.specs.declared.source.Standing.{Standing}
-use Rattle.ion_docs.specs.declared.source.Standing.TheVariants as TheStanding
+use Rattle.ion_streams.specs.Formats.{format_of}
+use Rattle.ion_streams.specs.reading.Standing.{IfOpen, Stood}
+use Rattle.ion_streams.specs.declared.source.Standing.{Standing}
+use Rattle.ion_streams.specs.declared.source.Standing.TheVariants as TheStanding
 use Rattle.ion_docs.specs.Converted.{ReadSoFar, in_reading, at_refusal, at_end, IsConverted, IsConvertCause}
 use Rattle.ion_docs.specs.Encodings.{Encoding, IsFrontOf, TookBehind, TookSomeBehind, IsPuttingFault}
 
@@ -38,6 +38,18 @@ module _ {T : Type 0} (W : Outlet T) where
   pub took_front : (old new : T) (front octets : List ℕ) → Took W.took W.written old new front → IsFrontOf front octets → TookFront W.took W.written old new octets
   took_front old new front octets h of = front_of_front old new front octets (Front-all W.took W.written old new new front h (Took-nil W.took W.written new)) of
 
+  -- what stands behind a front was taken, and then what stands behind that
+  pub behind_whole : (old mid new : T) (a b c : List ℕ) → TookBehind W old mid a b → TookBehind W mid new b c → TookBehind W old new a c
+  behind_whole old mid new a b c (first, e, h) (rest, f, k) = (first ++ rest, sym (append_assoc a first rest) ∙ (ap (λ x. x ++ rest) e ∙ f), Took-trans W.took W.written old mid new first rest h k)
+
+  -- a front of that was
+  pub behind_some : (old mid new : T) (a b c : List ℕ) → TookBehind W old mid a b → TookSomeBehind W mid new b c → TookSomeBehind W old new a c
+  behind_some old mid new a b c (first, e, h) (rest, f, k) = (first ++ rest, sym (append_assoc a first rest) ∙ (ap (λ x. x ++ rest) e ∙ f), Front-behind W.took W.written old mid new first rest h k)
+
+  -- a front of what a front adds is one of what the whole adds
+  pub some_of_front : (old new : T) (a b c : List ℕ) → TookSomeBehind W old new a b → IsFrontOf b c → TookSomeBehind W old new a c
+  some_of_front old new a b c (first, e, h) (rest, f) = (first ++ rest, sym (append_assoc a first rest) ∙ (ap (λ x. x ++ rest) e ∙ f), Front-more W.took W.written old new first rest h)
+
   -- without a further value nothing is taken
   pub took_none : (device : T) (puts : List Value → List ℕ) (s : List Value) → TookBehind W device device (puts s) (puts (s ++ []))
   took_none device puts s = subst (λ (t : List Value). TookBehind W device device (puts s) (puts t)) (sym (append-nil s)) ([], append-nil (puts s), Took-nil W.took W.written device)
@@ -50,6 +62,20 @@ put_cause E WasRead failed s TooLarge r h = (s, r, h)
 put_cause E WasRead failed s Read r h = absurd h
 put_cause E WasRead failed s TooManyReads r h = absurd h
 put_cause E WasRead failed s Open r h = absurd h
+
+-- a device that failed is a fault of putting
+pub write_fault : (E : Encoding) (s : List Value) (failed : Bool) (fault : Fault) → (fault ≡ Write) × (failed ≡ true) → IsPuttingFault E s failed fault
+write_fault E s failed fault h = subst (λ (x : Fault). IsPuttingFault E s failed x) (sym h.0) h.1
+
+-- what follows for an answer that isn't known
+
+pub ok_both : {A F : Type 0} (result : Result A F) (P : A → Type 0) (Q : Type 0) (S : A → Type 0) → IfOk result P → OnOk result Q → ((a : A) → P a → Q → S a) → IfOk result S
+ok_both (Ok a) P Q S h k go = go a h k
+ok_both (Err e) P Q S h k go = tt
+
+pub ok_three : {A F : Type 0} (result : Result A F) (P : A → Type 0) (Q T : Type 0) (S : A → Type 0) → IfOk result P → OnOk result Q → OnOk result T → ((a : A) → P a → Q → T → S a) → IfOk result S
+ok_three (Ok a) P Q T S h k m go = go a h k m
+ok_three (Err e) P Q T S h k m go = tt
 
 module _ {S X : Type 0} (R : Inlet S) (I : Items X) (g : Catalog) (l : Limits) where
   -- wherever the document stands, its values were read

@@ -7,7 +7,7 @@ use Rattle.ion_symtab.specs.Next.{and_then}
 use Rattle.ion_symtab.specs.Shared.{shared_table}
 use Rattle.ion_symtab.specs.Tables.{Table, find}
 use Rattle.ion_symtab.specs.Trace.{plain}
-use Rattle.ion_docs.specs.Loaded.{with_table, added, then_at, catalog_of, AreApart}
+use Rattle.ion_streams.specs.Loaded.{with_table, added, then_at, catalog_of, AreApart}
 
 -- a table that was added, and what it was added to
 record Added (before : List Table) (v : Value) (more : List Table) : Type 0 where

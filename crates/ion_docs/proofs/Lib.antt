@@ -1,14 +1,6 @@
-pub mod Pieces
-pub mod Endings
-pub mod Steps
-pub mod Passes
-pub mod Courses
-pub mod Alongside
 pub mod Chosen
-pub mod Fronts
 pub mod Verdicts
 pub mod Conversions
-pub mod Loads
 pub mod Described
 pub mod Tables
 pub mod Carrying

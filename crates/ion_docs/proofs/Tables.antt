@@ -15,11 +15,12 @@ use Rattle.ion_symtab.specs.declared.limits.Limits.{Limits}
 use Rattle.ion_docs.specs.reading.Chosen.{chosen}
 use Rattle.ion_docs.specs.laws.Documents.{promised}
 use Rattle.ion_docs.specs.Documents.{Denotes, OpenAfter}
-use Rattle.ion_docs.specs.Formats.{Format, documents}
-use Rattle.ion_docs.specs.Outcomes.{given_last, given_all}
-use Rattle.ion_docs.specs.Loaded.{catalog_of, AreApart, DescribesUnder, IsDocumentOf, IsCatalog}
+use Rattle.ion_docs.specs.Formats.{documents}
+use Rattle.ion_streams.specs.Formats.{Format}
+use Rattle.ion_streams.specs.Outcomes.{given_last, given_all}
+use Rattle.ion_streams.specs.Loaded.{catalog_of, AreApart, DescribesUnder, IsDocumentOf, IsCatalog}
 use Rattle.ion_docs.proofs.Described.{describes_each, described_each}
-use Rattle.ion_docs.proofs.Endings.{refused_late}
+use Rattle.ion_streams.proofs.Endings.{refused_late}
 use Rattle.ion_docs.proofs.Verdicts.{one_refusal}
 
 -- 1. Octets are loaded as one thing.

@@ -7,12 +7,12 @@ use Rattle.ion_model.specs.Parting.{IsPath}
 use Rattle.ion_model.specs.declared.path.Part.{Part}
 use Rattle.ion_atoms.specs.declared.refusal.Refusal.{Refusal}
 use Rattle.ion_symtab.specs.Trace.{Trace}
-use Rattle.ion_docs.specs.Formats.{Format}
-use Rattle.ion_docs.specs.Outcomes.{SaysRefusal}
-use Rattle.ion_docs.specs.Compared.{parts, IsPathOf, IsVerdict}
-use Rattle.ion_docs.specs.declared.comparison.Verdict.{Verdict}
-use Rattle.ion_docs.specs.declared.comparison.Verdict.TheVariants.{Equivalent, Different, Refused}
-use Rattle.ion_docs.specs.declared.comparison.Side.TheVariants.{Left, Right}
+use Rattle.ion_streams.specs.Formats.{Format}
+use Rattle.ion_streams.specs.Outcomes.{SaysRefusal}
+use Rattle.ion_streams.specs.Compared.{parts, IsPathOf, IsVerdict}
+use Rattle.ion_streams.specs.declared.comparison.Verdict.{Verdict}
+use Rattle.ion_streams.specs.declared.comparison.Verdict.TheVariants.{Equivalent, Different, Refused}
+use Rattle.ion_streams.specs.declared.comparison.Side.TheVariants.{Left, Right}
 
 same_none : (b r : Bool) (p : Option ℕ) → b && r ≡ true → (r ≡ true → p ≡ None) → cond b (option_map (λ n. n + 1) p) (Some 1) ≡ None
 same_none true r p h k = ap (λ x. option_map (λ n. n + 1) x) (k h)

@@ -10,8 +10,9 @@ use Rattle.ion_symtab.specs.declared.outlet.Outlet.{Ghosts as Outlet}
 use Rattle.ion_symtab.specs.Took.{Took}
 use Rattle.ion_docs.specs.Documents.{Denotes}
 use Rattle.ion_docs.specs.Encodings.{Encoding}
-use Rattle.ion_docs.specs.Formats.{Format, documents}
-use Rattle.ion_docs.specs.Outcomes.{ToldDocument, ToldRefused}
+use Rattle.ion_docs.specs.Formats.{documents}
+use Rattle.ion_streams.specs.Formats.{Format}
+use Rattle.ion_streams.specs.Outcomes.{ToldDocument, ToldRefused}
 
 -- The octets are a document that denotes s, under every catalog and all limits that admit the document of s in this encoding.
 abbrev pub DenotesAnywhere : Encoding → List ℕ → List Value → Type 0

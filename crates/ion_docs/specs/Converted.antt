@@ -11,9 +11,9 @@ use Rattle.ion_symtab.specs.declared.items.Items.{Ghosts as Items}
 use Rattle.ion_symtab.specs.declared.outlet.Outlet.{Ghosts as Outlet}
 use Rattle.ion_symtab.specs.Took.{Took, TookFront}
 use Rattle.ion_docs.specs.Encodings.{Encoding}
-use Rattle.ion_docs.specs.Formats.{Format, format_of}
-use Rattle.ion_docs.specs.reading.Read.{GaveSoFar}
-use Rattle.ion_docs.specs.Outcomes.{ToldDocument, ToldRefused}
+use Rattle.ion_streams.specs.Formats.{Format, format_of}
+use Rattle.ion_streams.specs.reading.Read.{GaveSoFar}
+use Rattle.ion_streams.specs.Outcomes.{ToldDocument, ToldRefused}
 
 -- The octets that the device handed over denote a stream, and its document in this encoding was written; or they are no document, and that of the values before the refusal was written.
 abbrev pub IsConverted : {S T : Type 0} → Inlet S → Outlet T → Encoding → Format → S → S → T → T → Result ℕ Refusal → Type 0

@@ -1,12 +1,7 @@
 pub mod Documents
 pub mod Formats
-pub mod Outcomes
 pub mod Carried
-pub mod Checked
-pub mod Compared
-pub mod Loaded
 pub mod Paths
-pub mod Listing
 pub mod Encodings
 pub mod Converted
 pub mod Conversion

@@ -1,8 +1,3 @@
--- How far documents were read.
-pub mod Read
-pub mod Standing
-pub mod Reached
-pub mod Courses
+-- How documents of either encoding are read.
 pub mod Chosen
-pub mod Alongside
 pub mod DocStands

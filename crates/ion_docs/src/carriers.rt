@@ -1,12 +1,15 @@
 //! How values get from a reader to an encoder.
 ghost use Rattle.std.specs.Prelude.{◌≡◌, ◌+◌, ◌<◌, ◌^◌, length, IfSome, IsNone};
 ghost use Rattle.ion_model.specs.declared.value.Value.{Value};
+ghost use Rattle.ion_streams.specs.reading.Alongside.{WentPast};
+ghost use Rattle.ion_streams.specs.reading.Read.{IsReady};
 ghost use Rattle.ion_docs.specs.Carried.{TookUp, PutValue};
 
 use crate::doc_reader::DocReader;
 use crate::writers::Encoder;
 use ion_binary::{BinaryWriter, Carried};
-use ion_symtab::{Items, Outlet};
+use ion_streams::Source;
+use ion_symtab::{Fault, Items, Outlet};
 
 /// A way from a reader to an encoder.
 pub(crate) trait Carrier<I: Items, E: Encoder> {
@@ -52,4 +55,25 @@ impl Carrier<DocReader<'_>, BinaryWriter> for Transcribing {
     ) -> Option<Carried> {
         items.carry(piece, encoder, out)
     }
+}
+
+/// Goes past the next value of a document where the carrier puts it without building it: what the encoder
+/// answered. `None`, with all as it was, where it doesn't.
+pub(crate) fn carry<C: Carrier<I, E>, E: Encoder, I: Items + Drop, W: Outlet>(
+    source: &mut Source<I>,
+    encoder: &mut E,
+    out: &mut W,
+) -> Option<Result<(), Fault>>
+    requires ready { IsReady I.Items source.old }
+    ensures carries { IfSome result (λ written. (v : Value)
+        × WentPast I.Items source.old source.new v
+        × PutValue E.Encoder W.Outlet encoder.old encoder.new out.old out.new v written) }
+    ensures stays { IsNone result →
+        (source.new ≡ source.old) × (encoder.new ≡ encoder.old) × (out.new ≡ out.old) }
+{
+    let piece = &source.piece[source.at..source.end];
+    let carried = C::carry(&mut source.items, piece, encoder, out)?;
+    source.at += carried.used;
+    source.used += carried.used as u64;
+    Some(carried.written)
 }

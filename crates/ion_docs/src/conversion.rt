@@ -4,15 +4,16 @@ ghost use Rattle.ion_model.specs.declared.value.Value.{Value as AnyValue};
 ghost use Rattle.ion_model.specs.Kept.{AreKept};
 ghost use Rattle.ion_symtab.specs.Cause.{IsReadCause};
 ghost use Rattle.ion_docs.specs.Encodings.{TookBehind, TookSomeBehind, IsPuttingFault};
-ghost use Rattle.ion_docs.specs.Formats.{format_of};
-ghost use Rattle.ion_docs.specs.reading.Read.{IsFresh};
+ghost use Rattle.ion_streams.specs.Checked.{counted as total};
+ghost use Rattle.ion_streams.specs.Formats.{format_of};
+ghost use Rattle.ion_streams.specs.reading.Read.{IsFresh};
 ghost use Rattle.ion_docs.specs.Conversion.{WritesKept};
 ghost use Rattle.ion_docs.specs.Converted.{IsConverted, ReadSoFar, ConvertsSoFar, IsConvertCause};
 
-use crate::carriers::{Building, Carrier};
-use crate::source::{Reached, Source, counted, last, value_of};
+use crate::carriers::{Building, Carrier, carry};
 use crate::writers::Encoder;
 use ion_model::{Refusal, Value};
+use ion_streams::{Reached, Source, Standing, counted, last, value_of};
 use ion_symtab::{Fault, Inlet, Items, Outlet};
 use std::alloc::Global;
 
@@ -49,10 +50,41 @@ fn convert_next<E: Encoder, W: Outlet>(
     match value {
         None => Ok(values),
         Some(value) => {
-            encoder.put(writer, &value)?;
+            let put = encoder.put(writer, &value);
+            drop(value);
+            put?;
             Ok(values + 1)
         }
     }
+}
+
+/// Puts the value that the end showed, if there is one, and ends what is written: how many values there
+/// are, or the refusal of the end.
+fn convert_last<E: Encoder + Drop, I, W: Outlet>(
+    mut encoder: E,
+    writer: &mut W,
+    values: u64,
+    place: &Standing<I>,
+    value: Option<Value>,
+) -> Result<Result<u64, Refusal>, Fault>
+    requires room { values + 2 < 2 ^ 64 }
+    ensures count { IfOk result (λ answer.
+        answer ≡ total (values + length (option_to_list value)) false place.now) }
+    ensures kept { OnOk result (AreKept (option_to_list value)) }
+    ensures wrote { OnOk result ((s : List AnyValue) → E.has_put encoder s →
+        TookBehind W.Outlet writer.old writer.new
+        (E.puts s) (E.encoding.document (s ++ option_to_list value))) }
+    ensures passed_on { OnOk result (W.passed writer.new ≡ W.written writer.new) }
+    ensures fine { OnOk result (W.has_failed writer.new ≡ false) }
+    ensures front { OnErr result ((s : List AnyValue) → E.has_put encoder s →
+        TookSomeBehind W.Outlet writer.old writer.new
+        (E.puts s) (E.encoding.document (s ++ option_to_list value))) }
+    ensures cause { (s : List AnyValue) → E.has_put encoder s → IfErr result
+        (IsPuttingFault E.encoding (s ++ option_to_list value) (W.has_failed writer.new)) }
+{
+    let values = convert_next(&mut encoder, writer, values, value)?;
+    encoder.finish(writer)?;
+    Ok(counted(values, place, false))
 }
 
 /// Writes by `encoder` the document of the stream of a document, whose octets `items` reads from
@@ -124,7 +156,7 @@ pub(crate) fn convert_by<C: Carrier<I, E>, E: Encoder + Drop, I: Items + Drop, R
     let mut encoder = encoder;
     let mut values: u64 = 0;
     loop {
-        match source.carry::<C, E, W>(&mut encoder, writer) {
+        match carry::<C, E, I, W>(&mut source, &mut encoder, writer) {
             None => {}
             Some(Err(fault)) => return Err(fault),
             Some(Ok(())) => {
@@ -142,9 +174,9 @@ pub(crate) fn convert_by<C: Carrier<I, E>, E: Encoder + Drop, I: Items + Drop, R
             }
             Reached::End => {
                 let (place, found) = last(source)?;
-                values = convert_next(&mut encoder, writer, values, value_of(found))?;
-                encoder.finish(writer)?;
-                return Ok(counted(values, place, false));
+                let converted = convert_last(encoder, writer, values, &place, value_of(found));
+                drop(place);
+                return converted;
             }
         }
     }

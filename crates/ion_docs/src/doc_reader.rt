@@ -15,6 +15,7 @@ use ion_symtab::{Catalog, Items, Limits, Outlet, Passed, Step};
 use ion_text::TextReader;
 use std::alloc::Global;
 use std::fmt::{self, Debug, Formatter};
+use std::mem;
 
 /// The first octet of a binary document, and of no text.
 const BINARY: u8 = 0xE0;
@@ -69,7 +70,7 @@ impl<'a> DocReader<'a> {
     fn go_on(&mut self, format: Format<'a>)
         ensures { self.new ≡ record self.old { format = format.entry } }
     {
-        self.format = format;
+        drop(mem::replace(&mut self.format, format));
     }
 
     /// Refuses from now on: there was no memory before any octet was used.

@@ -3,20 +3,18 @@ ghost use Rattle.std.specs.Prelude.{◌≡◌, ◌⊎◌, false, IfOk, IfErr, On
 ghost use Rattle.ion_symtab.specs.Cause.{IsReadCause};
 ghost use Rattle.ion_docs.specs.Encodings.{encoding_of};
 ghost use Rattle.ion_docs.specs.Formats.{documents};
-ghost use Rattle.ion_docs.specs.Checked.{IsChecked};
-ghost use Rattle.ion_docs.specs.Compared.{IsCompared};
+ghost use Rattle.ion_streams.specs.Checked.{IsChecked};
+ghost use Rattle.ion_streams.specs.Compared.{IsCompared};
 ghost use Rattle.ion_docs.specs.Conversion.{KeepsStream};
 ghost use Rattle.ion_docs.specs.Converted.{IsConverted, ReadSoFar, ConvertsSoFar, IsConvertCause};
-ghost use Rattle.ion_docs.specs.Listing.{IsShown, IsWriteCause, ShowsSoFar};
+ghost use Rattle.ion_streams.specs.Listing.{IsShown, IsWriteCause, ShowsSoFar};
 
 use crate::carriers::Transcribing;
-use crate::checking::check_items;
-use crate::comparison::{Verdict, compare_items};
 use crate::conversion::{Target, convert_by, convert_items};
 use crate::doc_reader::DocReader;
-use crate::listing::show_items;
 use ion_binary::BinaryWriter;
 use ion_model::Refusal;
+use ion_streams::{Verdict, check_items, compare_items, show_items};
 use ion_symtab::{Catalog, Fault, Inlet, Items, Limits, Outlet};
 use ion_text::TextWriter;
 use std::alloc::Global;

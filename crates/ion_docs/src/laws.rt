@@ -15,10 +15,10 @@ ghost use Rattle.ion_docs.specs.Conversion.{DenotesAnywhere};
 ghost use Rattle.ion_docs.specs.Documents.{Denotes};
 ghost use Rattle.ion_docs.specs.Encodings.{encoding_of};
 ghost use Rattle.ion_docs.specs.Formats.{documents};
-ghost use Rattle.ion_docs.specs.Compared.{IsVerdict};
+ghost use Rattle.ion_streams.specs.Compared.{IsVerdict};
 ghost use Rattle.ion_docs.specs.declared.conversion.Target.{Target};
-ghost use Rattle.ion_docs.specs.Loaded.{catalog_of, AreApart, DescribesUnder, IsDocumentOf, IsCatalog};
-ghost use Rattle.ion_docs.specs.declared.comparison.Verdict.{Verdict};
+ghost use Rattle.ion_streams.specs.Loaded.{catalog_of, AreApart, DescribesUnder, IsDocumentOf, IsCatalog};
+ghost use Rattle.ion_streams.specs.declared.comparison.Verdict.{Verdict};
 
 use ion_model::laws::paths;
 

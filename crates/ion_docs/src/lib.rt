@@ -4,25 +4,21 @@
 
 mod carriers;
 mod catalogs;
-mod checking;
-mod comparison;
 mod conversion;
 mod doc_reader;
 mod documents;
 pub mod laws;
-mod listing;
 mod paths;
-mod source;
 mod whole;
 mod writers;
 
-pub use catalogs::{load_catalog, load_items};
-pub use checking::check_items;
-pub use comparison::{Side, Verdict, compare_items};
+pub use catalogs::load_catalog;
 pub use conversion::{Target, convert_items};
 pub use doc_reader::DocReader;
 pub use documents::{check, compare, convert, show};
-pub use listing::show_items;
+pub use ion_streams::{
+    Side, Verdict, check_items, compare_items, load_items, read_items, show_items,
+};
 pub use paths::path_text;
-pub use whole::{read_all, read_items};
+pub use whole::read_all;
 pub use writers::Encoder;

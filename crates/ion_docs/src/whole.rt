@@ -1,15 +1,14 @@
 //! All values of a document.
-ghost use Rattle.std.specs.Prelude.{◌≡◌, ◌^◌, ◌≤◌, ◌++◌, List, IfOk, IfErr, MatchResult, OnOk, option_to_list};
+ghost use Rattle.std.specs.Prelude.{List, IfOk, IfErr, MatchResult};
 ghost use Rattle.ion_model.specs.declared.value.Value.{Value};
 ghost use Rattle.ion_symtab.specs.Cause.{IsReadCause};
-ghost use Rattle.ion_docs.specs.Formats.{documents, format_of};
-ghost use Rattle.ion_docs.specs.reading.Read.{IsFresh};
-ghost use Rattle.ion_docs.specs.Outcomes.{ToldDocument, ToldRefused};
+ghost use Rattle.ion_docs.specs.Formats.{documents};
+ghost use Rattle.ion_streams.specs.Outcomes.{ToldDocument, ToldRefused};
 
 use crate::doc_reader::DocReader;
-use crate::source::{Reached, Source, Standing, last, value_of};
 use ion_model::{Refusal, Value};
-use ion_symtab::{Catalog, Fault, Inlet, Items, Limits};
+use ion_streams::read_items;
+use ion_symtab::{Catalog, Fault, Inlet, Limits};
 use std::alloc::Global;
 
 /// All values of a document in order: the stream that the octets of `reader` denote (Ion 1.0, "The Ion
@@ -31,51 +30,4 @@ pub fn read_all<R: Inlet>(
 {
     let items = DocReader::new(alloc, catalog, limits).map_err(|_| Fault::Memory)?;
     read_items(alloc, items, limits.reads(), reader)
-}
-
-/// All values of a document in order, whose octets `items` reads from `reader` in at most `reads` calls;
-/// or the refusal of octets that are no document.
-///
-/// Refusals are those of `items`, but never `Memory`. Faults are `Memory`, `Read` and `TooManyReads`.
-pub fn read_items<I: Items + Drop, R: Inlet>(
-    alloc: Global,
-    items: I,
-    reads: u64,
-    reader: &mut R,
-) -> Result<Result<Vec<Value>, Refusal>, Fault>
-    requires fresh { IsFresh I.Items items }
-    requires reads { reads ≤ 2 ^ 32 }
-    ensures stream { let F = format_of I.Items (I.catalog items) (I.limits items) in
-        IfOk result (λ answer. MatchResult answer
-        (λ values. ToldDocument R.Inlet F reader.old reader.new values.items)
-        (λ refusal. (s : List Value) × ToldRefused R.Inlet F reader.old reader.new s refusal)) }
-    ensures cause { IfErr result (IsReadCause R.Inlet reads reader.old reader.new) }
-{
-    let mut source = Source::new(alloc, items, reads)?;
-    let mut values = Vec::new(alloc);
-    loop {
-        match source.read_on(reader)? {
-            Reached::Value(value) => keep_next(&mut values, Some(value))?,
-            Reached::Refused(refusal) => return Ok(Err(refusal)),
-            Reached::End => {
-                let (place, found) = last(source)?;
-                keep_next(&mut values, value_of(found))?;
-                if let Standing::Refused(refusal) = place {
-                    return Ok(Err(refusal));
-                }
-                return Ok(Ok(values));
-            }
-        }
-    }
-}
-
-/// Puts the next value behind the others, if there is one. `Memory` is the only fault.
-fn keep_next(values: &mut Vec<Value>, value: Option<Value>) -> Result<(), Fault>
-    ensures more { OnOk result (values.new.items ≡ values.old.items ++ option_to_list value) }
-    ensures cause { IfErr result (λ fault. fault ≡ Fault.Memory) }
-{
-    if let Some(value) = value {
-        values.push(value)?;
-    }
-    Ok(())
 }

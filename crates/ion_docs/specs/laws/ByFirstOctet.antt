@@ -4,7 +4,7 @@ use Rattle.ion_model.specs.declared.value.Value.{Value}
 use Rattle.ion_atoms.specs.declared.refusal.Refusal.{Refusal}
 use Rattle.ion_symtab.specs.Trace.{Trace, Streams, Grows, plain}
 use Rattle.ion_symtab.specs.Promises.{Refuses, BeginsNone, Shown, Shows, IsSmall, HasReasons, GivesNoTable}
-use Rattle.ion_docs.specs.Formats.{Format}
+use Rattle.ion_streams.specs.Formats.{Format}
 
 -- what is promised of these octets, of which a reader of the format says t
 pub record Promised (F : Format) (open_after : List ℕ → List ℕ → Type 0) (item : ℕ) (u : List ℕ) (t : Trace) : Type 0 where

@@ -20,7 +20,8 @@ use Rattle.ion_text.specs.laws.showing.Given as text_given
 use Rattle.ion_text.specs.laws.showing.Refusing as text_refusing
 use Rattle.ion_docs.specs.Documents.{is_binary, Denotes, in_binary, in_text, Pieces, binary_pieces, text_pieces, OpenAfter, binary_rest, text_rest}
 use Rattle.ion_docs.specs.reading.Chosen.{chosen}
-use Rattle.ion_docs.specs.Formats.{Format, documents}
+use Rattle.ion_docs.specs.Formats.{documents}
+use Rattle.ion_streams.specs.Formats.{Format}
 use Rattle.ion_docs.specs.laws.ByFirstOctet.{Promised, Alike, carried}
 
 differ : {A : Type 0} → (b : Bool) → b ≡ true → b ≡ false → A

@@ -1,7 +1,7 @@
 use Rattle.std.proofs.Common.{refl, inr}
 use Rattle.ion_symtab.specs.Took.{Took, TookFront}
 use Rattle.ion_symtab.specs.laws.Took.{Took-nil}
-use Rattle.ion_docs.specs.declared.comparison.Verdict.TheVariants.{Equivalent, Different, Refused}
+use Rattle.ion_streams.specs.declared.comparison.Verdict.TheVariants.{Equivalent, Different, Refused}
 use Rattle.ion_command.specs.Lines.{equivalent_line, different_line}
 use Rattle.ion_command.proofs.Writes.{on_err}
 use Rattle.ion_command.proofs.command.compared.Goals as goal

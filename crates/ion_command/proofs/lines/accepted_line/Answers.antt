@@ -1,4 +1,4 @@
-use Rattle.ion_docs.specs.Listing.{accepted_line}
+use Rattle.ion_streams.specs.Listing.{accepted_line}
 use Rattle.ion_command.proofs.lines.accepted_line.Goals as goal
 
 pub returns : goal.returns

@@ -1,13 +1,14 @@
 use Rattle.std.proofs.Common.{◌≡◌, ◌++◌, ◌∷◌, ℕ, List, [], Some, true, false, inl, inr, arith, refl, ap, sym, subst, ◌∙◌, option_to_list}
 use Rattle.ion_symtab.specs.Took.{Took}
 use Rattle.ion_symtab.specs.laws.Took.{Took-nil}
-use Rattle.std.proofs.lemmas.Result.{err_from_is_err_and}
+use Rattle.std.proofs.lemmas.Result.{err_from_is_err_and, on_err_weaker}
 use Rattle.ion_model.specs.laws.Kept.{kept_both}
-use Rattle.ion_docs.specs.reading.Read.{left_of, IsWithin, work}
+use Rattle.ion_streams.specs.reading.Read.{left_of, IsWithin, work}
 use Rattle.ion_docs.specs.Converted.{ReadSoFar, in_reading, at_refusal, so_far}
-use Rattle.ion_docs.proofs.Pieces.{between_nil}
-use Rattle.ion_docs.proofs.Steps.{reads_begun, ready_begun, within_begun, gave_so_far, refused_plain, reads_next, stood_last, length_more, on_err}
-use Rattle.ion_docs.proofs.Conversions.{took_whole, took_some, front_of_front, took_front, put_cause, was_read, converted_at, kept_at}
+use Rattle.ion_streams.proofs.Pieces.{between_nil}
+use Rattle.ion_streams.proofs.Steps.{reads_begun, ready_begun, within_begun, gave_so_far, refused_plain, reads_next, stood_last, length_more, on_err}
+use Rattle.ion_docs.proofs.Conversions.{took_whole, took_some, front_of_front, took_front, put_cause, was_read, converted_at, kept_at, ok_both, ok_three}
+use Rattle.ion_streams.proofs.Passes.{err_by}
 use Rattle.ion_docs.proofs.Carrying.{Done, as_it_was, reads_past, within_past}
 use Rattle.ion_docs.proofs.conversion.convert_by.Goals as goal
 
@@ -48,7 +49,7 @@ returns-in_err-values-in-Value-clause-so_far g c =
     let r = as_it_was (Done g.R.Inlet g.I.Items g.E.Encoder g.W.Outlet (g.I.Items.catalog c.args.items) (g.I.Items.limits c.args.items) c.args.reader.now c.args.writer.now c.loop-fault.reader c.loop-fault.values) (c.in-None.ensures.stays refl) c.loop-fault.invariant.reads in
     let source = c.read_on.new.self in
     let s = r.0 ++ c.in-Value.value ∷ [] in
-    let read = reads_next g.R.Inlet g.I.Items _ _ _ _ _ c.carry.new.self source r.0 c.in-Value.value r.1 (rw c.in-Value.is at (c.in_ok-value.ensures.gives _ _ _ r.1.given r.1.each)) in
+    let read = reads_next g.R.Inlet g.I.Items _ _ _ _ _ c.carry.new.source source r.0 c.in-Value.value r.1 (rw c.in-Value.is at (c.in_ok-value.ensures.gives _ _ _ r.1.given r.1.each)) in
     let front = took_some g.W.Outlet c.args.writer.now c.carry.new.out c.convert_next.new.writer (g.E.Encoder.puts r.0) (g.E.Encoder.puts s) r.4 (c.in_err-values-in-Value.ensures.front r.0 r.3) in
     on_err c.from_residual-in_err-values-in-Value.result _
     (so_far s (in_reading (record { items = source.items; left = left_of source; ended = false; gave = read }))
@@ -59,7 +60,7 @@ returns-in_err-values-in-Value-clause-cause g c =
     let r = as_it_was (Done g.R.Inlet g.I.Items g.E.Encoder g.W.Outlet (g.I.Items.catalog c.args.items) (g.I.Items.limits c.args.items) c.args.reader.now c.args.writer.now c.loop-fault.reader c.loop-fault.values) (c.in-None.ensures.stays refl) c.loop-fault.invariant.reads in
     let source = c.read_on.new.self in
     let s = r.0 ++ c.in-Value.value ∷ [] in
-    let read = reads_next g.R.Inlet g.I.Items _ _ _ _ _ c.carry.new.self source r.0 c.in-Value.value r.1 (rw c.in-Value.is at (c.in_ok-value.ensures.gives _ _ _ r.1.given r.1.each)) in
+    let read = reads_next g.R.Inlet g.I.Items _ _ _ _ _ c.carry.new.source source r.0 c.in-Value.value r.1 (rw c.in-Value.is at (c.in_ok-value.ensures.gives _ _ _ r.1.given r.1.each)) in
     let p = err_from_is_err_and c.from_residual-in_err-values-in-Value.result c.from_residual-in_err-values-in-Value.ensures.1 in
     rw (p.1, p.2) (inr (put_cause g.E.Encoder.encoding
     (ReadSoFar g.R.Inlet g.I.Items (g.I.Items.catalog c.args.items) (g.I.Items.limits c.args.items) c.args.reader.now c.read_on.new.reader)
@@ -82,7 +83,7 @@ loop-fault-preserved g c =
       within = (rw c.in-Value.is at next.within) c.args.reader.now c.args.reads (subst (λ x. IsWithin g.R.Inlet c.args.reads c.args.reader.now c.loop-fault.reader x) (sym (c.in-None.ensures.stays refl).0) i.within);
       reads = (
         s,
-        reads_next g.R.Inlet g.I.Items _ _ _ _ _ c.carry.new.self c.read_on.new.self r.0 value r.1 (rw c.in-Value.is at (next.gives _ _ _ r.1.given r.1.each)),
+        reads_next g.R.Inlet g.I.Items _ _ _ _ _ c.carry.new.source c.read_on.new.self r.0 value r.1 (rw c.in-Value.is at (next.gives _ _ _ r.1.given r.1.each)),
         length_more r.0 (Some value) c.loop-fault.values c.in_ok-values-in-Value.values r.2 put.count,
         put.put r.0 r.3,
         took_whole g.W.Outlet c.args.writer.now c.carry.new.out c.convert_next.new.writer (g.E.Encoder.puts r.0) (g.E.Encoder.puts s) r.4 (put.wrote r.0 r.3),
@@ -119,46 +120,6 @@ returns-in_err-place-in-End-clause-so_far g c =
     (so_far r.0 (in_reading (gave_so_far g.R.Inlet g.I.Items _ _ _ _ source.items (left_of source) true r.1.given r.0 r.1.values each))
     (took_front g.W.Outlet c.args.writer.now c.carry.new.out (g.E.Encoder.puts r.0) (g.E.Encoder.encoding.document r.0) r.4 (g.met.E.Encoder.fronts r.0)))
 
-pub returns-in_err-values-in-End-clause-so_far : goal.returns-in_err-values-in-End-clause-so_far
-returns-in_err-values-in-End-clause-so_far g c =
-    let r = as_it_was (Done g.R.Inlet g.I.Items g.E.Encoder g.W.Outlet (g.I.Items.catalog c.args.items) (g.I.Items.limits c.args.items) c.args.reader.now c.args.writer.now c.loop-fault.reader c.loop-fault.values) (c.in-None.ensures.stays refl) c.loop-fault.invariant.reads in
-    let s = r.0 ++ option_to_list c.value_of.result in
-    let end = c.in_ok-place-in-End.ensures in
-    let place = c.in_ok-place-in-End.place in
-    let stood = stood_last g.R.Inlet g.I.Items _ _ _ _ c.read_on.new.self place c.in_ok-place-in-End.found c.value_of.result r.1.given r.0 (sym c.value_of.ensures) r.1.values (rw c.in-End.is at c.in_ok-value.ensures.ended).empty
-    end.ends (rw c.in-End.is at (c.in_ok-value.ensures.gives _ _ _ r.1.given r.1.each)) in
-    let front = took_some g.W.Outlet c.args.writer.now c.carry.new.out c.convert_next-in-End.new.writer (g.E.Encoder.puts r.0) (g.E.Encoder.puts s) r.4 (c.in_err-values-in-End.ensures.front r.0 r.3) in
-    on_err c.from_residual-in_err-values-in-End.result _
-    (so_far s (was_read g.R.Inlet g.I.Items _ _ _ _ place s stood)
-    (front_of_front g.W.Outlet c.args.writer.now c.convert_next-in-End.new.writer (g.E.Encoder.puts s) (g.E.Encoder.encoding.document s) front (g.met.E.Encoder.fronts s)))
-
-pub returns-in_err-values-in-End-clause-cause : goal.returns-in_err-values-in-End-clause-cause
-returns-in_err-values-in-End-clause-cause g c =
-    let r = as_it_was (Done g.R.Inlet g.I.Items g.E.Encoder g.W.Outlet (g.I.Items.catalog c.args.items) (g.I.Items.limits c.args.items) c.args.reader.now c.args.writer.now c.loop-fault.reader c.loop-fault.values) (c.in-None.ensures.stays refl) c.loop-fault.invariant.reads in
-    let s = r.0 ++ option_to_list c.value_of.result in
-    let end = c.in_ok-place-in-End.ensures in
-    let place = c.in_ok-place-in-End.place in
-    let stood = stood_last g.R.Inlet g.I.Items _ _ _ _ c.read_on.new.self place c.in_ok-place-in-End.found c.value_of.result r.1.given r.0 (sym c.value_of.ensures) r.1.values (rw c.in-End.is at c.in_ok-value.ensures.ended).empty
-    end.ends (rw c.in-End.is at (c.in_ok-value.ensures.gives _ _ _ r.1.given r.1.each)) in
-    let p = err_from_is_err_and c.from_residual-in_err-values-in-End.result c.from_residual-in_err-values-in-End.ensures.1 in
-    rw (p.1, p.2) (inr (put_cause g.E.Encoder.encoding
-    (ReadSoFar g.R.Inlet g.I.Items (g.I.Items.catalog c.args.items) (g.I.Items.limits c.args.items) c.args.reader.now c.read_on.new.reader)
-    (g.W.Outlet.has_failed c.convert_next-in-End.new.writer) s _ (was_read g.R.Inlet g.I.Items _ _ _ _ place s stood) (c.in_err-values-in-End.ensures.cause r.0 r.3)))
-
-pub returns-in_err-finish-in-End-clause-so_far : goal.returns-in_err-finish-in-End-clause-so_far
-returns-in_err-finish-in-End-clause-so_far g c =
-    let r = as_it_was (Done g.R.Inlet g.I.Items g.E.Encoder g.W.Outlet (g.I.Items.catalog c.args.items) (g.I.Items.limits c.args.items) c.args.reader.now c.args.writer.now c.loop-fault.reader c.loop-fault.values) (c.in-None.ensures.stays refl) c.loop-fault.invariant.reads in
-    let s = r.0 ++ option_to_list c.value_of.result in
-    let end = c.in_ok-place-in-End.ensures in
-    let place = c.in_ok-place-in-End.place in
-    let put = c.in_ok-values-in-End.ensures in
-    let stood = stood_last g.R.Inlet g.I.Items _ _ _ _ c.read_on.new.self place c.in_ok-place-in-End.found c.value_of.result r.1.given r.0 (sym c.value_of.ensures) r.1.values (rw c.in-End.is at c.in_ok-value.ensures.ended).empty
-    end.ends (rw c.in-End.is at (c.in_ok-value.ensures.gives _ _ _ r.1.given r.1.each)) in
-    let wrote = took_whole g.W.Outlet c.args.writer.now c.carry.new.out c.convert_next-in-End.new.writer (g.E.Encoder.puts r.0) (g.E.Encoder.puts s) r.4 (put.wrote r.0 r.3) in
-    on_err c.from_residual-in_err-finish-in-End.result _
-    (so_far s (was_read g.R.Inlet g.I.Items _ _ _ _ place s stood)
-    (took_some g.W.Outlet c.args.writer.now c.convert_next-in-End.new.writer c.finish-in-End.new.out (g.E.Encoder.puts s) (g.E.Encoder.encoding.document s) wrote (c.in_err-finish-in-End.ensures.front s (put.put r.0 r.3))))
-
 pub returns-in-End-clause-converted : goal.returns-in-End-clause-converted
 returns-in-End-clause-converted g c =
     let r = as_it_was (Done g.R.Inlet g.I.Items g.E.Encoder g.W.Outlet (g.I.Items.catalog c.args.items) (g.I.Items.limits c.args.items) c.args.reader.now c.args.writer.now c.loop-fault.reader c.loop-fault.values) (c.in-None.ensures.stays refl) c.loop-fault.invariant.reads in
@@ -166,14 +127,15 @@ returns-in-End-clause-converted g c =
     let s = r.0 ++ option_to_list value in
     let end = c.in_ok-place-in-End.ensures in
     let place = c.in_ok-place-in-End.place in
-    let put = c.in_ok-values-in-End.ensures in
     let stood = stood_last g.R.Inlet g.I.Items _ _ _ _ c.read_on.new.self place c.in_ok-place-in-End.found value r.1.given r.0 (sym c.value_of.ensures) r.1.values (rw c.in-End.is at c.in_ok-value.ensures.ended).empty
     end.ends (rw c.in-End.is at (c.in_ok-value.ensures.gives _ _ _ r.1.given r.1.each)) in
-    let wrote = took_whole g.W.Outlet c.args.writer.now c.carry.new.out c.convert_next-in-End.new.writer (g.E.Encoder.puts r.0) (g.E.Encoder.puts s) r.4 (put.wrote r.0 r.3) in
-    let all = took_whole g.W.Outlet c.args.writer.now c.convert_next-in-End.new.writer c.finish-in-End.new.out (g.E.Encoder.puts s) (g.E.Encoder.encoding.document s) wrote (c.in_ok-finish-in-End.ensures.wrote s (put.put r.0 r.3)) in
-    rw c.counted.ensures
-    (converted_at g.R.Inlet g.I.Items g.W.Outlet g.E.Encoder.encoding _ _ _ _ c.args.writer.now c.finish-in-End.new.out place s c.in_ok-values-in-End.values end.closed
-    (length_more r.0 value c.loop-fault.values c.in_ok-values-in-End.values r.2 put.count) stood all)
+    let last = c.convert_last-converted.ensures in
+    ok_both c.convert_last-converted.result _ _ _ last.count last.wrote
+    (λ answer count wrote.
+    rw count
+    (converted_at g.R.Inlet g.I.Items g.W.Outlet g.E.Encoder.encoding _ _ _ _ c.args.writer.now c.convert_last-converted.new.writer place s _ end.closed
+    (length_more r.0 value c.loop-fault.values _ r.2 refl) stood
+    (took_whole g.W.Outlet c.args.writer.now c.carry.new.out c.convert_last-converted.new.writer (g.E.Encoder.puts r.0) (g.E.Encoder.encoding.document s) r.4 (wrote r.0 r.3))))
 
 pub returns-in-End-clause-kept : goal.returns-in-End-clause-kept
 returns-in-End-clause-kept g c =
@@ -182,21 +144,53 @@ returns-in-End-clause-kept g c =
     let s = r.0 ++ option_to_list value in
     let end = c.in_ok-place-in-End.ensures in
     let place = c.in_ok-place-in-End.place in
-    let put = c.in_ok-values-in-End.ensures in
     let stood = stood_last g.R.Inlet g.I.Items _ _ _ _ c.read_on.new.self place c.in_ok-place-in-End.found value r.1.given r.0 (sym c.value_of.ensures) r.1.values (rw c.in-End.is at c.in_ok-value.ensures.ended).empty
     end.ends (rw c.in-End.is at (c.in_ok-value.ensures.gives _ _ _ r.1.given r.1.each)) in
-    let wrote = took_whole g.W.Outlet c.args.writer.now c.carry.new.out c.convert_next-in-End.new.writer (g.E.Encoder.puts r.0) (g.E.Encoder.puts s) r.4 (put.wrote r.0 r.3) in
-    let all = took_whole g.W.Outlet c.args.writer.now c.convert_next-in-End.new.writer c.finish-in-End.new.out (g.E.Encoder.puts s) (g.E.Encoder.encoding.document s) wrote (c.in_ok-finish-in-End.ensures.wrote s (put.put r.0 r.3)) in
-    rw c.counted.ensures
-    (kept_at g.R.Inlet g.I.Items g.W.Outlet g.E.Encoder.encoding _ _ _ _ c.args.writer.now c.finish-in-End.new.out place s c.in_ok-values-in-End.values end.closed
-    (kept_both r.0 (option_to_list value) r.5 put.kept) stood all)
+    let last = c.convert_last-converted.ensures in
+    ok_three c.convert_last-converted.result _ _ _ _ last.count last.wrote last.kept
+    (λ answer count wrote kept.
+    rw count
+    (kept_at g.R.Inlet g.I.Items g.W.Outlet g.E.Encoder.encoding _ _ _ _ c.args.writer.now c.convert_last-converted.new.writer place s _ end.closed
+    (kept_both r.0 (option_to_list value) r.5 kept) stood
+    (took_whole g.W.Outlet c.args.writer.now c.carry.new.out c.convert_last-converted.new.writer (g.E.Encoder.puts r.0) (g.E.Encoder.encoding.document s) r.4 (wrote r.0 r.3))))
+
+pub returns-in-End-clause-so_far : goal.returns-in-End-clause-so_far
+returns-in-End-clause-so_far g c =
+    let r = as_it_was (Done g.R.Inlet g.I.Items g.E.Encoder g.W.Outlet (g.I.Items.catalog c.args.items) (g.I.Items.limits c.args.items) c.args.reader.now c.args.writer.now c.loop-fault.reader c.loop-fault.values) (c.in-None.ensures.stays refl) c.loop-fault.invariant.reads in
+    let value = c.value_of.result in
+    let s = r.0 ++ option_to_list value in
+    let end = c.in_ok-place-in-End.ensures in
+    let place = c.in_ok-place-in-End.place in
+    let stood = stood_last g.R.Inlet g.I.Items _ _ _ _ c.read_on.new.self place c.in_ok-place-in-End.found value r.1.given r.0 (sym c.value_of.ensures) r.1.values (rw c.in-End.is at c.in_ok-value.ensures.ended).empty
+    end.ends (rw c.in-End.is at (c.in_ok-value.ensures.gives _ _ _ r.1.given r.1.each)) in
+    let last = c.convert_last-converted.ensures in
+    on_err_weaker c.convert_last-converted.result
+    (λ front. so_far s (was_read g.R.Inlet g.I.Items _ _ _ _ place s stood)
+    (took_some g.W.Outlet c.args.writer.now c.carry.new.out c.convert_last-converted.new.writer (g.E.Encoder.puts r.0) (g.E.Encoder.encoding.document s) r.4 (front r.0 r.3)))
+    last.front
+
+pub returns-in-End-clause-cause : goal.returns-in-End-clause-cause
+returns-in-End-clause-cause g c =
+    let r = as_it_was (Done g.R.Inlet g.I.Items g.E.Encoder g.W.Outlet (g.I.Items.catalog c.args.items) (g.I.Items.limits c.args.items) c.args.reader.now c.args.writer.now c.loop-fault.reader c.loop-fault.values) (c.in-None.ensures.stays refl) c.loop-fault.invariant.reads in
+    let value = c.value_of.result in
+    let s = r.0 ++ option_to_list value in
+    let end = c.in_ok-place-in-End.ensures in
+    let place = c.in_ok-place-in-End.place in
+    let stood = stood_last g.R.Inlet g.I.Items _ _ _ _ c.read_on.new.self place c.in_ok-place-in-End.found value r.1.given r.0 (sym c.value_of.ensures) r.1.values (rw c.in-End.is at c.in_ok-value.ensures.ended).empty
+    end.ends (rw c.in-End.is at (c.in_ok-value.ensures.gives _ _ _ r.1.given r.1.each)) in
+    let last = c.convert_last-converted.ensures in
+    err_by c.convert_last-converted.result _ _
+    (λ fault h. inr (put_cause g.E.Encoder.encoding
+    (ReadSoFar g.R.Inlet g.I.Items (g.I.Items.catalog c.args.items) (g.I.Items.limits c.args.items) c.args.reader.now c.read_on.new.reader)
+    (g.W.Outlet.has_failed c.convert_last-converted.new.writer) s fault (was_read g.R.Inlet g.I.Items _ _ _ _ place s stood) h))
+    (last.cause r.0 r.3)
 
 pub returns-in-Some-Err-clause-so_far : goal.returns-in-Some-Err-clause-so_far
 returns-in-Some-Err-clause-so_far g c =
     let r = c.loop-fault.invariant.reads in
     let found = rw c.in-Some-Err.field-0-is at c.in-Some-Err.ensures.carries in
     let s = r.0 ++ found.0 ∷ [] in
-    let source = c.carry.new.self in
+    let source = c.carry.new.source in
     let read = reads_past g.R.Inlet g.I.Items g.E.Encoder g.W.Outlet _ _ c.args.reader.now c.args.writer.now c.loop-fault.reader c.loop-fault.source source found.0 r.0 found.1 r.1 in
     let front = took_some g.W.Outlet c.args.writer.now c.loop-fault.writer c.carry.new.out (g.E.Encoder.puts r.0) (g.E.Encoder.puts s) r.4 (found.2.front r.0 r.3) in
     so_far s (in_reading (record { items = source.items; left = left_of source; ended = false; gave = read }))
@@ -207,7 +201,7 @@ returns-in-Some-Err-clause-cause g c =
     let r = c.loop-fault.invariant.reads in
     let found = rw c.in-Some-Err.field-0-is at c.in-Some-Err.ensures.carries in
     let s = r.0 ++ found.0 ∷ [] in
-    let source = c.carry.new.self in
+    let source = c.carry.new.source in
     let read = reads_past g.R.Inlet g.I.Items g.E.Encoder g.W.Outlet _ _ c.args.reader.now c.args.writer.now c.loop-fault.reader c.loop-fault.source source found.0 r.0 found.1 r.1 in
     inr (put_cause g.E.Encoder.encoding
     (ReadSoFar g.R.Inlet g.I.Items (g.I.Items.catalog c.args.items) (g.I.Items.limits c.args.items) c.args.reader.now c.loop-fault.reader)
@@ -224,10 +218,10 @@ loop-fault-preserved-in-Some-Ok g c =
     record {
       ready = past.ready;
       bound = omega (arith, i.bound, past.less);
-      within = within_past g.R.Inlet g.I.Items c.args.reads c.args.reader.now c.loop-fault.reader c.loop-fault.source c.carry.new.self found.0 past i.within;
+      within = within_past g.R.Inlet g.I.Items c.args.reads c.args.reader.now c.loop-fault.reader c.loop-fault.source c.carry.new.source found.0 past i.within;
       reads = (
         s,
-        reads_past g.R.Inlet g.I.Items g.E.Encoder g.W.Outlet _ _ c.args.reader.now c.args.writer.now c.loop-fault.reader c.loop-fault.source c.carry.new.self found.0 r.0 past r.1,
+        reads_past g.R.Inlet g.I.Items g.E.Encoder g.W.Outlet _ _ c.args.reader.now c.args.writer.now c.loop-fault.reader c.loop-fault.source c.carry.new.source found.0 r.0 past r.1,
         length_more r.0 (Some found.0) c.loop-fault.values _ r.2 refl,
         put.put r.0 r.3,
         took_whole g.W.Outlet c.args.writer.now c.loop-fault.writer c.carry.new.out (g.E.Encoder.puts r.0) (g.E.Encoder.puts s) r.4 (put.wrote r.0 r.3),

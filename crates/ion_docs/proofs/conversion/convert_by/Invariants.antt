@@ -1,5 +1,5 @@
 use Rattle.std.proofs.Common.{◌+◌, ◌*◌, ◌≤◌, ◌^◌}
-use Rattle.ion_docs.specs.reading.Read.{IsReady, IsWithin, work}
+use Rattle.ion_streams.specs.reading.Read.{IsReady, IsWithin, work}
 use Rattle.ion_docs.proofs.Carrying.{Done}
 use Rattle.ion_docs.proofs.conversion.convert_by.Given as goal
 

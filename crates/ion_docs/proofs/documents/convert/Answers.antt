@@ -1,7 +1,7 @@
 use Rattle.std.proofs.Common.{rules, [], ◌≡◌, IfOk}
 use Rattle.ion_symtab.specs.laws.Took.{Front-none}
 use Rattle.ion_docs.specs.Converted.{at_start}
-use Rattle.ion_docs.proofs.Steps.{on_err}
+use Rattle.ion_streams.proofs.Steps.{on_err}
 use Rattle.ion_docs.specs.Encodings.{encoding_of}
 use Rattle.ion_docs.specs.Formats.{documents}
 use Rattle.ion_docs.specs.Conversion.{WritesKept}

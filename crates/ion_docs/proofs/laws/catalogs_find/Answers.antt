@@ -6,7 +6,7 @@ use Rattle.ion_symtab.specs.declared.limits.Limits.{Limits}
 use Rattle.ion_docs.specs.laws.Documents.{one_document}
 use Rattle.ion_docs.specs.Documents.{Denotes}
 use Rattle.ion_docs.specs.Formats.{documents}
-use Rattle.ion_docs.specs.Loaded.{AreApart, IsCatalog}
+use Rattle.ion_streams.specs.Loaded.{AreApart, IsCatalog}
 use Rattle.ion_docs.proofs.Tables.{loaded_document, finds, finds_none}
 use Rattle.ion_docs.proofs.laws.catalogs_find.Goals as goal
 

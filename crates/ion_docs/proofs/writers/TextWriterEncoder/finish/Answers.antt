@@ -1,7 +1,7 @@
 use Rattle.std.proofs.Common.{[], append-nil}
 use Rattle.std.proofs.lemmas.Result.{on_ok_weaker}
 use Rattle.ion_text.specs.Output.{text_of}
-use Rattle.ion_docs.proofs.Steps.{on_err}
+use Rattle.ion_streams.proofs.Steps.{on_err}
 use Rattle.ion_docs.proofs.writers.TextWriterEncoder.finish.Goals as goal
 
 pub returns-clause-wrote : goal.returns-clause-wrote

@@ -1,6 +1,0 @@
-use Rattle.ion_docs.specs.Listing.{accepted_line}
-use Rattle.ion_docs.proofs.listing.accepted.Goals as goal
-
-pub returns : goal.returns
-unfolding accepted_line
-returns c = c.format.ensures.ok

@@ -1,0 +1,42 @@
+-- Pieces of octets that are used from the front.
+use Rattle.std.proofs.Common.{◌≡◌, ℕ, ◌+◌, ◌-◌, ◌≤◌, List, [], ◌++◌, take, drop, refl, ap, sym, subst, ◌∙◌, arith, Option, Some, None, IsNone, append_assoc}
+use Rattle.std.proofs.lemmas.List.{take-append-drop, drop-take, drop-drop}
+use Rattle.ion_model.specs.declared.value.Value.{Value}
+use Rattle.ion_symtab.specs.Trace.{given_at}
+use Rattle.ion_symtab.specs.declared.items.Items.{Ghosts as Items}
+use Rattle.ion_streams.specs.reading.Read.{between, left_of, Begins, Went}
+use Rattle.ion_streams.specs.declared.source.Source.{Source}
+
+pub between_drop : (piece : List ℕ) (at end used : ℕ) → used ≤ end - at → drop used (between piece at end) ≡ between piece (at + used) end
+between_drop piece at end used h =
+    let e : end - at ≡ used + (end - (at + used)) = omega arith in
+    ap (λ n. drop used (take n (drop at piece))) e ∙ (drop-take used (end - (at + used)) (drop at piece) ∙ ap (take (end - (at + used))) (drop-drop used at piece))
+
+pub between_cut : (piece : List ℕ) (at end used : ℕ) → used ≤ end - at → take used (between piece at end) ++ between piece (at + used) end ≡ between piece at end
+between_cut piece at end used h = ap (λ x. take used (between piece at end) ++ x) (sym (between_drop piece at end used h)) ∙ take-append-drop used (between piece at end)
+
+pub between_nil : (piece : List ℕ) (at end : ℕ) → end ≤ at → between piece at end ≡ []
+between_nil piece at end h = let e : end - at ≡ 0 = omega arith in ap (λ n. take n (drop at piece)) e
+
+pub went : {X : Type 0} (I : Items X) (u : List ℕ) (given : List (Value × ℕ)) (piece : List ℕ) (at end used total : ℕ) (after : Source X) (value : Option Value) →
+    used ≤ end - at → left_of after ≡ between piece (at + used) end → total ≡ after.used → I.stands after.items (u ++ take used (between piece at end)) (given ++ given_at value total) → Went I u given (between piece at end) after value
+went I u given piece at end used total after value fits rest same h = record {
+  to = u ++ take used (between piece at end);
+  stood = subst (λ (n : ℕ). I.stands after.items (u ++ take used (between piece at end)) (given ++ given_at value n)) same h;
+  octets = ap (λ x. (u ++ take used (between piece at end)) ++ x) rest ∙ (append_assoc u (take used (between piece at end)) (between piece (at + used) end) ∙ ap (λ x. u ++ x) (between_cut piece at end used fits));
+}
+
+pub begins_drop : (awaits : Option ℕ) (piece : List ℕ) (at end used : ℕ) → used ≤ end - at → Begins awaits (drop used (between piece at end)) → Begins awaits (between piece (at + used) end)
+begins_drop None piece at end used fits h = h
+begins_drop (Some b) piece at end used fits h = (h.0, sym (between_drop piece at end used fits) ∙ h.1)
+
+-- where nothing is left and something is awaited, nothing can have begun
+pub begins_any : (a b : Option ℕ) (rest more : List ℕ) → b ≡ a → rest ≡ [] → Begins a rest → Begins b more
+begins_any None None rest more e h k = k
+begins_any None (Some c) rest more e h k = absurd cc
+begins_any (Some a) b rest more e h k = let l = sym h ∙ k.1 in absurd cc
+
+-- where nothing is left, nothing is awaited
+pub none_awaited : (awaits : Option ℕ) (rest : List ℕ) → rest ≡ [] → Begins awaits rest → IsNone awaits
+none_awaited None rest e h = refl
+none_awaited (Some b) rest e h = let l = sym h.1 ∙ e in absurd cc

@@ -1,0 +1,227 @@
+-- How far a document has been read, step by step.
+use Rattle.std.proofs.Common.{◌≡◌, ℕ, ◌+◌, ◌^◌, ◌≤◌, List, [], ◌∷◌, ◌++◌, length, refl, ap, sym, subst, ◌∙◌, arith, Bool, true, false, Option, Some, None, option_map, option_to_list, append-nil, length-append, Result, Ok, Err, OnErr}
+use Rattle.std.proofs.lemmas.List.{map-append}
+use Rattle.ion_model.specs.declared.value.Value.{Value}
+use Rattle.ion_atoms.specs.declared.refusal.Refusal.{Refusal}
+use Rattle.ion_symtab.specs.declared.catalog.Catalog.{Catalog}
+use Rattle.ion_symtab.specs.declared.limits.Limits.{Limits}
+use Rattle.ion_symtab.specs.declared.inlet.Inlet.{Ghosts as Inlet}
+use Rattle.ion_symtab.specs.declared.items.Items.{Ghosts as Items}
+use Rattle.ion_symtab.specs.Trace.{plain, given_at}
+use Rattle.ion_symtab.specs.Heard.{Heard}
+use Rattle.ion_symtab.specs.laws.Heard.{Heard-nil, Heard-trans, Heard-end}
+use Rattle.ion_symtab.specs.laws.Causes.{WereMade-nil}
+use Rattle.ion_streams.specs.Formats.{format_of}
+use Rattle.ion_streams.specs.reading.Read.{left_of, Begins, IsReady, IsWithin, Went, GaveEach, GaveSoFar, Reads, ReadsEach}
+use Rattle.ion_streams.specs.Outcomes.{EndsWell, EndsRefused, ToldDocument, ToldRefused, ToldEach, ToldRefusedEach}
+use Rattle.ion_streams.specs.reading.Standing.{IfOpen, MatchClosed, work_of, Stood, StoodEach}
+use Rattle.ion_streams.specs.reading.Reached.{Reaches}
+use Rattle.ion_streams.specs.declared.source.Source.{Source}
+use Rattle.ion_streams.specs.declared.source.Reached.TheVariants.{Value as AValue}
+use Rattle.ion_streams.specs.declared.source.Standing.{Standing}
+use Rattle.ion_streams.specs.declared.source.Standing.TheVariants as TheStanding
+
+pub on_err : {A E : Type 0} (result : Result A E) (P : Type 0) → P → OnErr result P
+on_err (Ok a) P p = tt
+on_err (Err e) P p = p
+
+plain_more : (given : List (Value × ℕ)) (found : Option (Value × ℕ)) → plain (given ++ option_to_list found) ≡ plain given ++ option_to_list (option_map (λ (x : Value × ℕ). x.0) found)
+plain_more given None = map-append (λ (x : Value × ℕ). x.0) given []
+plain_more given (Some x) = map-append (λ (x : Value × ℕ). x.0) given (x ∷ [])
+
+pub plain_next : (given : List (Value × ℕ)) (found : Option (Value × ℕ)) (value : Option Value) (s : List Value) → plain given ≡ s → option_map (λ (x : Value × ℕ). x.0) found ≡ value → plain (given ++ option_to_list found) ≡ s ++ option_to_list value
+plain_next given found value s values same =
+    plain_more given found ∙ (ap (λ x. x ++ option_to_list (option_map (λ (x : Value × ℕ). x.0) found)) values ∙ ap (λ (x : Option Value). s ++ option_to_list x) same)
+
+module _ {S X : Type 0} (R : Inlet S) (I : Items X) (g : Catalog) (l : Limits) where
+  -- some octets were used
+  pub reads_by : (first now : S) (source after : Source X) (given : List (Value × ℕ)) (value : Option Value) (h : ReadsEach R I g l first now source given) → Went I h.u given (left_of source) after value →
+      I.catalog after.items ≡ I.catalog source.items → I.limits after.items ≡ I.limits source.items → ReadsEach R I g l first now after (given ++ given_at value after.used)
+  reads_by first now source after given value h w under within =
+      record {
+        u = w.to;
+        heard = subst (λ (x : List ℕ). Heard R first now x false) (sym w.octets) h.heard;
+        stood = w.stood;
+        under = under ∙ h.under;
+        within = within ∙ h.within;
+      }
+
+  pub reads_went : (first now : S) (source after : Source X) (given : List (Value × ℕ)) (value : Option Value) → ReadsEach R I g l first now source given →
+      ((u : List ℕ) (given : List (Value × ℕ)) → I.stands source.items u given → Went I u given (left_of source) after value) →
+      I.catalog after.items ≡ I.catalog source.items → I.limits after.items ≡ I.limits source.items → ReadsEach R I g l first now after (given ++ given_at value after.used)
+  reads_went first now source after given value h go under within = reads_by first now source after given value h (go h.u given h.stood) under within
+
+  -- nothing was left, and the device was asked again
+  pub reads_filled : (first now new : S) (source after : Source X) (more : List ℕ) (ended : Bool) (given : List (Value × ℕ)) → ReadsEach R I g l first now source given → left_of source ≡ [] → Heard R now new more ended →
+      left_of after ≡ more → after.items ≡ source.items → GaveEach R I g l first new after.items (left_of after) ended given
+  reads_filled first now new source after more ended given h empty heard rest same =
+      record {
+        u = h.u;
+        heard = subst (λ (x : List ℕ). Heard R first new x ended) (ap (λ x. (h.u ++ x) ++ more) empty ∙ (ap (λ x. x ++ more) (append-nil h.u) ∙ ap (λ x. h.u ++ x) (sym rest)))
+            (Heard-trans R first now new (h.u ++ left_of source) more ended h.heard heard);
+        stood = subst (λ (x : X). I.stands x h.u given) (sym same) h.stood;
+        under = ap (λ (x : X). I.catalog x) same ∙ h.under;
+        within = ap (λ (x : X). I.limits x) same ∙ h.within;
+      }
+
+  -- the device told nothing more
+  pub reads_kept : (first now new : S) (source : Source X) (given : List (Value × ℕ)) → ReadsEach R I g l first now source given → Heard R now new [] false → ReadsEach R I g l first new source given
+  reads_kept first now new source given h heard =
+      record {
+        u = h.u;
+        heard = subst (λ (x : List ℕ). Heard R first new x false) (append-nil (h.u ++ left_of source)) (Heard-trans R first now new (h.u ++ left_of source) [] false h.heard heard);
+        stood = h.stood;
+        under = h.under;
+        within = h.within;
+      }
+
+  -- the values alone, as far as they were read
+  pub gave_so_far : (first now : S) (items : X) (left : List ℕ) (ended : Bool) (given : List (Value × ℕ)) (s : List Value) → plain given ≡ s → GaveEach R I g l first now items left ended given → GaveSoFar R I g l first now s
+  gave_so_far first now items left ended given s values each = record { items = items; left = left; ended = ended; gave = record { given = given; each = each; values = values } }
+
+  -- a step refused
+  pub reads_failed : (first now : S) (source : Source X) (given : List (Value × ℕ)) (r : Refusal) → ReadsEach R I g l first now source given →
+      ((u : List ℕ) (given : List (Value × ℕ)) → I.stands source.items u given → (more : List ℕ) → EndsRefused (format_of I g l) ((u ++ left_of source) ++ more) given r) → ToldRefusedEach R (format_of I g l) first now given r
+  reads_failed first now source given r h refused =
+      record { octets = h.u ++ left_of source; ended = false; heard = h.heard; ends = λ more _. refused h.u given h.stood more }
+
+  heard_all : (first now : S) (u rest : List ℕ) → Heard R first now (u ++ rest) true → rest ≡ [] → Heard R first now u true
+  heard_all first now u rest heard empty = subst (λ (x : List ℕ). Heard R first now x true) (ap (λ x. u ++ x) empty ∙ append-nil u) heard
+
+  reads_ended : (first now : S) (items : X) (left : List ℕ) (given all : List (Value × ℕ)) → GaveEach R I g l first now items left true given → left ≡ [] →
+      ((u : List ℕ) → I.stands items u given → EndsWell (format_of I g l) u all) → ToldEach R (format_of I g l) first now all
+  reads_ended first now items left given all h empty go =
+      let heard = heard_all first now h.u left h.heard empty in
+      record { octets = h.u; told = Heard-end R first now h.u heard; heard = heard; ends = go h.u h.stood }
+
+  reads_stopped : (first now : S) (items : X) (left : List ℕ) (given : List (Value × ℕ)) (r : Refusal) → GaveEach R I g l first now items left true given → left ≡ [] →
+      ((u : List ℕ) → I.stands items u given → EndsRefused (format_of I g l) u given r) → ToldRefusedEach R (format_of I g l) first now given r
+  reads_stopped first now items left given r h empty refused =
+      record {
+        octets = h.u;
+        ended = true;
+        heard = heard_all first now h.u left h.heard empty;
+        ends = λ more none. subst (λ (x : List ℕ). EndsRefused (format_of I g l) x given r) (sym (ap (λ x. h.u ++ x) (none refl) ∙ append-nil h.u)) (refused h.u h.stood);
+      }
+
+  -- some octets were used, and gave no value
+  pub reads_none : (first now : S) (source after : Source X) (given : List (Value × ℕ)) → ReadsEach R I g l first now source given →
+      ((u : List ℕ) (given : List (Value × ℕ)) → I.stands source.items u given → Went I u given (left_of source) after None) →
+      I.catalog after.items ≡ I.catalog source.items → I.limits after.items ≡ I.limits source.items → ReadsEach R I g l first now after given
+  reads_none first now source after given h go under within = rw append-nil at (reads_went first now source after given None h go under within)
+
+  -- the end of a document whose octets were all used
+  pub last_gives : (first now : S) (source : Source X) (given : List (Value × ℕ)) (place : Standing X) (last : Option (Value × ℕ)) → left_of source ≡ [] →
+      ((u : List ℕ) (given : List (Value × ℕ)) → I.stands source.items u given → MatchClosed place (EndsWell (format_of I (I.catalog source.items) (I.limits source.items)) u (given ++ option_to_list last))
+      (λ r. (last ≡ None) × EndsRefused (format_of I (I.catalog source.items) (I.limits source.items)) u given r)) →
+      GaveEach R I g l first now source.items (left_of source) true given → StoodEach R I g l first now place (given ++ option_to_list last)
+  last_gives first now source given (TheStanding.Open after) last empty ends h = absurd (ends h.u given h.stood)
+  last_gives first now source given TheStanding.Ended last empty ends h =
+      let ended = rw (h.under, h.within) at ends in
+      reads_ended first now source.items (left_of source) given (given ++ option_to_list last) h empty (λ u stood. ended u given stood)
+  last_gives first now source given (TheStanding.Refused r) last empty ends h =
+      let ended = rw (h.under, h.within) at ends in
+      let nothing : option_to_list last ≡ [] = ap (λ (x : Option (Value × ℕ)). option_to_list x) (ended h.u given h.stood).0 in
+      subst (λ (x : List (Value × ℕ)). ToldRefusedEach R (format_of I g l) first now x r) (sym (ap (λ x. given ++ x) nothing ∙ append-nil given))
+      (reads_stopped first now source.items (left_of source) given r h empty (λ u stood. (ended u given stood).1))
+
+  -- the values alone, wherever the document stands
+  pub stood_plain : (first now : S) (place : Standing X) (given : List (Value × ℕ)) → StoodEach R I g l first now place given → Stood R I g l first now place (plain given)
+  stood_plain first now (TheStanding.Open source) given h = record { given = given; each = h; values = refl }
+  stood_plain first now TheStanding.Ended given h = record { octets = h.octets; told = h.told; heard = h.heard; denoted = h.ends.denoted }
+  stood_plain first now (TheStanding.Refused refusal) given h = record { octets = h.octets; ended = h.ended; heard = h.heard; refused = λ more may. (h.ends more may).refused }
+
+  -- a document that can't be read on and isn't refused was one
+  pub stood_ended : (first now : S) (place : Standing X) (s : List Value) → IfOpen place (λ source. ⊥) → ((r : Refusal) → place ≡ TheStanding.Refused r → ⊥) → Stood R I g l first now place s → ToldDocument R (format_of I g l) first now s
+  stood_ended first now (TheStanding.Open source) s closed other h = absurd closed
+  stood_ended first now TheStanding.Ended s closed other h = h
+  stood_ended first now (TheStanding.Refused r) s closed other h = absurd (other r refl)
+
+  -- the same with the total of octets used when each value came
+  pub each_ended : (first now : S) (place : Standing X) (given : List (Value × ℕ)) → IfOpen place (λ source. ⊥) → ((r : Refusal) → place ≡ TheStanding.Refused r → ⊥) → StoodEach R I g l first now place given → ToldEach R (format_of I g l) first now given
+  each_ended first now (TheStanding.Open source) given closed other h = absurd closed
+  each_ended first now TheStanding.Ended given closed other h = h
+  each_ended first now (TheStanding.Refused r) given closed other h = absurd (other r refl)
+
+  -- the values alone before a refusal
+  pub refused_plain : (first now : S) (refusal : Refusal) (given : List (Value × ℕ)) (s : List Value) → plain given ≡ s → ToldRefusedEach R (format_of I g l) first now given refusal → ToldRefused R (format_of I g l) first now s refusal
+  refused_plain first now refusal given s values h = subst (λ (x : List Value). ToldRefused R (format_of I g l) first now x refusal) values (stood_plain first now (TheStanding.Refused refusal) given h)
+
+  -- the values alone, also of one more
+  pub reads_more : {A : Type 0} (of : Value → A) (first old now : S) (source after : Source X) (s : List Value) (found : A) (h : Reads R I g l first old source s) → Reaches of R I g l first now after h.given (AValue found) →
+      (v : Value) × (of v ≡ found) × Reads R I g l first now after (s ++ v ∷ [])
+  reads_more of first old now source after s found h w =
+      (w.0, w.1, record { given = h.given ++ (w.0, after.used) ∷ []; each = w.2; values = plain_next h.given (Some (w.0, after.used)) (Some w.0) s h.values refl })
+
+  -- the next value is the one that is told
+  pub each_next : (first now : S) (after : Source X) (given : List (Value × ℕ)) (v : Value) → Reaches (λ (x : Value). x) R I g l first now after given (AValue v) →
+      ReadsEach R I g l first now after (given ++ (v, after.used) ∷ [])
+  each_next first now after given v w = subst (λ (x : Value). ReadsEach R I g l first now after (given ++ (x, after.used) ∷ [])) w.1 w.2
+
+  pub reads_next : (first old now : S) (source after : Source X) (s : List Value) (v : Value) (h : Reads R I g l first old source s) → Reaches (λ (x : Value). x) R I g l first now after h.given (AValue v) →
+      Reads R I g l first now after (s ++ v ∷ [])
+  reads_next first old now source after s v h w =
+      let more = reads_more (λ (x : Value). x) first old now source after s v h w in
+      subst (λ (x : Value). Reads R I g l first now after (s ++ x ∷ [])) more.1 more.2
+
+  -- the values alone, also of one that the end showed
+  pub stood_last : (first now : S) (source : Source X) (place : Standing X) (found : Option (Value × ℕ)) (value : Option Value) (given : List (Value × ℕ)) (s : List Value) → option_map (λ (x : Value × ℕ). x.0) found ≡ value → plain given ≡ s → left_of source ≡ [] →
+      ((u : List ℕ) (given : List (Value × ℕ)) → I.stands source.items u given → MatchClosed place (EndsWell (format_of I (I.catalog source.items) (I.limits source.items)) u (given ++ option_to_list found))
+      (λ r. (found ≡ None) × EndsRefused (format_of I (I.catalog source.items) (I.limits source.items)) u given r)) →
+      GaveEach R I g l first now source.items (left_of source) true given → Stood R I g l first now place (s ++ option_to_list value)
+  stood_last first now source place found value given s same values empty ends h =
+      subst (λ (x : List Value). Stood R I g l first now place x) (plain_next given found value s values same) (stood_plain first now place (given ++ option_to_list found) (last_gives first now source given place found empty ends h))
+
+-- of a document that can't be read on
+pub closed_open : {X : Type 0} (place : Standing X) (P : Source X → Type 0) → IfOpen place (λ source. ⊥) → IfOpen place P
+closed_open (TheStanding.Open source) P closed = absurd closed
+closed_open TheStanding.Ended P closed = tt
+closed_open (TheStanding.Refused r) P closed = tt
+
+pub closed_work : {X : Type 0} (I : Items X) (place : Standing X) → IfOpen place (λ source. ⊥) → work_of I place ≡ 0
+closed_work I (TheStanding.Open source) closed = absurd closed
+closed_work I TheStanding.Ended closed = refl
+closed_work I (TheStanding.Refused r) closed = refl
+
+-- nothing was read yet
+pub each_begun : {S X : Type 0} (R : Inlet S) (I : Items X) (now : S) (source : Source X) (items : X) → I.stands items [] [] → source.items ≡ items → left_of source ≡ [] →
+    ReadsEach R I (I.catalog items) (I.limits items) now now source []
+each_begun R I now source items stood same empty =
+    record {
+      u = [];
+      heard = subst (λ (x : List ℕ). Heard R now now x false) (sym empty) (Heard-nil R now);
+      stood = subst (λ (x : _). I.stands x [] []) (sym same) stood;
+      under = ap (λ (x : _). I.catalog x) same;
+      within = ap (λ (x : _). I.limits x) same;
+    }
+
+pub reads_begun : {S X : Type 0} (R : Inlet S) (I : Items X) (now : S) (source : Source X) (items : X) → I.stands items [] [] → source.items ≡ items → left_of source ≡ [] →
+    Reads R I (I.catalog items) (I.limits items) now now source []
+reads_begun R I now source items stood same empty = record { given = []; each = each_begun R I now source items stood same empty; values = refl }
+
+pub ready_begun : {X : Type 0} (I : Items X) (source : Source X) (items : X) → I.taken items ≡ 0 → I.awaits items ≡ None → source.items ≡ items → (source.at ≡ 0) × (source.end ≡ 0) × (source.used ≡ 0) → length source.piece.items ≡ 4096 → source.reads ≤ 2 ^ 32 →
+    IsReady I source
+ready_begun I source items none free same empty piece few =
+    let nothing : I.taken source.items ≡ 0 = ap (λ (x : _). I.taken x) same ∙ none in
+    record {
+      within = omega arith;
+      fits = omega arith;
+      piece = piece;
+      room = omega arith;
+      begins = subst (λ (x : Option ℕ). Begins x (left_of source)) (sym (ap (λ (x : _). I.awaits x) same ∙ free)) tt;
+      counted = nothing ∙ sym empty.2;
+    }
+
+pub within_begun : {S X : Type 0} (R : Inlet S) (now : S) (source : Source X) (reads : ℕ) → source.reads ≡ reads → IsWithin R reads now now source
+within_begun R now source reads e = record { made = 0; were = WereMade-nil R now; rest = omega arith }
+
+-- a device that wasn't asked
+pub within_kept : {S X : Type 0} (R : Inlet S) (reads : ℕ) (first now : S) (source after : Source X) → after.reads ≡ source.reads → IsWithin R reads first now source → IsWithin R reads first now after
+within_kept R reads first now source after e w = record { made = w.made; were = w.were; rest = ap (λ (n : ℕ). w.made + n) e ∙ w.rest }
+
+pub one_at_most : (value : Option Value) → length (option_to_list value) ≤ 1
+one_at_most None = omega arith
+one_at_most (Some v) = omega arith
+
+pub length_more : (s : List Value) (value : Option Value) (n m : ℕ) → length s ≡ n → m ≡ n + length (option_to_list value) → length (s ++ option_to_list value) ≡ m
+length_more s value n m h e = length-append s (option_to_list value) ∙ (ap (λ k. k + length (option_to_list value)) h ∙ sym e)

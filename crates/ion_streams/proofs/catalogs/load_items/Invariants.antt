@@ -1,0 +1,15 @@
+use Rattle.std.proofs.Common.{◌≡◌, ℕ, List, [], Ok}
+use Rattle.ion_model.specs.declared.value.Value.{Value}
+use Rattle.ion_streams.specs.reading.Read.{IsReady, IsWithin, work, ReadsEach}
+use Rattle.ion_streams.specs.Loaded.{catalog_of}
+use Rattle.ion_streams.proofs.catalogs.load_items.Given as goal
+
+abbrev pub invariant-loop-catalog : goal.invariant-loop-catalog
+invariant-loop-catalog g l = record {
+  ready : IsReady g.I.Items l.source;
+  within : IsWithin g.R.Inlet l.fn.reads l.fn.reader l.reader l.source;
+  reads : (given : List (Value × ℕ)) × ReadsEach g.R.Inlet g.I.Items (g.I.Items.catalog l.fn.items) (g.I.Items.limits l.fn.items) l.fn.reader l.reader l.source given × (catalog_of [] given ≡ Ok l.catalog);
+}
+
+abbrev pub decreases-loop-catalog : goal.decreases-loop-catalog
+decreases-loop-catalog g l = work g.I.Items l.source

@@ -1,0 +1,41 @@
+use Rattle.std.proofs.Common.{ℕ, ◌+◌, ◌-◌, ◌≤◌, ◌++◌, length, refl, arith, length-take, length-drop}
+use Rattle.ion_streams.specs.Formats.{format_of}
+use Rattle.ion_streams.specs.reading.Read.{left_of}
+use Rattle.ion_streams.proofs.Pieces.{went, begins_drop}
+use Rattle.ion_streams.proofs.Endings.{refused_early}
+use Rattle.ion_streams.proofs.source.Source.pass.Goals as goal
+
+pub returns-in-Err-clause-refuses : goal.returns-in-Err-clause-refuses
+returns-in-Err-clause-refuses g c = λ other u given h more.
+    let catalog = g.I.Items.catalog c.args.self.now.items in
+    let limits = g.I.Items.limits c.args.self.now.items in
+    let w = u ++ left_of c.args.self.now in
+    let a = rw c.deref.ensures.value at (c.in-Err.ensures.refuses u given h other) in
+    refused_early (format_of g.I.Items catalog limits) (g.met.I.Items.reasons catalog limits) w more given c.in-Err.refusal a.0 a.1 (g.met.I.Items.refused catalog limits w c.in-Err.refusal a.1) (g.met.I.Items.settled catalog limits w more)
+
+pub returns-in-Ok-clause-gives : goal.returns-in-Ok-clause-gives
+returns-in-Ok-clause-gives g c = λ u given h.
+    let used = c.in-Ok.ensures.used in
+    let fits : c.in-Ok.field-0.used ≤ c.args.self.now.end - c.args.self.now.at = omega (arith, used, length-take {A = ℕ}, length-drop {A = ℕ}) in
+    let total = g.met.I.Items.counted c.args.self.now.items u given h in
+    let counted = c.requires.counted in
+    let stood = rw c.deref.ensures.value at (c.in-Ok.ensures.stands u given h) in (
+      stood.0,
+      stood.1,
+      went g.I.Items u given c.args.self.now.piece.items c.args.self.now.at c.args.self.now.end c.in-Ok.field-0.used (length u + c.in-Ok.field-0.used) _ stood.0 fits refl (omega (arith, total, counted)) stood.2,
+    )
+
+pub returns-in-Ok-clause-ready : goal.returns-in-Ok-clause-ready
+returns-in-Ok-clause-ready g c =
+    let ready = c.requires in
+    let used = c.in-Ok.ensures.used in
+    let taken = c.in-Ok.ensures.counts in
+    let fits : c.in-Ok.field-0.used ≤ c.args.self.now.end - c.args.self.now.at = omega (arith, used, length-take {A = ℕ}, length-drop {A = ℕ}) in
+    record {
+      within = omega (arith, fits, ready.within);
+      fits = ready.fits;
+      piece = ready.piece;
+      room = omega (arith, ready.room, ready.within, fits, taken);
+      begins = begins_drop (g.I.Items.awaits c.pass.new.self) c.args.self.now.piece.items c.args.self.now.at c.args.self.now.end c.in-Ok.field-0.used fits (rw c.deref.ensures.value at c.in-Ok.ensures.awaited);
+      counted = omega (arith, ready.counted, taken);
+    }

@@ -1,0 +1,19 @@
+use Rattle.std.proofs.Common.{◌≤◌, ℕ, List}
+use Rattle.ion_model.specs.declared.value.Value.{Value}
+use Rattle.ion_symtab.specs.declared.catalog.Catalog.{Catalog}
+use Rattle.ion_symtab.specs.declared.limits.Limits.{Limits}
+use Rattle.ion_streams.specs.reading.Read.{IsReady, IsWithin, work, ReadsEach}
+use Rattle.ion_streams.proofs.source.Source.pass_on.Given as goal
+
+-- nothing was given yet
+abbrev pub invariant-loop-refusal : goal.invariant-loop-refusal
+invariant-loop-refusal g l = record {
+  ready : IsReady g.I.Items l.self;
+  less : work g.I.Items l.self ≤ work g.I.Items l.fn.self;
+  within : (first : g.row.R.Denot) (reads : ℕ) → IsWithin g.R.Inlet reads first l.fn.reader l.fn.self → IsWithin g.R.Inlet reads first l.reader l.self;
+  reads : (catalog : Catalog) (limits : Limits) (first : g.row.R.Denot) (given : List (Value × ℕ)) → ReadsEach g.R.Inlet g.I.Items catalog limits first l.fn.reader l.fn.self given
+      → ReadsEach g.R.Inlet g.I.Items catalog limits first l.reader l.self given;
+}
+
+abbrev pub decreases-loop-refusal : goal.decreases-loop-refusal
+decreases-loop-refusal g l = l.self.reads

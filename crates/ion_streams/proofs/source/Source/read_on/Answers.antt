@@ -1,0 +1,76 @@
+use Rattle.std.proofs.Common.{rules, ◌≢◌, false, arith, refl}
+use Rattle.ion_atoms.specs.declared.refusal.Reason.TheVariants as reasons
+use Rattle.std.proofs.lemmas.Result.{err_from_is_err_and}
+use Rattle.ion_streams.specs.reading.Read.{left_of}
+use Rattle.ion_streams.proofs.Steps.{gave_so_far, reads_went, reads_none, reads_failed, within_kept, on_err}
+use Rattle.ion_streams.proofs.source.Source.read_on.Goals as goal
+
+pub returns-in-Err-Memory-clause-kept : goal.returns-in-Err-Memory-clause-kept
+returns-in-Err-Memory-clause-kept g c = λ catalog limits first s h.
+    gave_so_far g.R.Inlet g.I.Items catalog limits first c.loop-refusal.reader c.loop-refusal.self.items (left_of c.loop-refusal.self) false h.given s h.values (c.loop-refusal.invariant.reads catalog limits first h.given h.each)
+
+pub returns-in-Err-clause-gives : goal.returns-in-Err-clause-gives
+returns-in-Err-clause-gives g c =
+    let other : c.in-Err.refusal.reason ≢ reasons.Memory = search rules in
+    let refuses = c.in-Err.ensures.refuses other in
+    λ catalog limits first given h.
+    let r = c.loop-refusal.invariant.reads catalog limits first given h in
+    reads_failed g.R.Inlet g.I.Items catalog limits first c.loop-refusal.reader c.loop-refusal.self given c.in-Err.refusal r (rw (r.under, r.within) at refuses)
+
+pub returns-in-Ok-Some-clause-gives : goal.returns-in-Ok-Some-clause-gives
+returns-in-Ok-Some-clause-gives g c =
+    let t = c.in-Ok-Some.ensures in
+    λ catalog limits first given h. (
+      c.in-Ok-Some.value,
+      refl,
+      reads_went g.R.Inlet g.I.Items catalog limits first c.loop-refusal.reader c.loop-refusal.self c.take.new.self given _ (c.loop-refusal.invariant.reads catalog limits first given h)
+          (rw c.in-Ok-Some.field-0-is at t.gives) t.catalog t.limits,
+    )
+
+pub returns-in-Ok-Some-clause-within : goal.returns-in-Ok-Some-clause-within
+returns-in-Ok-Some-clause-within g c = λ first reads h.
+    within_kept g.R.Inlet reads first c.loop-refusal.reader c.loop-refusal.self c.take.new.self c.in-Ok-Some.ensures.reads (c.loop-refusal.invariant.within first reads h)
+
+pub returns-in_err-refill-clause-cause : goal.returns-in_err-refill-clause-cause
+returns-in_err-refill-clause-cause g c =
+    let p = err_from_is_err_and c.from_residual.result c.from_residual.ensures.1 in
+    rw (p.1, p.2) (λ first reads h.
+    c.in_err-refill.ensures.cause first reads (within_kept g.R.Inlet reads first c.loop-refusal.reader c.loop-refusal.self c.take.new.self c.in-Ok-None.ensures.reads (c.loop-refusal.invariant.within first reads h)))
+
+pub returns-in_err-refill-clause-kept : goal.returns-in_err-refill-clause-kept
+returns-in_err-refill-clause-kept g c =
+    let i = c.loop-refusal.invariant in
+    let from = c.loop-refusal.self in
+    let mid = c.take.new.self in
+    let t = c.in-Ok-None.ensures in
+    let gives = rw c.in-Ok-None.field-0-is at t.gives in
+    on_err c.from_residual.result _ (λ catalog limits first s h.
+    c.in_err-refill.ensures.kept catalog limits first s
+    (record { given = h.given; each = reads_none g.R.Inlet g.I.Items catalog limits first c.loop-refusal.reader from mid h.given (i.reads catalog limits first h.given h.each) gives t.catalog t.limits; values = h.values }))
+
+pub loop-refusal-preserved : goal.loop-refusal-preserved
+loop-refusal-preserved g c =
+    let i = c.loop-refusal.invariant in
+    let from = c.loop-refusal.self in
+    let mid = c.take.new.self in
+    let t = c.in-Ok-None.ensures in
+    let f = c.in_ok-refill.ensures in
+    let gives = rw c.in-Ok-None.field-0-is at t.gives in
+    let less = i.less in
+    record {
+      ready = f.ready (search rules);
+      less = omega (arith, less, t.pending, f.less (search rules));
+      within = λ first reads h. f.within (search rules) first reads (within_kept g.R.Inlet reads first c.loop-refusal.reader from mid t.reads (i.within first reads h));
+      reads = λ catalog limits first given h.
+          f.goes_on (search rules) catalog limits first given (reads_none g.R.Inlet g.I.Items catalog limits first c.loop-refusal.reader from mid given (i.reads catalog limits first given h) gives t.catalog t.limits);
+    }
+
+pub returns-then-not-branch-clause-gives : goal.returns-then-not-branch-clause-gives
+returns-then-not-branch-clause-gives g c =
+    let i = c.loop-refusal.invariant in
+    let from = c.loop-refusal.self in
+    let mid = c.take.new.self in
+    let t = c.in-Ok-None.ensures in
+    let gives = rw c.in-Ok-None.field-0-is at t.gives in
+    λ catalog limits first given h.
+    c.in_ok-refill.ensures.ends (search rules) catalog limits first given (reads_none g.R.Inlet g.I.Items catalog limits first c.loop-refusal.reader from mid given (i.reads catalog limits first given h) gives t.catalog t.limits)

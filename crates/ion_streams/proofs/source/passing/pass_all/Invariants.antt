@@ -1,0 +1,18 @@
+use Rattle.std.proofs.Common.{◌≡◌, ◌+◌, ◌*◌, ◌^◌, ◌≤◌, ℕ, List, [], length}
+use Rattle.ion_model.specs.declared.value.Value.{Value}
+use Rattle.ion_symtab.specs.declared.catalog.Catalog.{Catalog}
+use Rattle.ion_symtab.specs.declared.limits.Limits.{Limits}
+use Rattle.ion_streams.specs.reading.Read.{IsReady, IsWithin, work, ReadsEach}
+use Rattle.ion_streams.proofs.source.passing.pass_all.Given as goal
+
+abbrev pub invariant-loop-source : goal.invariant-loop-source
+invariant-loop-source g l = record {
+  ready : IsReady g.I.Items l.source;
+  bound : l.values + work g.I.Items l.source ≤ 8193 * 2 ^ 32;
+  within : (first : g.row.R.Denot) (reads : ℕ) → IsWithin g.R.Inlet reads first l.fn.reader l.fn.source → IsWithin g.R.Inlet reads first l.reader l.source;
+  reads : (catalog : Catalog) (limits : Limits) (first : g.row.R.Denot) → ReadsEach g.R.Inlet g.I.Items catalog limits first l.fn.reader l.fn.source []
+      → (given : List (Value × ℕ)) × ReadsEach g.R.Inlet g.I.Items catalog limits first l.reader l.source given × (length given ≡ l.values);
+}
+
+abbrev pub decreases-loop-source : goal.decreases-loop-source
+decreases-loop-source g l = work g.I.Items l.source

@@ -1,0 +1,12 @@
+use Rattle.ion_streams.specs.reading.Read.{IsReady, IsWithin, work, Reads}
+use Rattle.ion_streams.proofs.whole.read_items.Given as goal
+
+abbrev pub invariant-loop-values : goal.invariant-loop-values
+invariant-loop-values g l = record {
+  ready : IsReady g.I.Items l.source;
+  within : IsWithin g.R.Inlet l.fn.reads l.fn.reader l.reader l.source;
+  reads : Reads g.R.Inlet g.I.Items (g.I.Items.catalog l.fn.items) (g.I.Items.limits l.fn.items) l.fn.reader l.reader l.source l.values.items;
+}
+
+abbrev pub decreases-loop-values : goal.decreases-loop-values
+decreases-loop-values g l = work g.I.Items l.source

@@ -1,0 +1,7 @@
+pub mod Formats
+pub mod Outcomes
+pub mod Checked
+pub mod Compared
+pub mod Loaded
+pub mod Listing
+pub mod reading

@@ -1,0 +1,6 @@
+-- How far documents were read.
+pub mod Read
+pub mod Standing
+pub mod Reached
+pub mod Courses
+pub mod Alongside

@@ -1,0 +1,41 @@
+-- How two streams compare, as far as they were read.
+use Rattle.std.specs.Prelude.{◌≡◌, ℕ, ◌+◌, [], true, false, Option, Some, None}
+use Rattle.ion_model.specs.declared.value.Value.{Value}
+use Rattle.ion_model.specs.Same.{same}
+use Rattle.ion_model.specs.Parting.{IsPath}
+use Rattle.ion_streams.specs.declared.source.Standing.{Standing}
+use Rattle.ion_streams.specs.declared.source.Standing.TheVariants as TheStanding
+use Rattle.ion_streams.specs.declared.comparison.Verdict.{Verdict}
+use Rattle.ion_streams.specs.declared.comparison.Verdict.TheVariants.{Equivalent, Different, Refused}
+use Rattle.ion_streams.specs.declared.comparison.Side.TheVariants.{Right}
+use Rattle.ion_streams.specs.declared.comparison.Course.{Course}
+use Rattle.ion_streams.specs.declared.comparison.Course.TheVariants.{Alike, Parted}
+
+-- the course where both streams have another value
+abbrev pub MetBoth : ℕ → Value → Value → Course → Type 0
+MetBoth n v w (Alike values) = (same v w ≡ true) × (values ≡ n + 1)
+MetBoth n v w (Parted index path) = (same v w ≡ false) × (index ≡ n + 1) × IsPath path v w
+
+-- the course behind the next value of each, or the end of one
+abbrev pub IsMet : Course → Option Value → Option Value → Course → Type 0
+IsMet (Parted index path) v w after = after ≡ Parted index path
+IsMet (Alike n) None None after = after ≡ Alike n
+IsMet (Alike n) (Some v) (Some w) after = MetBoth n v w after
+IsMet (Alike n) None (Some w) after = after ≡ Parted (n + 1) []
+IsMet (Alike n) (Some v) None after = after ≡ Parted (n + 1) []
+
+-- how many values were counted
+abbrev pub count_of : Course → ℕ
+count_of (Alike values) = values
+count_of (Parted index path) = index
+
+-- the verdict on two documents
+abbrev pub verdict_on : Course → Verdict
+verdict_on (Alike values) = Equivalent values
+verdict_on (Parted index path) = Different index path
+
+-- the verdict where the left is a document
+abbrev pub verdict_of : {Y : Type 0} → Standing Y → Course → Verdict
+verdict_of (TheStanding.Refused refusal) course = Refused Right refusal
+verdict_of (TheStanding.Open source) course = verdict_on course
+verdict_of TheStanding.Ended course = verdict_on course

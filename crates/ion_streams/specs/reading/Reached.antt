@@ -1,0 +1,35 @@
+-- What is reached in a document that is read on.
+use Rattle.std.specs.Prelude.{◌≡◌, ℕ, List, [], ◌∷◌, ◌++◌, true, IsNone}
+use Rattle.ion_model.specs.declared.value.Value.{Value}
+use Rattle.ion_symtab.specs.declared.catalog.Catalog.{Catalog}
+use Rattle.ion_symtab.specs.declared.limits.Limits.{Limits}
+use Rattle.ion_symtab.specs.declared.inlet.Inlet.{Ghosts as Inlet}
+use Rattle.ion_symtab.specs.declared.items.Items.{Ghosts as Items}
+use Rattle.ion_streams.specs.Formats.{format_of}
+use Rattle.ion_streams.specs.reading.Read.{left_of, GaveEach, ReadsEach}
+use Rattle.ion_streams.specs.Outcomes.{ToldRefusedEach}
+use Rattle.ion_streams.specs.declared.source.Source.{Source}
+use Rattle.ion_streams.specs.declared.source.Reached.{Reached}
+use Rattle.ion_streams.specs.declared.source.Reached.TheVariants.{Value as AValue, End, Refused}
+
+abbrev pub IfValue : {A : Type 0} → Reached A → Type 0 → Type 0
+IfValue (AValue found) P = P
+IfValue End P = Unit {0}
+IfValue (Refused refusal) P = Unit {0}
+
+abbrev pub IfEnd : {A : Type 0} → Reached A → Type 0 → Type 0
+IfEnd (AValue found) P = Unit {0}
+IfEnd End P = P
+IfEnd (Refused refusal) P = Unit {0}
+
+-- all octets were used, and none is awaited
+pub record IsSpent {X : Type 0} (I : Items X) (source : Source X) : Type 0 where
+  pub empty : left_of source ≡ []
+  pub awaited : IsNone (I.awaits source.items)
+  pub counted : I.taken source.items ≡ source.used
+
+-- From first to now the document gave these values and one more, of which this is told, or these up to the end that the device answered, or these before it was refused.
+abbrev pub Reaches : {S X A : Type 0} → (Value → A) → Inlet S → Items X → Catalog → Limits → S → S → Source X → List (Value × ℕ) → Reached A → Type 0
+Reaches of R I g l first now source given (AValue found) = (value : Value) × (of value ≡ found) × ReadsEach R I g l first now source (given ++ (value, source.used) ∷ [])
+Reaches of R I g l first now source given End = GaveEach R I g l first now source.items (left_of source) true given
+Reaches of R I g l first now source given (Refused refusal) = ToldRefusedEach R (format_of I g l) first now given refusal

@@ -1,0 +1,84 @@
+-- How far a document has been read from a device.
+use Rattle.std.specs.Prelude.{◌≡◌, ℕ, ◌+◌, ◌-◌, ◌*◌, ◌<◌, ◌≤◌, ◌^◌, List, [], ◌∷◌, ◌++◌, length, take, drop, Bool, false, Option, None, IfSome}
+use Rattle.ion_model.specs.declared.value.Value.{Value}
+use Rattle.ion_symtab.specs.declared.catalog.Catalog.{Catalog}
+use Rattle.ion_symtab.specs.declared.limits.Limits.{Limits}
+use Rattle.ion_symtab.specs.Trace.{plain, given_at}
+use Rattle.ion_symtab.specs.Heard.{Heard}
+use Rattle.ion_symtab.specs.Cause.{WereMade}
+use Rattle.ion_symtab.specs.declared.inlet.Inlet.{Ghosts as Inlet}
+use Rattle.ion_symtab.specs.declared.items.Items.{Ghosts as Items}
+use Rattle.ion_streams.specs.declared.source.Source.{Source}
+
+-- the octets of a piece between two places
+abbrev pub between : List ℕ → ℕ → ℕ → List ℕ
+between piece from end = take (end - from) (drop from piece)
+
+-- the octets that were read from the device and are still to be used
+abbrev pub left_of : {X : Type 0} → Source X → List ℕ
+left_of source = between source.piece.items source.at source.end
+
+-- the octets begin with the one that is awaited, if one is
+abbrev pub Begins : Option ℕ → List ℕ → Type 0
+Begins awaits octets = IfSome awaits (λ octet. (rest : List ℕ) × (octets ≡ octet ∷ rest))
+
+module _ {X : Type 0} (I : Items X) where
+  -- what is left lies in the piece and begins as the reader awaits, and all that may be read can be counted
+  pub record IsReady (source : Source X) : Type 0 where
+    pub within : source.at ≤ source.end
+    pub fits : source.end ≤ 4096
+    pub piece : length source.piece.items ≡ 4096
+    pub room : I.taken source.items + (source.end - source.at) + 4096 * source.reads < 2 ^ 63
+    pub begins : Begins (I.awaits source.items) (left_of source)
+    pub counted : I.taken source.items ≡ source.used
+
+  -- more than the values that may still come
+  abbrev pub work : Source X → ℕ
+  work source = I.pending source.items + 2 * (source.end - source.at) + 8193 * source.reads
+
+  -- a reader that was given no octets yet
+  pub record IsFresh (items : X) : Type 0 where
+    pub stood : I.stands items [] []
+    pub awaited : I.awaits items ≡ None
+    pub owes : I.pending items ≡ 0
+
+  -- Of octets u with their values, and the octets that were left, some more were used, and perhaps a value was given.
+  pub record Went (u : List ℕ) (given : List (Value × ℕ)) (before : List ℕ) (after : Source X) (value : Option Value) : Type 0 where
+    pub to : List ℕ
+    pub stood : I.stands after.items to (given ++ given_at value after.used)
+    pub octets : to ++ left_of after ≡ u ++ before
+
+-- the calls of read that were made and those that may still be made are so many, and none answered the end
+pub record IsWithin {S X : Type 0} (R : Inlet S) (reads : ℕ) (first now : S) (source : Source X) : Type 0 where
+  pub made : ℕ
+  pub were : WereMade R made first now
+  pub rest : made + source.reads ≡ reads
+
+module _ {S X : Type 0} (R : Inlet S) (I : Items X) (g : Catalog) (l : Limits) where
+  -- From first to now the device handed over octets, and answered the end behind them or hasn't; those that the reader used gave these values, each with the total when it came, under this catalog and these limits, and the others are left.
+  pub record GaveEach (first now : S) (items : X) (left : List ℕ) (ended : Bool) (given : List (Value × ℕ)) : Type 0 where
+    pub u : List ℕ
+    pub heard : Heard R first now (u ++ left) ended
+    pub stood : I.stands items u given
+    pub under : I.catalog items ≡ g
+    pub within : I.limits items ≡ l
+
+  -- the same of the values alone
+  pub record Gave (first now : S) (items : X) (left : List ℕ) (ended : Bool) (s : List Value) : Type 0 where
+    pub given : List (Value × ℕ)
+    pub each : GaveEach first now items left ended given
+    pub values : plain given ≡ s
+
+  -- so a document that is being read: the device hasn't answered the end
+  abbrev pub Reads : S → S → Source X → List Value → Type 0
+  Reads first now source s = Gave first now source.items (left_of source) false s
+
+  abbrev pub ReadsEach : S → S → Source X → List (Value × ℕ) → Type 0
+  ReadsEach first now source given = GaveEach first now source.items (left_of source) false given
+
+  -- From first to now some reader gave s so.
+  pub record GaveSoFar (first now : S) (s : List Value) : Type 0 where
+    pub items : X
+    pub left : List ℕ
+    pub ended : Bool
+    pub gave : Gave first now items left ended s

@@ -1,0 +1,52 @@
+-- Where a document stands.
+use Rattle.std.specs.Prelude.{ℕ, ◌+◌, List}
+use Rattle.ion_model.specs.declared.value.Value.{Value}
+use Rattle.ion_atoms.specs.declared.refusal.Refusal.{Refusal}
+use Rattle.ion_symtab.specs.declared.catalog.Catalog.{Catalog}
+use Rattle.ion_symtab.specs.declared.limits.Limits.{Limits}
+use Rattle.ion_symtab.specs.declared.inlet.Inlet.{Ghosts as Inlet}
+use Rattle.ion_symtab.specs.declared.items.Items.{Ghosts as Items}
+use Rattle.ion_streams.specs.Formats.{format_of}
+use Rattle.ion_streams.specs.reading.Read.{work, Reads, ReadsEach}
+use Rattle.ion_streams.specs.Outcomes.{ToldDocument, ToldRefused, ToldEach, ToldRefusedEach}
+use Rattle.ion_streams.specs.declared.source.Source.{Source}
+use Rattle.ion_streams.specs.declared.source.Standing.{Standing}
+use Rattle.ion_streams.specs.declared.source.Standing.TheVariants.{Open, Ended, Refused}
+
+abbrev pub IfOpen : {X : Type 0} → Standing X → (Source X → Type 0) → Type 0
+IfOpen (Open source) P = P source
+IfOpen Ended P = Unit {0}
+IfOpen (Refused refusal) P = Unit {0}
+
+abbrev pub IsOpen : {X : Type 0} → Standing X → Type 0
+IsOpen (Open source) = Unit {0}
+IsOpen Ended = ⊥
+IsOpen (Refused refusal) = ⊥
+
+abbrev pub IfClosed : {X : Type 0} → Standing X → Type 0 → Type 0
+IfClosed (Open source) P = Unit {0}
+IfClosed Ended P = P
+IfClosed (Refused refusal) P = P
+
+abbrev pub MatchClosed : {X : Type 0} → Standing X → Type 0 → (Refusal → Type 0) → Type 0
+MatchClosed (Open source) P Q = ⊥
+MatchClosed Ended P Q = P
+MatchClosed (Refused refusal) P Q = Q refusal
+
+-- more than the values that may still come, and the end
+abbrev pub work_of : {X : Type 0} → Items X → Standing X → ℕ
+work_of I (Open source) = work I source + 1
+work_of I Ended = 0
+work_of I (Refused refusal) = 0
+
+-- From first to now the document gave s: it is read so far, it was one, or it is none.
+abbrev pub Stood : {S X : Type 0} → Inlet S → Items X → Catalog → Limits → S → S → Standing X → List Value → Type 0
+Stood R I g l first now (Open source) s = Reads R I g l first now source s
+Stood R I g l first now Ended s = ToldDocument R (format_of I g l) first now s
+Stood R I g l first now (Refused refusal) s = ToldRefused R (format_of I g l) first now s refusal
+
+-- the same with the total of octets used when each value came; a refused document gave the values before the refusal
+abbrev pub StoodEach : {S X : Type 0} → Inlet S → Items X → Catalog → Limits → S → S → Standing X → List (Value × ℕ) → Type 0
+StoodEach R I g l first now (Open source) given = ReadsEach R I g l first now source given
+StoodEach R I g l first now Ended given = ToldEach R (format_of I g l) first now given
+StoodEach R I g l first now (Refused refusal) given = ToldRefusedEach R (format_of I g l) first now given refusal

@@ -1,0 +1,95 @@
+//! Catalogs from documents.
+ghost use Rattle.std.specs.Prelude.{◌≡◌, ◌⊎◌, ◌^◌, ◌≤◌, IfOk, IfErr, MatchResult, Ok, Err, option_to_list};
+ghost use Rattle.ion_atoms.specs.declared.refusal.Reason.TheVariants as reasons;
+ghost use Rattle.ion_symtab.specs.Cause.{IsReadCause};
+ghost use Rattle.ion_streams.specs.Formats.{format_of};
+ghost use Rattle.ion_streams.specs.reading.Read.{IsFresh};
+ghost use Rattle.ion_streams.specs.Loaded.{added, catalog_of, IsLoaded};
+
+use crate::source::{Reached, Source, Standing, last};
+use ion_model::{Reason, Refusal, Value};
+use ion_symtab::{Catalog, Fault, Inlet, Items, SharedTable};
+use std::alloc::Global;
+
+/// The catalog of the tables that the values of a document describe, whose octets `items` reads from
+/// `reader` in at most `reads` calls; or the refusal of octets that are no document of such values, as
+/// `load_catalog` answers it.
+pub fn load_items<I: Items + Drop, R: Inlet>(
+    alloc: Global,
+    items: I,
+    reads: u64,
+    reader: &mut R,
+) -> Result<Result<Catalog, Refusal>, Fault>
+    requires fresh { IsFresh I.Items items }
+    requires reads { reads ≤ 2 ^ 32 }
+    ensures loaded { IfOk result (IsLoaded R.Inlet
+        (format_of I.Items (I.catalog items) (I.limits items)) reader.old reader.new) }
+    ensures cause { IfErr result (IsReadCause R.Inlet reads reader.old reader.new) }
+{
+    let mut source = Source::new(alloc, items, reads)?;
+    let mut catalog = Catalog::new(alloc);
+    loop {
+        match source.read_on(reader)? {
+            Reached::Value(value) => {
+                let found = Some((value, source.offset()));
+                if let Err(refusal) = add_found(alloc, &mut catalog, found)? {
+                    return Ok(Err(refusal));
+                }
+            }
+            Reached::Refused(refusal) => return Ok(Err(refusal)),
+            Reached::End => {
+                let (place, found) = last(source)?;
+                if let Err(refusal) = add_found(alloc, &mut catalog, found)? {
+                    return Ok(Err(refusal));
+                }
+                if let Standing::Refused(refusal) = place {
+                    return Ok(Err(refusal));
+                }
+                return Ok(Ok(catalog));
+            }
+        }
+    }
+}
+
+/// Adds the table of the next value, which came with so many octets, if there is one. `Memory` is the
+/// only fault.
+fn add_found(
+    alloc: Global,
+    catalog: &mut Catalog,
+    found: Option<(Value, u64)>,
+) -> Result<Result<(), Refusal>, Fault>
+    ensures { MatchResult result
+        (λ answer. MatchResult answer
+        (λ _. catalog_of catalog.old (option_to_list found) ≡ Ok catalog.new)
+        (λ refusal. catalog_of catalog.old (option_to_list found) ≡ Err refusal))
+        (λ fault. fault ≡ Fault.Memory) }
+{
+    match found {
+        None => Ok(Ok(())),
+        Some((value, offset)) => {
+            let added = add_table(alloc, catalog, &value);
+            drop(value);
+            match added {
+                Ok(()) => Ok(Ok(())),
+                Err(Reason::Memory) => Err(Fault::Memory),
+                Err(reason) => Ok(Err(Refusal { offset, reason })),
+            }
+        }
+    }
+}
+
+/// Adds the table that a value describes.
+fn add_table(alloc: Global, catalog: &mut Catalog, value: &Value) -> Result<(), Reason>
+    ensures { MatchResult result
+        (λ _. added catalog.old value.now ≡ Ok catalog.new)
+        (λ reason. reason ≡ reasons.Memory ⊎ added catalog.old value.now ≡ Err reason) }
+{
+    let table = SharedTable::from_value(alloc, value)?;
+    match catalog.add(table) {
+        Ok(()) => Ok(()),
+        Err((table, reason)) => {
+            drop(table);
+            Err(reason)
+        }
+    }
+}

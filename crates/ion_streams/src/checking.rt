@@ -1,0 +1,31 @@
+//! How many values a document has.
+ghost use Rattle.std.specs.Prelude.{◌^◌, ◌≤◌, IfOk, IfErr};
+ghost use Rattle.ion_symtab.specs.Cause.{IsReadCause};
+ghost use Rattle.ion_streams.specs.Formats.{format_of};
+ghost use Rattle.ion_streams.specs.reading.Read.{IsFresh};
+ghost use Rattle.ion_streams.specs.Checked.{IsChecked};
+
+use crate::source::{Source, pass_all};
+use ion_model::Refusal;
+use ion_symtab::{Fault, Inlet, Items};
+use std::alloc::Global;
+
+/// How many values a document has, whose octets `items` reads from `reader` in at most `reads` calls;
+/// or the refusal of octets that are no document.
+///
+/// Refusals are those of `items`, but never `Memory`. Faults are `Memory`, `Read` and `TooManyReads`.
+pub fn check_items<I: Items + Drop, R: Inlet>(
+    alloc: Global,
+    items: I,
+    reads: u64,
+    reader: &mut R,
+) -> Result<Result<u64, Refusal>, Fault>
+    requires fresh { IsFresh I.Items items }
+    requires reads { reads ≤ 2 ^ 32 }
+    ensures verdict { IfOk result (IsChecked R.Inlet
+        (format_of I.Items (I.catalog items) (I.limits items)) reader.old reader.new) }
+    ensures cause { IfErr result (IsReadCause R.Inlet reads reader.old reader.new) }
+{
+    let source = Source::new(alloc, items, reads)?;
+    pass_all(source, reader)
+}

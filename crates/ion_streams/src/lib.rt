@@ -1,0 +1,17 @@
+//! The streams of documents, read from devices by whatever reader: how many values they have, a line for each,
+//! all of them, the catalog that they describe, and whether two are equivalent.
+#![tactic(auto)]
+
+mod catalogs;
+mod checking;
+mod comparison;
+mod listing;
+mod source;
+mod whole;
+
+pub use catalogs::load_items;
+pub use checking::check_items;
+pub use comparison::{Side, Verdict, compare_items};
+pub use listing::show_items;
+pub use source::{Reached, Source, Standing, counted, last, value_of};
+pub use whole::read_items;

@@ -1,0 +1,163 @@
+//! A line for each value of a document.
+ghost use Rattle.std.specs.Prelude.{◌≡◌, ℕ, ◌+◌, ◌^◌, ◌<◌, ◌≤◌, ◌⊎◌, ◌++◌, List, length, true, false, IfOk, IfErr, OnOk, OnErr, Option, option_to_list, string_bytes};
+ghost use Rattle.std.specs.Fmt.{decimal};
+ghost use Rattle.ion_model.specs.declared.value.Value.{Value};
+ghost use Rattle.ion_symtab.specs.Took.{Took, TookFront};
+ghost use Rattle.ion_symtab.specs.Cause.{IsReadCause};
+ghost use Rattle.ion_streams.specs.Formats.{format_of};
+ghost use Rattle.ion_streams.specs.reading.Read.{IsFresh};
+ghost use Rattle.ion_streams.specs.Listing.{line_of, lines_from, accepted_line, IsShown, IsWriteCause, ShowsSoFar};
+
+use crate::source::{Reached, Source, Standing, last, value_of};
+use ion_model::{Outline, Refusal, Value};
+use ion_symtab::{Fault, Inlet, Items, Outlet, flushed, write_whole};
+use itoa::Buffer;
+use std::alloc::{AllocError, Global};
+
+/// Makes a text the line of a value: its index, kind, depth and number of nodes. One text is kept for all
+/// lines, so that they take its memory.
+fn set_line(text: &mut String, index: u64, outline: Outline) -> Result<(), AllocError>
+    ensures { OnOk result (string_bytes text.new ≡ line_of index outline) }
+{
+    text.clear();
+    push_number(text, index, " ")?;
+    push(text, outline.kind.name())?;
+    push(text, " depth ")?;
+    push_number(text, outline.depth, " nodes ")?;
+    push_number(text, outline.nodes, "\n")
+}
+
+fn push(text: &mut String, words: &str) -> Result<(), AllocError>
+    ensures { OnOk result (string_bytes text.new ≡ string_bytes text.old ++ words.now) }
+{
+    text.push_str(words)?;
+    Ok(())
+}
+
+/// Appends a number in decimal, and words behind it.
+fn push_number(text: &mut String, number: u64, words: &str) -> Result<(), AllocError>
+    ensures { OnOk result (string_bytes text.new
+        ≡ string_bytes text.old ++ (decimal number ++ words.now)) }
+{
+    let mut digits = Buffer::new();
+    text.push_str(digits.format(number))?;
+    text.push_str(words)?;
+    Ok(())
+}
+
+/// The last line, behind those of the values.
+fn accepted(alloc: Global, values: u64) -> Result<String, AllocError>
+    ensures { IfOk result (λ text. string_bytes text ≡ accepted_line values) }
+{
+    format!(in alloc; "accepted {values}\n")
+}
+
+/// Writes the line of a value, which the text then is.
+fn write_line<W: Outlet>(
+    text: &mut String,
+    writer: &mut W,
+    index: u64,
+    outline: Outline,
+) -> Result<(), Fault>
+    ensures wrote { OnOk result (Took W.took W.written writer.old writer.new (line_of index outline)) }
+    ensures front { OnErr result (TookFront W.took W.written writer.old writer.new
+        (line_of index outline)) }
+    ensures cause { IfErr result (IsWriteCause W.Outlet writer.new) }
+{
+    set_line(text, index, outline)?;
+    write_whole(writer, text.as_bytes())
+}
+
+/// Writes the line of the value that the end showed, if there is one, and counts it.
+fn write_last<W: Outlet>(
+    text: &mut String,
+    writer: &mut W,
+    values: u64,
+    value: Option<Value>,
+) -> Result<u64, Fault>
+    requires { values + 1 < 2 ^ 64 }
+    ensures count { IfOk result (λ n. n ≡ values + length (option_to_list value)) }
+    ensures wrote { OnOk result (Took W.took W.written writer.old writer.new
+        (lines_from (values + 1) (option_to_list value))) }
+    ensures front { OnErr result (TookFront W.took W.written writer.old writer.new
+        (lines_from (values + 1) (option_to_list value))) }
+    ensures cause { IfErr result (IsWriteCause W.Outlet writer.new) }
+{
+    match value {
+        None => Ok(values),
+        Some(value) => {
+            let outline = value.outline();
+            drop(value);
+            write_line(text, writer, values + 1, outline)?;
+            Ok(values + 1)
+        }
+    }
+}
+
+/// Writes the last line, and makes the device pass on all.
+fn write_accepted<W: Outlet>(alloc: Global, writer: &mut W, values: u64) -> Result<(), Fault>
+    ensures wrote { OnOk result (Took W.took W.written writer.old writer.new (accepted_line values)) }
+    ensures passed_on { OnOk result (W.passed writer.new ≡ W.written writer.new) }
+    ensures fine { OnOk result (W.has_failed writer.new ≡ false) }
+    ensures front { OnErr result (TookFront W.took W.written writer.old writer.new (accepted_line values)) }
+    ensures cause { IfErr result (IsWriteCause W.Outlet writer.new) }
+{
+    let text = accepted(alloc, values)?;
+    let wrote = write_whole(writer, text.as_bytes());
+    drop(text);
+    wrote?;
+    flushed(writer)
+}
+
+/// Writes a line for each value of a document, whose octets `items` reads from `reader` in at most
+/// `reads` calls, and behind them `accepted` with their number. The answer is that of `check_items`.
+///
+/// On a refusal the lines of the values before it are written, and no other line. The writer is
+/// flushed last, on a refusal too. At a fault some first octets of the lines of the values read so
+/// far were written. Faults are `Memory`, `Read`, `TooManyReads` and `Write`.
+pub fn show_items<I: Items + Drop, R: Inlet, W: Outlet>(
+    alloc: Global,
+    items: I,
+    reads: u64,
+    reader: &mut R,
+    writer: &mut W,
+) -> Result<Result<u64, Refusal>, Fault>
+    requires fresh { IsFresh I.Items items }
+    requires reads { reads ≤ 2 ^ 32 }
+    ensures shown { IfOk result (IsShown R.Inlet W.Outlet
+        (format_of I.Items (I.catalog items) (I.limits items))
+        reader.old reader.new writer.old writer.new) }
+    ensures passed_on { OnOk result (W.passed writer.new ≡ W.written writer.new) }
+    ensures fine { OnOk result (W.has_failed writer.new ≡ false) }
+    ensures so_far { OnErr result (ShowsSoFar R.Inlet I.Items W.Outlet (I.catalog items)
+        (I.limits items) reader.old reader.new writer.old writer.new) }
+    ensures cause { IfErr result (λ fault.
+        IsReadCause R.Inlet reads reader.old reader.new fault
+        ⊎ IsWriteCause W.Outlet writer.new fault) }
+{
+    let mut source = Source::new(alloc, items, reads)?;
+    let mut text = String::new(alloc);
+    let mut values: u64 = 0;
+    loop {
+        match source.pass_on(reader)? {
+            Reached::Value(outline) => {
+                write_line(&mut text, writer, values + 1, outline)?;
+                values += 1;
+            }
+            Reached::Refused(refusal) => {
+                flushed(writer)?;
+                return Ok(Err(refusal));
+            }
+            Reached::End => {
+                let (place, found) = last(source)?;
+                values = write_last(&mut text, writer, values, value_of(found))?;
+                if let Standing::Refused(refusal) = place {
+                    flushed(writer)?;
+                    return Ok(Err(refusal));
+                }
+                write_accepted(alloc, writer, values)?;
+                return Ok(Ok(values));
+            }
+        }
+    }
+}

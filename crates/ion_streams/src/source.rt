@@ -1,0 +1,356 @@
+//! A document on a device: its octets are read in pieces, and a reader takes them up.
+ghost use Rattle.std.specs.Prelude.{◌≡◌, ◌≢◌, ℕ, ◌+◌, ◌-◌, ◌*◌, ◌^◌, ◌<◌, ◌≤◌, true, false, List, [], ◌∷◌, ◌++◌, length, take, drop, IfOk, IfErr, OnErr, IfSome, MatchBool, Option, IsSome, IsNone, option_map, option_to_list};
+ghost use Rattle.ion_model.specs.declared.value.Value.{Value};
+ghost use Rattle.ion_atoms.specs.declared.refusal.Reason.TheVariants as reasons;
+ghost use Rattle.ion_symtab.specs.declared.catalog.Catalog.{Catalog};
+ghost use Rattle.ion_symtab.specs.declared.limits.Limits.{Limits};
+ghost use Rattle.ion_symtab.specs.Heard.{Heard};
+ghost use Rattle.ion_symtab.specs.Cause.{WereMade, IsReadCause};
+ghost use Rattle.ion_streams.specs.Formats.{format_of};
+ghost use Rattle.ion_streams.specs.reading.Read.{left_of, IsReady, IsWithin, work, Went, GaveEach, Reads, ReadsEach, GaveSoFar};
+ghost use Rattle.ion_streams.specs.reading.Reached.{IfValue, IfEnd, IsSpent, Reaches};
+ghost use Rattle.ion_streams.specs.Outcomes.{EndsWell, EndsRefused};
+ghost use Rattle.ion_streams.specs.reading.Standing.{IfOpen, IsOpen, IfClosed, MatchClosed, work_of, Stood};
+
+use ion_model::{Reason, Refusal, Value};
+use ion_symtab::{Fault, Inlet, Items, Step};
+use std::alloc::Global;
+use std::mem;
+
+mod alike;
+mod passing;
+
+pub use passing::counted;
+pub(crate) use passing::pass_all;
+
+/// At most so many octets are read from a device in one call.
+const PIECE: usize = 4096;
+
+/// A document that is being read. Whoever goes past a value in another way than these calls do moves `at` and
+/// `used` on by its octets.
+#[derive(Drop)]
+pub struct Source<I> {
+    /// What takes the octets up.
+    pub items: I,
+    /// The octets last read from the device; those from `at` up to `end` are still to be used.
+    pub piece: Vec<u8>,
+    /// How many octets of the piece are used.
+    pub at: usize,
+    /// How many octets the device gave at the last call.
+    pub end: usize,
+    /// How often the device may still be asked.
+    pub reads: u64,
+    /// How many octets of all pieces are used.
+    pub used: u64,
+}
+
+impl<I: Items + Drop> Source<I> {
+    /// A document of which nothing is read yet, whose device may be asked `reads` times. `Memory`, and
+    /// no other fault, where a growth was refused.
+    pub fn new(alloc: Global, items: I, reads: u64) -> Result<Source<I>, Fault>
+        ensures items { IfOk result (λ source. source.items ≡ items) }
+        ensures nothing { IfOk result (λ source.
+            (source.at ≡ 0) × (source.end ≡ 0) × (source.used ≡ 0)) }
+        ensures piece { IfOk result (λ source. length source.piece.items ≡ 4096) }
+        ensures reads { IfOk result (λ source. source.reads ≡ reads) }
+        ensures cause { IfErr result (λ fault. fault ≡ Fault.Memory) }
+    {
+        let piece = vec![in alloc; 0; PIECE]?;
+        Ok(Source {
+            items,
+            piece,
+            at: 0,
+            end: 0,
+            reads,
+            used: 0,
+        })
+    }
+
+    /// How many octets of the document are used.
+    pub fn offset(&self) -> u64
+        ensures { result ≡ self.now.used }
+    {
+        self.used
+    }
+
+    /// Takes up octets of the piece, up to the next value or to the piece's end.
+    fn take(&mut self) -> Result<Option<Value>, Refusal>
+        requires { IsReady I.Items self.old }
+        ensures gives { IfOk result (λ value. (u : List ℕ) (given : List (Value × ℕ)) →
+            I.stands self.old.items u given →
+            Went I.Items u given (left_of self.old) self.new value) }
+        ensures refuses { IfErr result (λ refusal. refusal.reason ≢ reasons.Memory →
+            (u : List ℕ) (given : List (Value × ℕ)) → I.stands self.old.items u given → (more : List ℕ) →
+            EndsRefused (format_of I.Items (I.catalog self.old.items) (I.limits self.old.items))
+            ((u ++ left_of self.old) ++ more) given refusal) }
+        ensures ready { IfOk result (λ value. IsReady I.Items self.new) }
+        ensures all { IfOk result (λ value. value ≡ Option.None → self.new.at ≡ self.new.end) }
+        ensures pending { IfOk result (λ value. work I.Items self.new ≤ work I.Items self.old) }
+        ensures less { IfOk result (λ value. IsSome value →
+            work I.Items self.new < work I.Items self.old) }
+        ensures catalog { I.catalog self.new.items ≡ I.catalog self.old.items }
+        ensures limits { I.limits self.new.items ≡ I.limits self.old.items }
+        ensures reads { self.new.reads ≡ self.old.reads }
+    {
+        match self.items.step(&self.piece[self.at..self.end]) {
+            Err(refusal) => Err(refusal),
+            Ok(Step { used, value }) => {
+                self.at += used;
+                self.used += used as u64;
+                Ok(value)
+            }
+        }
+    }
+
+    /// Reads another piece; answers whether the device had more octets, or else answered its end.
+    /// `Read`, and no other fault, where the device failed.
+    fn fill<R: Inlet>(&mut self, reader: &mut R) -> Result<bool, Fault>
+        requires reads { 0 < self.old.reads }
+        requires piece { length self.old.piece.items ≡ 4096 }
+        ensures piece { length self.new.piece.items ≡ 4096 }
+        ensures heard { IfOk result (λ more. more ≡ true →
+            Heard R.Inlet reader.old reader.new (left_of self.new) false) }
+        ensures ends { IfOk result (λ more. more ≡ false →
+            Heard R.Inlet reader.old reader.new [] true × (self.new.end ≡ 0)) }
+        ensures within { IfOk result (λ more. (self.new.at ≡ 0) × (self.new.end ≤ 4096)) }
+        ensures items { self.new.items ≡ self.old.items }
+        ensures used { self.new.used ≡ self.old.used }
+        ensures reads { self.new.reads + 1 ≡ self.old.reads }
+        ensures asked { IfOk result (λ more. more ≡ true → (first : R) (made : ℕ) →
+            WereMade R.Inlet made first reader.old → WereMade R.Inlet (made + 1) first reader.new) }
+        ensures kept { OnErr result (Heard R.Inlet reader.old reader.new [] false) }
+        ensures cause { IfErr result (λ fault. (fault ≡ Fault.Read) × (R.has_failed reader.new ≡ true)) }
+    {
+        self.reads -= 1;
+        self.at = 0;
+        self.end = 0;
+        match reader.read(&mut self.piece) {
+            Err(_) => Err(Fault::Read),
+            Ok(0) => Ok(false),
+            Ok(count) => {
+                self.end = count;
+                Ok(true)
+            }
+        }
+    }
+
+    /// Reads another piece where this one is used up; answers whether the device had more octets, or else
+    /// answered its end.
+    ///
+    /// Faults are `Read` and `TooManyReads`.
+    fn refill<R: Inlet>(&mut self, reader: &mut R) -> Result<bool, Fault>
+        requires ready { IsReady I.Items self.old }
+        requires used_up { self.old.at ≡ self.old.end }
+        ensures ready { IfOk result (λ more. more ≡ true → IsReady I.Items self.new) }
+        ensures less { IfOk result (λ more. more ≡ true → work I.Items self.new ≤ work I.Items self.old) }
+        ensures fewer { IfOk result (λ more. more ≡ true → self.new.reads < self.old.reads) }
+        ensures within { IfOk result (λ more. more ≡ true → (first : R) (reads : ℕ) →
+            IsWithin R.Inlet reads first reader.old self.old →
+            IsWithin R.Inlet reads first reader.new self.new) }
+        ensures goes_on { IfOk result (λ more. more ≡ true →
+            (g : Catalog) (l : Limits) (first : R) (given : List (Value × ℕ)) →
+            ReadsEach R.Inlet I.Items g l first reader.old self.old given →
+            ReadsEach R.Inlet I.Items g l first reader.new self.new given) }
+        ensures ends { IfOk result (λ more. more ≡ false →
+            (g : Catalog) (l : Limits) (first : R) (given : List (Value × ℕ)) →
+            ReadsEach R.Inlet I.Items g l first reader.old self.old given →
+            GaveEach R.Inlet I.Items g l first reader.new self.new.items (left_of self.new) true given) }
+        ensures spent { IfOk result (λ more. more ≡ false → IsSpent I.Items self.new) }
+        ensures cause { IfErr result (λ fault. (first : R) (reads : ℕ) →
+            IsWithin R.Inlet reads first reader.old self.old →
+            IsReadCause R.Inlet reads first reader.new fault) }
+        ensures kept { OnErr result ((g : Catalog) (l : Limits) (first : R) (s : List Value) →
+            Reads R.Inlet I.Items g l first reader.old self.old s →
+            GaveSoFar R.Inlet I.Items g l first reader.new s) }
+    {
+        if self.reads == 0 {
+            return Err(Fault::TooManyReads);
+        }
+        if !self.fill(reader)? {
+            return Ok(false);
+        }
+        Ok(true)
+    }
+
+    /// Reads on up to the next value or to the end.
+    ///
+    /// Faults are `Memory`, `Read` and `TooManyReads`.
+    pub fn read_on<R: Inlet>(&mut self, reader: &mut R) -> Result<Reached<Value>, Fault>
+        requires { IsReady I.Items self.old }
+        ensures gives { IfOk result (λ reached.
+            (g : Catalog) (l : Limits) (first : R) (given : List (Value × ℕ)) →
+            ReadsEach R.Inlet I.Items g l first reader.old self.old given →
+            Reaches (λ v. v) R.Inlet I.Items g l first reader.new self.new given reached) }
+        ensures ready { IfOk result (λ reached. IfValue reached (IsReady I.Items self.new)) }
+        ensures less { IfOk result (λ reached. IfValue reached
+            (work I.Items self.new < work I.Items self.old)) }
+        ensures within { IfOk result (λ reached. IfValue reached ((first : R) (reads : ℕ) →
+            IsWithin R.Inlet reads first reader.old self.old →
+            IsWithin R.Inlet reads first reader.new self.new)) }
+        ensures ended { IfOk result (λ reached. IfEnd reached (IsSpent I.Items self.new)) }
+        ensures cause { IfErr result (λ fault. (first : R) (reads : ℕ) →
+            IsWithin R.Inlet reads first reader.old self.old →
+            IsReadCause R.Inlet reads first reader.new fault) }
+        ensures kept { OnErr result ((g : Catalog) (l : Limits) (first : R) (s : List Value) →
+            Reads R.Inlet I.Items g l first reader.old self.old s →
+            GaveSoFar R.Inlet I.Items g l first reader.new s) }
+    {
+        loop {
+            match self.take() {
+                Err(
+                    Refusal {
+                        reason: Reason::Memory,
+                        ..
+                    },
+                ) => return Err(Fault::Memory),
+                Err(refusal) => return Ok(Reached::Refused(refusal)),
+                Ok(Some(value)) => return Ok(Reached::Value(value)),
+                Ok(None) => {}
+            }
+            if !self.refill(reader)? {
+                return Ok(Reached::End);
+            }
+        }
+    }
+}
+
+/// What is reached in a document that is read on.
+#[derive(Drop)]
+pub enum Reached<T> {
+    /// The next value, or what is told of it.
+    Value(T),
+    /// The end that the device answered; all octets before it are used.
+    End,
+    /// What shows that the document is none.
+    Refused(Refusal),
+}
+
+/// Where a document stands.
+#[derive(Drop)]
+pub enum Standing<I> {
+    /// It can be read on.
+    Open(Source<I>),
+    /// It was a document, and the device has answered its end.
+    Ended,
+    /// It is no document.
+    Refused(Refusal),
+}
+
+impl<I> Standing<I> {
+    /// Whether the document can be read on.
+    pub fn is_open(&self) -> bool
+        ensures { MatchBool result (IsOpen self.now) (IfOpen self.now (λ source. ⊥)) }
+    {
+        match self {
+            Standing::Open(_) => true,
+            Standing::Ended => false,
+            Standing::Refused(_) => false,
+        }
+    }
+}
+
+impl<I: Items + Drop> Standing<I> {
+    /// Reads on up to the next value, or to the end, where the document is open; else it stays
+    /// where it stands. Without a value the document isn't open any more.
+    ///
+    /// Faults are `Memory`, `Read` and `TooManyReads`.
+    pub fn advance<R: Inlet>(&mut self, reader: &mut R) -> Result<Option<Value>, Fault>
+        requires { IfOpen self.old (IsReady I.Items) }
+        ensures gives { IfOk result (λ value.
+            (g : Catalog) (l : Limits) (first : R) (s : List Value) →
+            Stood R.Inlet I.Items g l first reader.old self.old s →
+            Stood R.Inlet I.Items g l first reader.new self.new (s ++ option_to_list value)) }
+        ensures ready { IfOk result (λ value. IfOpen self.new (IsReady I.Items)) }
+        ensures none { IfOk result (λ value. value ≡ Option.None → IfOpen self.new (λ after. ⊥)) }
+        ensures less { IfOk result (λ value.
+            IfOpen self.old (λ source. work_of I.Items self.new < work_of I.Items self.old)) }
+        ensures closed { IfOk result (λ value.
+            IfClosed self.old ((self.new ≡ self.old) × (value ≡ Option.None))) }
+        ensures within { IfOk result (λ value. (first : R) (reads : ℕ) →
+            IfOpen self.old (IsWithin R.Inlet reads first reader.old) →
+            IfOpen self.new (IsWithin R.Inlet reads first reader.new)) }
+        ensures cause { IfErr result (λ fault. (first : R) (reads : ℕ) →
+            IfOpen self.old (IsWithin R.Inlet reads first reader.old) →
+            IsReadCause R.Inlet reads first reader.new fault) }
+    {
+        match self {
+            Standing::Open(source) => match source.read_on(reader)? {
+                Reached::Value(value) => Ok(Some(value)),
+                Reached::Refused(refusal) => {
+                    *self = Standing::Refused(refusal);
+                    Ok(None)
+                }
+                Reached::End => Ok(value_of(self.close()?)),
+            },
+            Standing::Ended => Ok(None),
+            Standing::Refused(_) => Ok(None),
+        }
+    }
+
+    /// Closes a document whose octets were all used: it stands where `last` says, and gives what
+    /// that gives.
+    fn close(&mut self) -> Result<Option<(Value, u64)>, Fault>
+        requires { IfOpen self.old (IsSpent I.Items) }
+        ensures ends { IfOk result (λ found. IfOpen self.old (λ source.
+            (u : List ℕ) (given : List (Value × ℕ)) → I.stands source.items u given →
+            MatchClosed self.new
+            (EndsWell (format_of I.Items (I.catalog source.items) (I.limits source.items)) u
+            (given ++ option_to_list found))
+            (λ refusal. (found ≡ Option.None) × EndsRefused
+            (format_of I.Items (I.catalog source.items) (I.limits source.items))
+            u given refusal))) }
+        ensures closed { IfOk result (λ found. IfOpen self.new (λ source. ⊥)) }
+        ensures cause { IfErr result (λ fault. fault ≡ Fault.Memory) }
+    {
+        match mem::replace(self, Standing::Ended) {
+            Standing::Open(source) => {
+                let (place, found) = last(source)?;
+                *self = place;
+                Ok(found)
+            }
+            closed => {
+                *self = closed;
+                Ok(None)
+            }
+        }
+    }
+}
+
+/// The value alone.
+pub fn value_of(found: Option<(Value, u64)>) -> Option<Value>
+    ensures { result ≡ option_map (λ next. next.0) found }
+{
+    match found {
+        None => None,
+        Some((value, _)) => Some(value),
+    }
+}
+
+/// What the end of a document gives; a value comes with the number of all its octets.
+pub fn last<I: Items + Drop>(
+    source: Source<I>,
+) -> Result<(Standing<I>, Option<(Value, u64)>), Fault>
+    requires awaited { IsNone (I.awaits source.items) }
+    requires counted { I.taken source.items ≡ source.used }
+    ensures ends { IfOk result (λ next. (u : List ℕ) (given : List (Value × ℕ)) →
+        I.stands source.items u given → MatchClosed next.0
+        (EndsWell (format_of I.Items (I.catalog source.items) (I.limits source.items)) u
+        (given ++ option_to_list next.1))
+        (λ refusal. (next.1 ≡ Option.None) × EndsRefused
+        (format_of I.Items (I.catalog source.items) (I.limits source.items)) u given refusal)) }
+    ensures closed { IfOk result (λ next. IfOpen next.0 (λ source. ⊥)) }
+    ensures cause { IfErr result (λ fault. fault ≡ Fault.Memory) }
+{
+    let used = source.used;
+    match source.items.finish() {
+        Ok(None) => Ok((Standing::Ended, None)),
+        Ok(Some(value)) => Ok((Standing::Ended, Some((value, used)))),
+        Err(
+            Refusal {
+                reason: Reason::Memory,
+                ..
+            },
+        ) => Err(Fault::Memory),
+        Err(refusal) => Ok((Standing::Refused(refusal), None)),
+    }
+}
