@@ -1,174 +1,323 @@
 //! What the calls over whole documents answer, however the octets come and go.
-use crate::row::Row;
+use crate::row::{Row, are_so};
 use ion_devices::{FrailReader, FrailWriter, NEVER};
 use ion_docs::{Side, Target, Verdict, check, compare, convert, load_catalog, path_text, show};
-use ion_model::Refusal;
-use ion_symtab::{Catalog, Fault, FromRead, Inlet, Limits, ToWrite};
-use std::alloc::Global;
+use ion_model::{Path, Refusal};
+use ion_symtab::{Catalog, Fault, FromRead, Limits, ToWrite};
+use std::alloc::{AllocError, Global};
 use std::io::ErrorKind;
 use std::test::Fail;
 
 /// More octets than any of the documents has that are cut.
 const WHOLE: usize = 4096;
 
-/// The octets in two pieces, cut behind the first `first`, or in one.
-fn in_two(octets: &[u8], first: usize) -> FromRead<FrailReader<'_>> {
-    FromRead::new(FrailReader {
-        octets,
-        first,
-        then: WHOLE,
-        calls: 0,
-        fails_at: NEVER,
-        kind: ErrorKind::Interrupted,
-    })
+/// Octets, and how they come.
+#[derive(Clone, Copy)]
+struct Pieces<'a> {
+    octets: &'a [u8],
+    first: usize,
+    then: usize,
 }
 
-/// The octets one by one.
-fn one_by_one(octets: &[u8]) -> FromRead<FrailReader<'_>> {
-    FromRead::new(FrailReader {
-        octets,
-        first: 1,
-        then: 1,
-        calls: 0,
-        fails_at: NEVER,
-        kind: ErrorKind::Interrupted,
-    })
+impl<'a> Pieces<'a> {
+    /// In two pieces, cut behind the first `first`, or in one.
+    fn cut(octets: &'a [u8], first: usize) -> Pieces<'a> {
+        Pieces {
+            octets,
+            first,
+            then: WHOLE,
+        }
+    }
+
+    /// In one piece.
+    fn whole(octets: &'a [u8]) -> Pieces<'a> {
+        Pieces::cut(octets, WHOLE)
+    }
+
+    /// One by one.
+    fn singles(octets: &'a [u8]) -> Pieces<'a> {
+        Pieces {
+            octets,
+            first: 1,
+            then: 1,
+        }
+    }
+
+    fn reader(self) -> FromRead<FrailReader<'a>> {
+        FromRead::new(FrailReader {
+            octets: self.octets,
+            first: self.first,
+            then: self.then,
+            calls: 0,
+            fails_at: NEVER,
+            kind: ErrorKind::Interrupted,
+        })
+    }
 }
 
 /// The limits that a field names, `depth` and `item` with their numbers; the usual ones, where it doesn't.
 pub fn limits(row: Row<'_>, number: usize) -> Result<Limits, Fail> {
     let usual = Limits::usual();
-    let depth = match row.number_behind(number, "depth")? {
-        Some(depth) => u32::try_from(depth)?,
-        None => usual.depth(),
-    };
-    let item = row.number_behind(number, "item")?.unwrap_or(usual.item());
-    Ok(Limits::new(depth, item, usual.reads()).ok_or("limits")?)
+    let depth = row.number_behind(number, "depth", u64::from(usual.depth()))?;
+    let item = row.number_behind(number, "item", usual.item())?;
+    let limits = Limits::new(u32::try_from(depth)?, item, usual.reads());
+    Ok(limits.ok_or("limits")?)
 }
 
 /// The shared table `t` of version 1 of `x`, where a field names it, or none.
 pub fn catalog(alloc: Global, row: Row<'_>, number: usize) -> Result<Catalog, Fail> {
-    let document = if row.field(number) == "table t" {
-        b"$ion_shared_symbol_table::{name:\"t\",version:1,symbols:[\"x\"]}".as_slice()
+    if row.field(number) == "table t" {
+        load(
+            alloc,
+            "$ion_shared_symbol_table::{name:\"t\",version:1,symbols:[\"x\"]}",
+        )
     } else {
-        b"".as_slice()
-    };
-    match load_catalog(alloc, &mut FromRead::new(document), Limits::usual())? {
-        Ok(catalog) => Ok(catalog),
-        Err(refusal) => Err(Fail::new(format_args!("the table t: {refusal:?}"))),
+        load(alloc, "")
     }
+}
+
+/// The catalog of the tables of a document.
+fn load(alloc: Global, document: &str) -> Result<Catalog, Fail> {
+    let mut reader = FromRead::new(document.as_bytes());
+    Ok(load_catalog(alloc, &mut reader, Limits::usual())??)
 }
 
 /// Fails, where the field is another answer: the number of values, or the offset and the reason of the refusal.
 fn answers(
-    alloc: Global,
     row: Row<'_>,
     number: usize,
     answer: Result<u64, Refusal>,
+    told: &mut String,
 ) -> Result<(), Fail> {
     match answer {
-        Ok(values) => row.wants(number, &format!(in alloc; "{values}")?),
-        Err(Refusal { offset, reason }) => {
-            row.wants(number, &format!(in alloc; "{offset} {}", reason.name())?)
+        Ok(values) => {
+            told.clear();
+            write!(told, "{values}")?;
+            row.wants(number, told.as_str())
         }
+        Err(refusal) => refuses(row, number, refusal, told),
     }
+}
+
+/// Fails, where the field is not the offset and the reason of this refusal.
+pub fn refuses(
+    row: Row<'_>,
+    number: usize,
+    refusal: Refusal,
+    told: &mut String,
+) -> Result<(), Fail> {
+    told.clear();
+    tell_refusal(refusal, told)?;
+    row.wants(number, told.as_str())
+}
+
+/// Tells the offset and the reason.
+pub fn tell_refusal(refusal: Refusal, told: &mut String) -> Result<(), AllocError> {
+    write!(told, "{} {}", refusal.offset, refusal.reason.name())
 }
 
 /// `check` | a document | how many values it has, or the offset and the reason of the refusal | limits and the shared
 /// table.
-pub fn checks(alloc: Global, row: Row<'_>) -> Result<(), Fail> {
-    let octets = row.octets(alloc, 1)?;
-    let octets = octets.as_slice();
+pub fn checks(alloc: Global, row: Row<'_>, octets: &[u8], told: &mut String) -> Result<(), Fail> {
     let limits = limits(row, 3)?;
     let catalog = catalog(alloc, row, 3)?;
-    for first in 1..=octets.len() + 1 {
-        let answer = check(alloc, &mut in_two(octets, first), &catalog, limits)?;
-        answers(alloc, row, 2, answer)?;
-    }
-    let answer = check(alloc, &mut one_by_one(octets), &catalog, limits)?;
-    answers(alloc, row, 2, answer)
+    let tried = checks_each_cut(alloc, row, octets, &catalog, limits, told);
+    drop(catalog);
+    tried
 }
 
-/// What two documents are to each other.
-fn compared<L: Inlet, R: Inlet>(
+fn checks_each_cut(
     alloc: Global,
+    row: Row<'_>,
+    octets: &[u8],
     catalog: &Catalog,
-    left: &mut L,
-    right: &mut R,
-) -> Result<String, Fail> {
-    Ok(
-        match compare(alloc, left, right, catalog, Limits::usual())? {
-            Verdict::Equivalent { values } => format!(in alloc; "equivalent {values}")?,
-            Verdict::Different { index, path } => {
-                let path = path_text(alloc, &path)?;
-                format!(in alloc; "different {index} at {path}")?
-            }
-            Verdict::Refused { side, refusal } => {
-                let side = match side {
-                    Side::Left => "left",
-                    Side::Right => "right",
-                };
-                format!(in alloc; "{side} {} {}", refusal.offset, refusal.reason.name())?
-            }
-        },
-    )
+    limits: Limits,
+    told: &mut String,
+) -> Result<(), Fail> {
+    for first in 1..=octets.len() + 1 {
+        checks_pieces(
+            alloc,
+            row,
+            Pieces::cut(octets, first),
+            catalog,
+            limits,
+            told,
+        )?;
+    }
+    checks_pieces(alloc, row, Pieces::singles(octets), catalog, limits, told)
+}
+
+fn checks_pieces(
+    alloc: Global,
+    row: Row<'_>,
+    pieces: Pieces<'_>,
+    catalog: &Catalog,
+    limits: Limits,
+    told: &mut String,
+) -> Result<(), Fail> {
+    let mut reader = pieces.reader();
+    let answer = check(alloc, &mut reader, catalog, limits);
+    drop(reader);
+    answers(row, 2, answer?, told)
+}
+
+/// Tells what two documents are to each other.
+fn tell(alloc: Global, verdict: &Verdict, told: &mut String) -> Result<(), Fail> {
+    told.clear();
+    match verdict {
+        Verdict::Equivalent { values } => write!(told, "equivalent {values}")?,
+        Verdict::Different { index, path } => tell_difference(alloc, *index, path, told)?,
+        Verdict::Refused { side, refusal } => tell_refused(*side, *refusal, told)?,
+    }
+    Ok(())
+}
+
+fn tell_difference(alloc: Global, index: u64, path: &Path, told: &mut String) -> Result<(), Fail> {
+    let path = path_text(alloc, path)?;
+    let told = write!(told, "different {index} at {path}");
+    drop(path);
+    Ok(told?)
+}
+
+fn tell_refused(side: Side, refusal: Refusal, told: &mut String) -> Result<(), AllocError> {
+    told.push_str(match side {
+        Side::Left => "left ",
+        Side::Right => "right ",
+    })?;
+    tell_refusal(refusal, told)
+}
+
+/// Fails, where these documents are something else to each other than field 3 says.
+fn compares_pieces(
+    alloc: Global,
+    row: Row<'_>,
+    left: Pieces<'_>,
+    right: Pieces<'_>,
+    catalog: &Catalog,
+    told: &mut String,
+) -> Result<(), Fail> {
+    let mut left = left.reader();
+    let mut right = right.reader();
+    let answer = compare(alloc, &mut left, &mut right, catalog, Limits::usual());
+    drop(left);
+    drop(right);
+    let verdict = answer?;
+    let tried = tell(alloc, &verdict, told);
+    drop(verdict);
+    tried?;
+    row.wants(3, told.as_str().trim())
 }
 
 /// `compare` | a document | another | `equivalent` and how many values; `different`, the first value that is, and the path
 /// to where; `left` or `right`, the offset and the reason of its refusal | the shared table.
 ///
 /// Each is cut, the other whole or in single octets; documents that differ are turned as well.
-pub fn compares(alloc: Global, row: Row<'_>) -> Result<(), Fail> {
-    let left = row.octets(alloc, 1)?;
-    let left = left.as_slice();
-    let right = row.octets(alloc, 2)?;
-    let right = right.as_slice();
+pub fn compares(alloc: Global, row: Row<'_>, left: &[u8], told: &mut String) -> Result<(), Fail> {
+    let mut right = Vec::new(alloc);
+    let tried = match row.put_octets(2, &mut right) {
+        Ok(()) => compares_with(alloc, row, left, right.as_slice(), told),
+        Err(fail) => Err(fail),
+    };
+    drop(right);
+    tried
+}
+
+fn compares_with(
+    alloc: Global,
+    row: Row<'_>,
+    left: &[u8],
+    right: &[u8],
+    told: &mut String,
+) -> Result<(), Fail> {
     let catalog = catalog(alloc, row, 4)?;
+    let tried = match cuts_left(alloc, row, left, right, &catalog, told) {
+        Ok(()) => cuts_right(alloc, row, left, right, &catalog, told),
+        Err(fail) => Err(fail),
+    };
+    drop(catalog);
+    tried
+}
+
+fn cuts_left(
+    alloc: Global,
+    row: Row<'_>,
+    left: &[u8],
+    right: &[u8],
+    catalog: &Catalog,
+    told: &mut String,
+) -> Result<(), Fail> {
     for first in 1..=left.len() + 1 {
-        let mut cut = in_two(left, first);
-        let verdict = compared(alloc, &catalog, &mut cut, &mut in_two(right, WHOLE))?;
-        row.wants(3, verdict.as_str().trim())?;
-        let mut cut = in_two(left, first);
-        let verdict = compared(alloc, &catalog, &mut cut, &mut one_by_one(right))?;
-        row.wants(3, verdict.as_str().trim())?;
+        let cut = Pieces::cut(left, first);
+        compares_pieces(alloc, row, cut, Pieces::whole(right), catalog, told)?;
+        compares_pieces(alloc, row, cut, Pieces::singles(right), catalog, told)?;
     }
+    Ok(())
+}
+
+fn cuts_right(
+    alloc: Global,
+    row: Row<'_>,
+    left: &[u8],
+    right: &[u8],
+    catalog: &Catalog,
+    told: &mut String,
+) -> Result<(), Fail> {
+    let differ = row.field(3).starts_with("different");
     for first in 1..=right.len() + 1 {
-        let mut cut = in_two(right, first);
-        let verdict = compared(alloc, &catalog, &mut one_by_one(left), &mut cut)?;
-        row.wants(3, verdict.as_str().trim())?;
-        if row.field(3).starts_with("different") {
-            let mut cut = in_two(right, first);
-            let verdict = compared(alloc, &catalog, &mut cut, &mut in_two(left, WHOLE))?;
-            row.wants(3, verdict.as_str().trim())?;
+        let cut = Pieces::cut(right, first);
+        compares_pieces(alloc, row, Pieces::singles(left), cut, catalog, told)?;
+        if differ {
+            compares_pieces(alloc, row, cut, Pieces::whole(left), catalog, told)?;
         }
     }
     Ok(())
 }
 
-/// What is written of a document, where a call takes so many octets at most and one call fails, and what the lines or
+/// A document, and what has to be written of it: its lines, or its conversion.
+#[derive(Clone, Copy)]
+struct Writing<'a> {
+    target: Option<Target>,
+    octets: &'a [u8],
+    written: &'a [u8],
+}
+
+/// Puts what is written of a document, where a call takes so many octets at most and one call fails; what the lines or
 /// the conversion answer.
-fn written(
+fn put_written(
     alloc: Global,
     target: Option<Target>,
-    reader: &mut FromRead<FrailReader<'_>>,
+    pieces: Pieces<'_>,
     takes: usize,
     fails_at: u64,
-) -> (Vec<u8>, Result<Result<u64, Refusal>, Fault>) {
-    let catalog = Catalog::new(alloc);
-    let limits = Limits::usual();
-    let mut taken = Vec::new(alloc);
+    taken: &mut Vec<u8>,
+) -> Result<Result<u64, Refusal>, Fault> {
+    taken.clear();
+    let mut reader = pieces.reader();
     let mut writer = ToWrite::new(FrailWriter {
-        taken: &mut taken,
+        taken,
         calls: 0,
         fails_at,
         takes,
     });
-    let answer = match target {
-        None => show(alloc, reader, &mut writer, &catalog, limits),
-        Some(target) => convert(alloc, reader, &mut writer, target, &catalog, limits),
-    };
+    let catalog = Catalog::new(alloc);
+    let answer = write(alloc, target, &mut reader, &mut writer, &catalog);
+    drop(catalog);
     drop(writer);
-    (taken, answer)
+    drop(reader);
+    answer
+}
+
+fn write(
+    alloc: Global,
+    target: Option<Target>,
+    reader: &mut FromRead<FrailReader<'_>>,
+    writer: &mut ToWrite<FrailWriter<'_>>,
+    catalog: &Catalog,
+) -> Result<Result<u64, Refusal>, Fault> {
+    match target {
+        None => show(alloc, reader, writer, catalog, Limits::usual()),
+        Some(target) => convert(alloc, reader, writer, target, catalog, Limits::usual()),
+    }
 }
 
 /// Fails, where anything else is written of the document in field 1 than the octets that field `number` spells, or the
@@ -178,51 +327,127 @@ fn writes(
     alloc: Global,
     row: Row<'_>,
     target: Option<Target>,
+    octets: &[u8],
     number: usize,
     last: usize,
+    told: &mut String,
 ) -> Result<(), Fail> {
-    let octets = row.octets(alloc, 1)?;
-    let octets = octets.as_slice();
-    for first in 1..=octets.len() + 1 {
-        for takes in [first, WHOLE] {
-            let mut reader = in_two(octets, first);
-            let (taken, answer) = written(alloc, target, &mut reader, takes, NEVER);
-            answers(alloc, row, last, answer?)?;
-            row.wants_octets(alloc, number, taken.as_slice())?;
+    let mut written = Vec::new(alloc);
+    let mut taken = Vec::new(alloc);
+    let tried = match row.put_octets(number, &mut written) {
+        Ok(()) => {
+            let writing = Writing {
+                target,
+                octets,
+                written: written.as_slice(),
+            };
+            writes_all(alloc, row, writing, last, &mut taken, told)
         }
+        Err(fail) => Err(fail),
+    };
+    drop(taken);
+    drop(written);
+    tried
+}
+
+fn writes_all(
+    alloc: Global,
+    row: Row<'_>,
+    writing: Writing<'_>,
+    last: usize,
+    taken: &mut Vec<u8>,
+    told: &mut String,
+) -> Result<(), Fail> {
+    for first in 1..=writing.octets.len() + 1 {
+        writes_cut(alloc, row, writing, last, first, first, taken, told)?;
+        writes_cut(alloc, row, writing, last, first, WHOLE, taken, told)?;
     }
-    let whole = row.octets(alloc, number)?;
-    for calls in 0..=whole.len() {
-        for first in [4, WHOLE] {
-            let mut reader = in_two(octets, first);
-            let (taken, answer) = written(alloc, target, &mut reader, 1, calls as u64);
-            if answer != Err(Fault::Write) || taken.as_slice() != &whole[..calls] {
-                return Err(Fail::new(format_args!("call {calls} fails: {answer:?} {taken:?}")));
-            }
-        }
+    fails_at_each_call(alloc, writing, taken)
+}
+
+/// Fails, where anything else is written of a document that is cut behind its first `first` octets.
+fn writes_cut(
+    alloc: Global,
+    row: Row<'_>,
+    writing: Writing<'_>,
+    last: usize,
+    first: usize,
+    takes: usize,
+    taken: &mut Vec<u8>,
+    told: &mut String,
+) -> Result<(), Fail> {
+    let pieces = Pieces::cut(writing.octets, first);
+    let answer = put_written(alloc, writing.target, pieces, takes, NEVER, taken)?;
+    answers(row, last, answer, told)?;
+    are_so(taken.as_slice() == writing.written, taken.as_slice())
+}
+
+fn fails_at_each_call(
+    alloc: Global,
+    writing: Writing<'_>,
+    taken: &mut Vec<u8>,
+) -> Result<(), Fail> {
+    for calls in 0..=writing.written.len() {
+        fails_at(alloc, writing, calls, 4, taken)?;
+        fails_at(alloc, writing, calls, WHOLE, taken)?;
     }
     Ok(())
 }
 
+/// Fails, where the failing of the call behind so many is not the answer, or not so many octets were written.
+fn fails_at(
+    alloc: Global,
+    writing: Writing<'_>,
+    calls: usize,
+    first: usize,
+    taken: &mut Vec<u8>,
+) -> Result<(), Fail> {
+    let pieces = Pieces::cut(writing.octets, first);
+    match put_written(alloc, writing.target, pieces, 1, calls as u64, taken) {
+        Err(Fault::Write) => {
+            let front = writing.written.get(..calls).unwrap_or(&[]);
+            are_so(taken.as_slice() == front, taken.as_slice())
+        }
+        _ => Err(Fail::new(format_args!("call {calls} fails, and is not answered"))),
+    }
+}
+
 /// `show` | a document | the lines | how many values, or the offset and the reason of the refusal.
-pub fn shows(alloc: Global, row: Row<'_>) -> Result<(), Fail> {
-    writes(alloc, row, None, 2, 3)
+pub fn shows(alloc: Global, row: Row<'_>, octets: &[u8], told: &mut String) -> Result<(), Fail> {
+    writes(alloc, row, None, octets, 2, 3, told)
 }
 
 /// `convert` | a document | its conversion to binary | and to text | how many values, or the offset and the reason of the
 /// refusal.
 ///
 /// What was written is read as the same stream, and converted once more is as it was.
-pub fn converts(alloc: Global, row: Row<'_>) -> Result<(), Fail> {
-    writes(alloc, row, Some(Target::Binary), 2, 4)?;
-    writes(alloc, row, Some(Target::Text), 3, 4)?;
-    for written_in in [2, 3] {
-        let octets = row.octets(alloc, written_in)?;
-        for (target, number) in [(Target::Binary, 2), (Target::Text, 3)] {
-            let mut reader = in_two(octets.as_slice(), WHOLE);
-            let (taken, _) = written(alloc, Some(target), &mut reader, WHOLE, NEVER);
-            row.wants_octets(alloc, number, taken.as_slice())?;
-        }
-    }
-    Ok(())
+pub fn converts(alloc: Global, row: Row<'_>, octets: &[u8], told: &mut String) -> Result<(), Fail> {
+    writes(alloc, row, Some(Target::Binary), octets, 2, 4, told)?;
+    writes(alloc, row, Some(Target::Text), octets, 3, 4, told)?;
+    let mut written = Vec::new(alloc);
+    let mut taken = Vec::new(alloc);
+    let tried = match converts_again(alloc, row, 2, &mut written, &mut taken) {
+        Ok(()) => converts_again(alloc, row, 3, &mut written, &mut taken),
+        Err(fail) => Err(fail),
+    };
+    drop(taken);
+    drop(written);
+    tried
+}
+
+/// Fails, where what was written in one encoding is converted otherwise to either.
+fn converts_again(
+    alloc: Global,
+    row: Row<'_>,
+    written_in: usize,
+    written: &mut Vec<u8>,
+    taken: &mut Vec<u8>,
+) -> Result<(), Fail> {
+    written.clear();
+    row.put_octets(written_in, written)?;
+    let pieces = Pieces::whole(written.as_slice());
+    let _ = put_written(alloc, Some(Target::Binary), pieces, WHOLE, NEVER, taken);
+    row.wants_octets(alloc, 2, taken.as_slice())?;
+    let _ = put_written(alloc, Some(Target::Text), pieces, WHOLE, NEVER, taken);
+    row.wants_octets(alloc, 3, taken.as_slice())
 }

@@ -1,15 +1,15 @@
 //! What the readers answer on worked documents: whole, in single octets, at every cut, and on each prefix.
 ghost use Rattle.std.specs.Prelude.{◌≡◌, ℕ, ◌+◌, ◌≤◌, ◌<◌, ◌^◌, ◌∷◌, List, true, length, IfOk, IfSome, None};
 
-use crate::documents::{catalog, limits};
+use crate::documents::{catalog, limits, refuses};
 use crate::row::Row;
-use crate::values::text;
+use crate::values::wants_text;
 use ion_binary::BinaryReader;
 use ion_docs::DocReader;
 use ion_model::{Reason, Refusal, Value};
 use ion_symtab::{Catalog, Items, Limits, Step};
 use ion_text::TextReader;
-use std::alloc::Global;
+use std::alloc::{AllocError, Global};
 use std::test::Fail;
 
 /// What a reader answered.
@@ -19,6 +19,28 @@ struct Answers {
     /// The octets used up to where each value comes.
     totals: Vec<u64>,
     refusal: Option<Refusal>,
+}
+
+impl Answers {
+    fn new(alloc: Global) -> Answers {
+        Answers {
+            values: Vec::new(alloc),
+            totals: Vec::new(alloc),
+            refusal: None,
+        }
+    }
+
+    /// None yet.
+    fn clear(&mut self) {
+        self.values.clear();
+        self.totals.clear();
+        self.refusal = None;
+    }
+
+    fn push(&mut self, value: Value, total: u64) -> Result<(), Fail> {
+        self.values.push(value)?;
+        Ok(self.totals.push(total)?)
+    }
 }
 
 /// Takes up a piece behind `before` octets; `false` where it is refused.
@@ -40,11 +62,10 @@ fn take_up<I: Items>(
         match reader.step(&piece[at..]) {
             Ok(Step { used, value }) => {
                 at += used;
-                let Some(value) = value else {
-                    return Ok(true);
-                };
-                answers.values.push(value)?;
-                answers.totals.push(before + at as u64)?;
+                match value {
+                    Some(value) => answers.push(value, before + at as u64)?,
+                    None => return Ok(true),
+                }
             }
             Err(refusal) => {
                 answers.refusal = Some(refusal);
@@ -54,14 +75,58 @@ fn take_up<I: Items>(
     }
 }
 
+/// Takes up a document in pieces of `size` octets behind a first one of `cut`; `false` where it is refused.
+fn take_pieces<I: Items>(
+    reader: &mut I,
+    document: &[u8],
+    cut: usize,
+    size: usize,
+    answers: &mut Answers,
+) -> Result<bool, Fail>
+    requires taken { I.taken reader.old ≡ 0 }
+    requires awaits { I.awaits reader.old ≡ None }
+    requires cut { cut ≤ length document.now }
+    requires size { 0 < size }
+    requires small { size < 2 ^ 32 }
+    requires room { length document.now < 2 ^ 63 }
+    ensures none { IfOk result (λ more. more ≡ true → I.awaits reader.new ≡ None) }
+{
+    let mut from = 0;
+    let mut to = cut;
+    loop {
+        if !take_up(reader, &document[from..to], from as u64, answers)? {
+            return Ok(false);
+        }
+        if to >= document.len() {
+            return Ok(true);
+        }
+        from = to;
+        to = (to + size).min(document.len());
+    }
+}
+
+/// Takes up the end of a document of `total` octets.
+fn take_end<I: Items>(reader: I, total: u64, answers: &mut Answers) -> Result<(), Fail>
+    requires awaits { I.awaits reader ≡ None }
+{
+    match reader.finish() {
+        Ok(None) => Ok(()),
+        Ok(Some(value)) => answers.push(value, total),
+        Err(refusal) => {
+            answers.refusal = Some(refusal);
+            Ok(())
+        }
+    }
+}
+
 /// Reads a document by a new reader, in pieces of `size` octets behind a first one of `cut`.
 fn read<I: Items + Drop>(
-    alloc: Global,
     reader: I,
     document: &[u8],
     cut: usize,
     size: usize,
-) -> Result<Answers, Fail>
+    answers: &mut Answers,
+) -> Result<(), Fail>
     requires taken { I.taken reader ≡ 0 }
     requires awaits { I.awaits reader ≡ None }
     requires cut { cut ≤ length document.now }
@@ -70,107 +135,197 @@ fn read<I: Items + Drop>(
     requires room { length document.now < 2 ^ 63 }
 {
     let mut reader = reader;
-    let mut answers = Answers {
-        values: Vec::new(alloc),
-        totals: Vec::new(alloc),
-        refusal: None,
-    };
-    let mut from = 0;
-    let mut to = cut;
-    loop {
-        if !take_up(&mut reader, &document[from..to], from as u64, &mut answers)? {
-            return Ok(answers);
+    match take_pieces(&mut reader, document, cut, size, answers) {
+        Ok(true) => take_end(reader, document.len() as u64, answers),
+        Ok(false) => {
+            drop(reader);
+            Ok(())
         }
-        if to >= document.len() {
-            break;
+        Err(fail) => {
+            drop(reader);
+            Err(fail)
         }
-        from = to;
-        to = (to + size).min(document.len());
     }
-    match reader.finish() {
-        Ok(None) => {}
-        Ok(Some(value)) => {
-            answers.values.push(value)?;
-            answers.totals.push(document.len() as u64)?;
-        }
-        Err(refusal) => answers.refusal = Some(refusal),
-    }
-    Ok(answers)
+}
+
+/// A row's document, and with what it is read.
+#[derive(Clone, Copy)]
+struct Reading<'a> {
+    alloc: Global,
+    row: Row<'a>,
+    catalog: &'a Catalog,
+    limits: Limits,
+    document: &'a [u8],
 }
 
 /// Reads a document in these pieces by the reader of an encoding.
 fn read_as(
-    alloc: Global,
+    reading: &Reading<'_>,
     encoding: &str,
-    catalog: &Catalog,
-    limits: Limits,
     document: &[u8],
     cut: usize,
     size: usize,
-) -> Result<Answers, Fail>
+    answers: &mut Answers,
+) -> Result<(), Fail>
     requires cut { cut ≤ length document.now }
     requires size { 0 < size }
     requires small { size < 2 ^ 32 }
     requires room { length document.now < 2 ^ 63 }
 {
+    answers.clear();
     match encoding {
         "binary" => {
-            let reader = BinaryReader::new(alloc, catalog, limits)?;
-            read(alloc, reader, document, cut, size)
+            let reader = BinaryReader::new(reading.alloc, reading.catalog, reading.limits)?;
+            read(reader, document, cut, size, answers)
         }
         "text" => {
-            let reader = TextReader::new(alloc, catalog, limits)?;
-            read(alloc, reader, document, cut, size)
+            let reader = TextReader::new(reading.alloc, reading.catalog, reading.limits)?;
+            read(reader, document, cut, size, answers)
         }
         _ => {
-            let reader = DocReader::new(alloc, catalog, limits)?;
-            read(alloc, reader, document, cut, size)
+            let reader = DocReader::new(reading.alloc, reading.catalog, reading.limits)?;
+            read(reader, document, cut, size, answers)
         }
     }
 }
 
-/// Fails, where the row has other answers.
-fn meets(alloc: Global, row: Row<'_>, answers: &Answers) -> Result<(), Fail> {
-    let mut totals = String::new(alloc);
-    if answers.totals.len() > 100 {
-        totals.push_str(&format!(in alloc; "{} values", answers.totals.len())?)?;
-    } else {
-        for total in answers.totals.as_slice() {
-            totals.push_str(&format!(in alloc; "{total} ")?)?;
-        }
+/// Tells the octets used up to where each value comes; of more than a hundred values, their number.
+fn tell_totals(totals: &[u64], told: &mut String) -> Result<(), AllocError> {
+    told.clear();
+    if totals.len() > 100 {
+        return write!(told, "{} values", totals.len());
     }
-    row.wants(2, totals.as_str().trim())?;
+    for total in totals {
+        write!(told, "{total} ")?;
+    }
+    Ok(())
+}
+
+/// Fails, where the row has other answers.
+fn meets(row: Row<'_>, answers: &Answers, told: &mut String) -> Result<(), Fail> {
+    tell_totals(answers.totals.as_slice(), told)?;
+    row.wants(2, told.as_str().trim())?;
     match answers.refusal {
         None => row.wants(3, ""),
-        Some(Refusal { offset, reason }) => {
-            row.wants(3, &format!(in alloc; "{offset} {}", reason.name())?)
-        }
+        Some(refusal) => refuses(row, 3, refusal, told),
+    }
+}
+
+/// Whether the row is refused at an octet up to `size`.
+fn is_refused_by(row: Row<'_>, size: u64) -> Result<bool, Fail> {
+    match row.field(3).split_once(' ') {
+        Some((offset, _)) => Ok(offset.parse::<u64>()? <= size),
+        None => Ok(false),
     }
 }
 
 /// Fails, where the octets up to `size` are answered as they can't be. They are refused as the row is, from the octet on
 /// that decided; fewer are a document, or are refused at their end, in binary always as incomplete.
-fn meets_as_prefix(alloc: Global, row: Row<'_>, answers: &Answers, size: u64) -> Result<(), Fail> {
-    if let Some((offset, _)) = row.field(3).split_once(' ')
-        && offset.parse::<u64>()? <= size
-    {
-        return meets(alloc, row, answers);
+fn meets_as_prefix(
+    row: Row<'_>,
+    answers: &Answers,
+    size: u64,
+    told: &mut String,
+) -> Result<(), Fail> {
+    if is_refused_by(row, size)? {
+        return meets(row, answers, told);
     }
     match answers.refusal {
-        Some(Refusal { offset, reason })
-            if offset != size || row.field(0) == "binary" && reason != Reason::Incomplete => {
-            Err(Fail::new(format_args!("the first {size} octets: {offset} {reason:?}")))
-        }
-        _ => Ok(()),
+        Some(refusal) => is_at_end(row, refusal, size),
+        None => Ok(()),
     }
 }
 
-/// Fails, where the row tells the values in text and these are written otherwise.
-fn are_spelled(alloc: Global, row: Row<'_>, values: &[Value]) -> Result<(), Fail> {
+/// Fails, where this is no refusal of the end of `size` octets.
+fn is_at_end(row: Row<'_>, refusal: Refusal, size: u64) -> Result<(), Fail> {
+    let is_fitting = row.field(0) != "binary" || refusal.reason == Reason::Incomplete;
+    if refusal.offset == size && is_fitting {
+        return Ok(());
+    }
+    Err(Fail::new(format_args!("the first {size} octets: {refusal:?}")))
+}
+
+/// Fails, where a reader of this encoding answers otherwise, in pieces of `size` octets behind a first one of `cut`.
+fn reads_as(
+    reading: &Reading<'_>,
+    encoding: &str,
+    cut: usize,
+    size: usize,
+    answers: &mut Answers,
+    told: &mut String,
+) -> Result<(), Fail>
+    requires cut { cut ≤ length reading.now.document.now }
+    requires size { 0 < size }
+    requires small { size < 2 ^ 32 }
+    requires room { length reading.now.document.now < 2 ^ 63 }
+{
+    let row = reading.row;
+    read_as(reading, encoding, reading.document, cut, size, answers)?;
+    meets(row, answers, told)?;
     if row.field(5).is_empty() {
         return Ok(());
     }
-    row.wants_octets(alloc, 5, text(alloc, values)?.as_slice())
+    wants_text(reading.alloc, row, 5, answers.values.as_slice())
+}
+
+/// Fails, where the first `cut` octets in pieces of `size` are answered as they can't be.
+fn reads_prefix(
+    reading: &Reading<'_>,
+    cut: usize,
+    size: usize,
+    answers: &mut Answers,
+    told: &mut String,
+) -> Result<(), Fail>
+    requires cut { cut ≤ length reading.now.document.now }
+    requires size { 0 < size }
+    requires small { size < 2 ^ 32 }
+    requires room { length reading.now.document.now < 2 ^ 63 }
+{
+    let row = reading.row;
+    read_as(
+        reading,
+        row.field(0),
+        &reading.document[..cut],
+        0,
+        size,
+        answers,
+    )?;
+    meets_as_prefix(row, answers, cut as u64, told)
+}
+
+/// Tries the reader of the encoding and the one that chooses it, and the first `cut` octets.
+fn reads_cut(
+    reading: &Reading<'_>,
+    cut: usize,
+    size: usize,
+    answers: &mut Answers,
+    told: &mut String,
+) -> Result<(), Fail>
+    requires cut { cut ≤ length reading.now.document.now }
+    requires size { 0 < size }
+    requires small { size < 2 ^ 32 }
+    requires room { length reading.now.document.now < 2 ^ 63 }
+{
+    reads_as(reading, reading.row.field(0), cut, size, answers, told)?;
+    reads_as(reading, "either", cut, size, answers, told)?;
+    reads_prefix(reading, cut, size, answers, told)
+}
+
+fn reads_each_cut(
+    reading: &Reading<'_>,
+    answers: &mut Answers,
+    told: &mut String,
+) -> Result<(), Fail> {
+    let document = reading.document;
+    if document.len() > 1000 {
+        return reads_cut(reading, 0, 4096, answers, told);
+    }
+    for cut in 0..=document.len() {
+        reads_cut(reading, cut, 4096, answers, told)?;
+        reads_cut(reading, cut, 2, answers, told)?;
+        reads_cut(reading, cut, 1, answers, told)?;
+    }
+    Ok(())
 }
 
 /// `binary` or `text` | a document | the octets used up to where each value comes; of more than a hundred values, their
@@ -179,28 +334,19 @@ fn are_spelled(alloc: Global, row: Row<'_>, values: &[Value]) -> Result<(), Fail
 ///
 /// The reader of the encoding and the one that chooses it are asked, with each cut in two pieces and in short ones behind
 /// it, and each prefix in one and in short ones. A long document comes in great pieces alone.
-pub fn reads(alloc: Global, row: Row<'_>) -> Result<(), Fail> {
+pub fn reads(alloc: Global, row: Row<'_>, document: &[u8], told: &mut String) -> Result<(), Fail> {
     let limits = limits(row, 4)?;
     let catalog = catalog(alloc, row, 4)?;
-    let octets = row.octets(alloc, 1)?;
-    let document = octets.as_slice();
-    for cut in 0..=document.len() {
-        if cut > 0 && document.len() > 1000 {
-            break;
-        }
-        for size in [4096, 2, 1] {
-            if size < 4096 && document.len() > 1000 {
-                break;
-            }
-            for encoding in [row.field(0), "either"] {
-                let answers = read_as(alloc, encoding, &catalog, limits, document, cut, size)?;
-                meets(alloc, row, &answers)?;
-                are_spelled(alloc, row, answers.values.as_slice())?;
-            }
-            let prefix = &document[..cut];
-            let answers = read_as(alloc, row.field(0), &catalog, limits, prefix, 0, size)?;
-            meets_as_prefix(alloc, row, &answers, cut as u64)?;
-        }
-    }
-    Ok(())
+    let mut answers = Answers::new(alloc);
+    let reading = Reading {
+        alloc,
+        row,
+        catalog: &catalog,
+        limits,
+        document,
+    };
+    let tried = reads_each_cut(&reading, &mut answers, told);
+    drop(answers);
+    drop(catalog);
+    tried
 }

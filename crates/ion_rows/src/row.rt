@@ -19,42 +19,36 @@ impl<'a> Row<'a> {
 
     /// The field of this number without the blanks around it; the empty text, where the row has fewer fields.
     pub fn field(self, number: usize) -> &'a str {
-        for (index, field) in self.line.split('|').enumerate() {
-            if index == number {
-                return field.trim();
-            }
+        match self.line.split('|').nth(number) {
+            Some(field) => field.trim(),
+            None => "",
         }
-        ""
     }
 
-    /// The octets that a field spells: `M`, a version marker; two hexadecimal digits, an octet; a text between
+    /// Puts the octets that a field spells: `M`, a version marker; two hexadecimal digits, an octet; a text between
     /// backquotes, in which `␊` stands for a line feed and so on; and `1000*` before a text, the text so many times.
-    pub fn octets(self, alloc: Global, number: usize) -> Result<Vec<u8>, Fail> {
-        let mut octets = Vec::new(alloc);
+    pub fn put_octets(self, number: usize, octets: &mut Vec<u8>) -> Result<(), Fail> {
         let mut times: u32 = 1;
         for (index, piece) in self.field(number).split('`').enumerate() {
             if index % 2 == 0 {
-                times = put_words(piece, &mut octets)?;
+                times = put_words(piece, octets)?;
             } else {
-                let text = control_characters(alloc, piece)?;
-                for _ in 0..times {
-                    octets.extend_from_slice(text.as_bytes())?;
-                }
+                put_text(piece, times, octets)?;
             }
         }
-        Ok(octets)
+        Ok(())
     }
 
-    /// The word of a field that follows this one there, as a number.
-    pub fn number_behind(self, number: usize, name: &str) -> Result<Option<u64>, Fail> {
+    /// The word of a field that follows this one there, as a number; the usual one, where there is none.
+    pub fn number_behind(self, number: usize, name: &str, usual: u64) -> Result<u64, Fail> {
         let mut is_behind = false;
         for word in self.field(number).split_whitespace() {
             if is_behind {
-                return Ok(Some(word.parse::<u64>()?));
+                return Ok(word.parse::<u64>()?);
             }
             is_behind = word == name;
         }
-        Ok(None)
+        Ok(usual)
     }
 
     /// Fails, where the field is another answer.
@@ -67,39 +61,69 @@ impl<'a> Row<'a> {
 
     /// Fails, where the field spells other octets.
     pub fn wants_octets(self, alloc: Global, number: usize, answer: &[u8]) -> Result<(), Fail> {
-        if self.octets(alloc, number)?.as_slice() == answer {
-            return Ok(());
-        }
-        Err(Fail::new(format_args!("not so, but: {answer:?}")))
+        let mut wanted = Vec::new(alloc);
+        let put = self.put_octets(number, &mut wanted);
+        let is_so = wanted.as_slice() == answer;
+        drop(wanted);
+        put?;
+        are_so(is_so, answer)
     }
+}
+
+/// Fails, where octets are not what is wanted.
+pub fn are_so(is_so: bool, answer: &[u8]) -> Result<(), Fail> {
+    if is_so {
+        return Ok(());
+    }
+    let text = str::from_utf8(answer).unwrap_or("no text");
+    Err(Fail::new(format_args!("not so, but: {text} {answer:?}")))
 }
 
 /// Puts the octets of the words outside backquotes; how many times the text behind them is meant.
 fn put_words(words: &str, octets: &mut Vec<u8>) -> Result<u32, Fail> {
     let mut times = 1;
     for word in words.split_whitespace() {
-        if word == "M" {
-            octets.extend_from_slice(&[0xE0, 0x01, 0x00, 0xEA])?;
-        } else if let Some(number) = word.strip_suffix('*') {
-            times = number.parse::<u32>()?;
-        } else {
-            octets.push(u8::from_str_radix(word, 16)?)?;
+        match word.strip_suffix('*') {
+            Some(number) => times = number.parse::<u32>()?,
+            None => put_word(word, octets)?,
         }
     }
     Ok(times)
 }
 
-/// The text with the control characters that its pictures stand for.
-fn control_characters(alloc: Global, pictures: &str) -> Result<String, Fail> {
-    let mut text = String::new(alloc);
-    for picture in pictures.chars() {
-        let code = picture as u32;
-        let character = match code {
-            0x2400..=0x241F => char::from_u32(code - 0x2400),
-            0x2421 => Some('\u{7F}'),
-            _ => None,
-        };
-        text.push(character.unwrap_or(picture))?;
+/// Puts a version marker, or the octet of two digits.
+fn put_word(word: &str, octets: &mut Vec<u8>) -> Result<(), Fail> {
+    if word == "M" {
+        octets.extend_from_slice(&[0xE0, 0x01, 0x00, 0xEA])?;
+    } else {
+        octets.push(u8::from_str_radix(word, 16)?)?;
     }
-    Ok(text)
+    Ok(())
+}
+
+/// Puts a text so many times.
+fn put_text(pictures: &str, times: u32, octets: &mut Vec<u8>) -> Result<(), Fail> {
+    for _ in 0..times {
+        put_characters(pictures, octets)?;
+    }
+    Ok(())
+}
+
+/// Puts the text with the control characters that its pictures stand for.
+fn put_characters(pictures: &str, octets: &mut Vec<u8>) -> Result<(), Fail> {
+    for picture in pictures.chars() {
+        let character = meant_by(picture);
+        octets.extend_from_slice(character.encode_utf8(&mut [0; 4]).as_bytes())?;
+    }
+    Ok(())
+}
+
+/// The control character that a picture stands for; any other character stands for itself.
+fn meant_by(picture: char) -> char {
+    let code = picture as u32;
+    match code {
+        0x2400..=0x241F => char::from_u32(code - 0x2400).unwrap_or(picture),
+        0x2421 => '\u{7F}',
+        _ => picture,
+    }
 }

@@ -6,7 +6,7 @@ use ion_scalar::{
     put_timestamp, put_uint, put_var_int, put_var_uint, read_var_int, read_var_uint, timestamp_of,
     uint_of,
 };
-use std::alloc::Global;
+use std::alloc::{AllocError, Global};
 use std::test::Fail;
 
 /// The number of a token, or of the body of a timestamp or a decimal.
@@ -25,28 +25,24 @@ fn number(sort: &str, octets: &[u8]) -> Result<Number, Reason> {
 }
 
 /// `number`, `timestamp` and `decimal`: a token or a body | the text of its number, or the reason for a refusal.
-pub fn spells(alloc: Global, row: Row<'_>) -> Result<(), Fail> {
-    let octets = row.octets(alloc, 1)?;
-    match number(row.field(0), octets.as_slice()) {
+pub fn spells(row: Row<'_>, octets: &[u8], out: &mut Vec<u8>) -> Result<(), Fail> {
+    match number(row.field(0), octets) {
         Ok(number) => {
-            let mut text = Vec::new(alloc);
-            put_number(&number, &mut text)?;
-            row.wants(2, str::from_utf8(text.as_slice())?)
+            put_number(&number, out)?;
+            row.wants(2, str::from_utf8(out.as_slice())?)
         }
         Err(reason) => row.wants(2, reason.name()),
     }
 }
 
 /// `body`: the token of a timestamp or a decimal | its body as it is written.
-pub fn has_body(alloc: Global, row: Row<'_>) -> Result<(), Fail> {
-    let token = row.octets(alloc, 1)?;
-    let mut body = Vec::new(alloc);
-    match number_of(token.as_slice())? {
-        Number::Timestamp(timestamp) => put_timestamp(timestamp, &mut body)?,
-        Number::Decimal(decimal) => put_decimal(decimal, &mut body)?,
+pub fn has_body(alloc: Global, row: Row<'_>, token: &[u8], out: &mut Vec<u8>) -> Result<(), Fail> {
+    match number_of(token)? {
+        Number::Timestamp(timestamp) => put_timestamp(timestamp, out)?,
+        Number::Decimal(decimal) => put_decimal(decimal, out)?,
         Number::Int(_) => return Err("an int".into()),
     }
-    row.wants_octets(alloc, 2, body.as_slice())
+    row.wants_octets(alloc, 2, out.as_slice())
 }
 
 /// What stands before the magnitude of a number.
@@ -54,35 +50,57 @@ fn sign(negative: bool) -> &'static str {
     if negative { "-" } else { "" }
 }
 
-/// What the field of a body answers.
-fn field(alloc: Global, sort: &str, octets: &[u8]) -> Result<String, Reason> {
-    Ok(match sort {
+/// The number of a field, whether it is negative, and of fields whose length shows in them how many octets it takes.
+fn read_field(sort: &str, octets: &[u8]) -> Result<(bool, u128, Option<usize>), Reason> {
+    match sort {
         "var_uint" => {
             let (value, used) = read_var_uint(octets)?;
-            format!(in alloc; "{value} {used}")?
+            Ok((false, u128::from(value), Some(used)))
         }
         "var_int" => {
             let (value, used) = read_var_int(octets)?;
-            format!(in alloc; "{}{} {used}", sign(value.negative), value.magnitude)?
+            Ok((value.negative, u128::from(value.magnitude), Some(used)))
         }
         "int" => {
             let (negative, magnitude) = int_of(octets)?;
-            format!(in alloc; "{}{magnitude}", sign(negative))?
+            Ok((negative, magnitude, None))
         }
-        "uint" => format!(in alloc; "{}", uint_of(octets)?)?,
-        _ => {
-            let octet = octets.first().copied().unwrap_or(0);
-            format!(in alloc; "{:?}", Descriptor::of(octet)?)?
-        }
-    })
+        _ => Ok((false, uint_of(octets)?, None)),
+    }
 }
 
 /// `var_uint` and `var_int`: octets | the number at their front, and how many octets it takes; `uint` and `int`: octets |
-/// the number; `descriptor`: an octet | what it begins; or the reason for a refusal.
-pub fn is_field(alloc: Global, row: Row<'_>) -> Result<(), Fail> {
-    let octets = row.octets(alloc, 1)?;
-    match field(alloc, row.field(0), octets.as_slice()) {
-        Ok(answer) => row.wants(2, answer.as_str()),
+/// the number; or the reason for a refusal.
+pub fn is_field(row: Row<'_>, octets: &[u8], told: &mut String) -> Result<(), Fail> {
+    match read_field(row.field(0), octets) {
+        Ok((negative, magnitude, used)) => {
+            tell_field(negative, magnitude, used, told)?;
+            row.wants(2, told.as_str())
+        }
+        Err(reason) => row.wants(2, reason.name()),
+    }
+}
+
+fn tell_field(
+    negative: bool,
+    magnitude: u128,
+    used: Option<usize>,
+    told: &mut String,
+) -> Result<(), AllocError> {
+    let sign = sign(negative);
+    match used {
+        Some(used) => write!(told, "{sign}{magnitude} {used}"),
+        None => write!(told, "{sign}{magnitude}"),
+    }
+}
+
+/// `descriptor`: an octet | what it begins, or the reason for a refusal.
+pub fn is_descriptor(row: Row<'_>, octets: &[u8], told: &mut String) -> Result<(), Fail> {
+    match Descriptor::of(octets.first().copied().unwrap_or(0)) {
+        Ok(descriptor) => {
+            write!(told, "{descriptor:?}")?;
+            row.wants(2, told.as_str())
+        }
         Err(reason) => row.wants(2, reason.name()),
     }
 }
@@ -102,12 +120,11 @@ fn put(sort: &str, number: &str, out: &mut Vec<u8>) -> Result<(), Fail> {
 }
 
 /// `put`: sorts of fields, each with its number, and commas between them | the octets of them all.
-pub fn puts(alloc: Global, row: Row<'_>) -> Result<(), Fail> {
-    let mut octets = Vec::new(alloc);
+pub fn puts(alloc: Global, row: Row<'_>, out: &mut Vec<u8>) -> Result<(), Fail> {
     for field in row.field(1).split(',') {
         if let Some((sort, number)) = field.trim().split_once(' ') {
-            put(sort, number, &mut octets)?;
+            put(sort, number, out)?;
         }
     }
-    row.wants_octets(alloc, 2, octets.as_slice())
+    row.wants_octets(alloc, 2, out.as_slice())
 }

@@ -1,17 +1,19 @@
 //! What the scanner answers on worked rows: whole, in single octets and at every cut.
+use crate::documents::tell_refusal;
 use crate::row::Row;
 use ion_model::Refusal;
 use ion_scalar::Number;
 use ion_tokens::{Body, Mark, Place, Scan, Scanner, Token};
-use std::alloc::Global;
+use std::alloc::{AllocError, Global};
 use std::test::Fail;
 
-/// A scanner, and what it answered.
+/// What a scanner answered.
 #[derive(Drop)]
-struct Run {
-    scanner: Scanner,
+struct Seen<'a> {
+    /// The places of the tokens in turn, of which the last stands for all further.
+    places: &'static [Place],
     tokens: usize,
-    shown: String,
+    told: &'a mut String,
     refused: bool,
 }
 
@@ -29,130 +31,140 @@ fn mark_text(mark: Mark) -> &'static str {
     }
 }
 
-fn show_body(alloc: Global, body: &Body<'_>) -> Result<String, Fail> {
-    Ok(match body {
-        Body::Word(word) => format!(in alloc; "word {}", word.as_str())?,
-        Body::Id(id) => format!(in alloc; "id {id}")?,
-        Body::Quoted(text) => format!(in alloc; "symbol {}", text.as_str())?,
-        Body::Short(text) => format!(in alloc; "string {}", text.as_str())?,
-        Body::Long(text) => format!(in alloc; "long {}", text.as_str())?,
-        Body::Number(Number::Int(whole)) => format!(in alloc; "int {}", whole.get())?,
-        Body::Number(Number::Decimal(decimal)) => {
-            format!(in alloc; "decimal {} {}", decimal.magnitude(), decimal.exponent())?
-        }
-        Body::Number(Number::Timestamp(_)) => format!(in alloc; "timestamp")?,
-        Body::TypedNull(kind) => format!(in alloc; "null {}", kind.name())?,
-        Body::Operator(operator) => format!(in alloc; "operator {}", operator.as_str())?,
-        Body::Clob(octets) => format!(in alloc; "clob {:?}", octets.as_slice())?,
-        Body::Blob(octets) => format!(in alloc; "blob {:?}", octets.as_slice())?,
-        Body::Mark(mark) => format!(in alloc; "mark {}", mark_text(*mark))?,
-    })
+/// Tells the body of a token.
+fn tell_body(body: &Body<'_>, told: &mut String) -> Result<(), AllocError> {
+    match body {
+        Body::Word(word) => tell_word("word", word.as_str(), told),
+        Body::Operator(operator) => tell_word("operator", operator.as_str(), told),
+        Body::Quoted(text) => tell_word("symbol", text.as_str(), told),
+        Body::Short(text) => tell_word("string", text.as_str(), told),
+        Body::Long(text) => tell_word("long", text.as_str(), told),
+        Body::TypedNull(kind) => tell_word("null", kind.name(), told),
+        Body::Mark(mark) => tell_word("mark", mark_text(*mark), told),
+        Body::Id(id) => write!(told, "id {id}"),
+        Body::Number(number) => tell_number(number, told),
+        Body::Clob(octets) => tell_octets("clob", octets.as_slice(), told),
+        Body::Blob(octets) => tell_octets("blob", octets.as_slice(), told),
+    }
 }
 
-impl Run {
-    fn new(alloc: Global) -> Run {
-        Run {
-            scanner: Scanner::new(alloc),
-            tokens: 0,
-            shown: String::new(alloc),
-            refused: false,
+fn tell_word(sort: &str, text: &str, told: &mut String) -> Result<(), AllocError> {
+    write!(told, "{sort} {text}")
+}
+
+fn tell_octets(sort: &str, octets: &[u8], told: &mut String) -> Result<(), AllocError> {
+    write!(told, "{sort} {octets:?}")
+}
+
+fn tell_number(number: &Number, told: &mut String) -> Result<(), AllocError> {
+    match number {
+        Number::Int(whole) => write!(told, "int {}", whole.get()),
+        Number::Decimal(decimal) => {
+            write!(
+                told,
+                "decimal {} {}",
+                decimal.magnitude(),
+                decimal.exponent()
+            )
         }
+        Number::Timestamp(_) => told.push_str("timestamp"),
     }
+}
 
-    fn token(&mut self, alloc: Global, token: &Token<'_>) -> Result<(), Fail> {
-        let body = show_body(alloc, &token.body)?;
-        let shown = format!(in alloc; "{}-{} {body}; ", token.start, token.end)?;
-        self.shown.push_str(shown.as_str())?;
-        self.tokens = self.tokens.saturating_add(1);
-        Ok(())
-    }
+/// Tells a token with its span.
+fn tell_token(token: &Token<'_>, told: &mut String) -> Result<(), AllocError> {
+    write!(told, "{}-{} ", token.start, token.end)?;
+    tell_body(&token.body, told)?;
+    told.push_str("; ")
+}
 
-    fn refusal(&mut self, alloc: Global, refusal: Refusal) -> Result<(), Fail> {
-        let shown = format!(in alloc; "{} {}", refusal.offset, refusal.reason.name())?;
-        self.shown.push_str(shown.as_str())?;
+impl Seen<'_> {
+    fn refusal(&mut self, refusal: Refusal) -> Result<(), AllocError> {
         self.refused = true;
-        Ok(())
+        tell_refusal(refusal, self.told)
     }
 
-    fn place(&self, places: &[Place]) -> Place {
-        match places.get(self.tokens) {
+    /// Tells a token, and lets it go.
+    fn take(&mut self, token: Token<'_>) -> Result<(), AllocError> {
+        self.tokens = self.tokens.saturating_add(1);
+        let told = tell_token(&token, self.told);
+        drop(token);
+        told
+    }
+
+    /// Where the next token stands.
+    fn place(&self) -> Place {
+        match self.places.get(self.tokens) {
             Some(place) => *place,
-            None => places.last().copied().unwrap_or(Place::Top),
+            None => self.places.last().copied().unwrap_or(Place::Top),
         }
     }
 
-    /// Takes up a piece.
-    fn take_up(&mut self, alloc: Global, piece: &[u8], places: &[Place]) -> Result<(), Fail> {
+    /// Takes up octets up to the next token; how many, and whether there may be a further one.
+    fn step(&mut self, scanner: &mut Scanner, piece: &[u8]) -> Result<(usize, bool), Fail> {
+        if scanner.used() > 1 << 40 || piece.len() > 1 << 40 {
+            return Err("long".into());
+        }
+        match scanner.step(piece, self.place()) {
+            Err(refusal) => {
+                self.refusal(refusal)?;
+                Ok((0, false))
+            }
+            Ok(Scan { used, token, .. }) => match token {
+                None => Ok((used, false)),
+                Some(token) => {
+                    self.take(token)?;
+                    Ok((used, true))
+                }
+            },
+        }
+    }
+
+    /// Takes up a piece, unless there was a refusal.
+    fn take_up(&mut self, scanner: &mut Scanner, piece: &[u8]) -> Result<(), Fail> {
+        if self.refused {
+            return Ok(());
+        }
         let mut at: usize = 0;
         for _ in 0..1000 {
-            let rest = piece.get(at..).unwrap_or(&[]);
-            let place = self.place(places);
-            if self.scanner.used() > 1 << 40 || rest.len() > 1 << 40 {
-                return Err("long".into());
+            let (used, goes_on) = self.step(scanner, piece.get(at..).unwrap_or(&[]))?;
+            if !goes_on {
+                return Ok(());
             }
-            match self.scanner.step(rest, place) {
-                Err(refusal) => return self.refusal(alloc, refusal),
-                Ok(Scan { used, token, .. }) => {
-                    at = at.saturating_add(used);
-                    match token {
-                        None => return Ok(()),
-                        Some(token) => self.token(alloc, &token)?,
-                    }
-                }
-            }
+            at = at.saturating_add(used);
         }
         Err("no end".into())
     }
 
-    /// What all pieces came to.
-    fn ended(self, alloc: Global, places: &[Place]) -> Result<String, Fail> {
-        if self.refused {
-            return Ok(self.shown);
+    /// Takes up two pieces.
+    fn in_two(&mut self, scanner: &mut Scanner, octets: &[u8], cut: usize) -> Result<(), Fail> {
+        self.take_up(scanner, octets.get(..cut).unwrap_or(&[]))?;
+        self.take_up(scanner, octets.get(cut..).unwrap_or(&[]))
+    }
+
+    /// Takes up octets one by one.
+    fn in_singles(&mut self, scanner: &mut Scanner, octets: &[u8]) -> Result<(), Fail> {
+        for octet in octets {
+            self.take_up(scanner, &[*octet])?;
         }
-        let place = self.place(places);
-        let Run {
-            scanner,
-            tokens,
-            shown,
-            refused,
-        } = self;
-        let mut end = Run {
-            scanner: Scanner::new(alloc),
-            tokens,
-            shown,
-            refused,
-        };
-        match scanner.finish(place) {
-            Err(refusal) => end.refusal(alloc, refusal)?,
-            Ok(None) => end.shown.push_str("end")?,
+        Ok(())
+    }
+
+    /// Ends, unless there was a refusal.
+    fn end(&mut self, scanner: Scanner) -> Result<(), AllocError> {
+        if self.refused {
+            drop(scanner);
+            return Ok(());
+        }
+        match scanner.finish(self.place()) {
+            Err(refusal) => self.refusal(refusal),
+            Ok(None) => self.told.push_str("end"),
             Ok(Some(token)) => {
-                end.token(alloc, &token)?;
-                end.shown.push_str("end")?;
+                self.take(token)?;
+                self.told.push_str("end")
             }
         }
-        Ok(end.shown)
     }
-}
-
-/// The octets in two pieces.
-fn in_two(alloc: Global, octets: &[u8], cut: usize, places: &[Place]) -> Result<String, Fail> {
-    let mut run = Run::new(alloc);
-    run.take_up(alloc, octets.get(..cut).unwrap_or(&[]), places)?;
-    if !run.refused {
-        run.take_up(alloc, octets.get(cut..).unwrap_or(&[]), places)?;
-    }
-    run.ended(alloc, places)
-}
-
-/// The octets one by one.
-fn in_singles(alloc: Global, octets: &[u8], places: &[Place]) -> Result<String, Fail> {
-    let mut run = Run::new(alloc);
-    for octet in octets {
-        if !run.refused {
-            run.take_up(alloc, &[*octet], places)?;
-        }
-    }
-    run.ended(alloc, places)
 }
 
 /// The places of the tokens in turn, of which the last stands for all further.
@@ -171,24 +183,41 @@ const FEW_CUTS: &[usize] = &[0, 1, 2, 3, 5, 800, 999, 1002, 2000];
 /// Where they stand: `top`; `in sexp`, in an s-expression; `sexp`, the first at the top and the others in an s-expression;
 /// `struct`, the first at the top, the name and the value of a field | octets | each token with its span, then `end` or
 /// the refusal.
-pub fn scans(alloc: Global, row: Row<'_>) -> Result<(), Fail> {
-    let places = places(row.field(0));
-    let octets = row.octets(alloc, 1)?;
-    let wanted = row.octets(alloc, 2)?;
+pub fn scans(alloc: Global, row: Row<'_>, octets: &[u8], told: &mut String) -> Result<(), Fail> {
     for cut in 0..=octets.len() {
         if octets.len() < 1000 || FEW_CUTS.contains(&cut) {
-            let shown = in_two(alloc, octets.as_slice(), cut, places)?;
-            shows(shown.as_str(), wanted.as_slice())?;
+            shows(alloc, row, octets, Some(cut), told)?;
         }
     }
-    let shown = in_singles(alloc, octets.as_slice(), places)?;
-    shows(shown.as_str(), wanted.as_slice())
+    shows(alloc, row, octets, None, told)
 }
 
-/// Fails, where the scanner showed anything else.
-fn shows(shown: &str, wanted: &[u8]) -> Result<(), Fail> {
-    if shown.as_bytes() == wanted {
-        return Ok(());
+/// Fails, where a scanner shows anything else of the octets in two pieces, or one by one.
+fn shows(
+    alloc: Global,
+    row: Row<'_>,
+    octets: &[u8],
+    cut: Option<usize>,
+    told: &mut String,
+) -> Result<(), Fail> {
+    told.clear();
+    let mut scanner = Scanner::new(alloc);
+    let mut seen = Seen {
+        places: places(row.field(0)),
+        tokens: 0,
+        told: &mut *told,
+        refused: false,
+    };
+    let taken = match cut {
+        Some(cut) => seen.in_two(&mut scanner, octets, cut),
+        None => seen.in_singles(&mut scanner, octets),
+    };
+    match taken {
+        Ok(()) => seen.end(scanner)?,
+        Err(fail) => {
+            drop(scanner);
+            return Err(fail);
+        }
     }
-    Err(Fail::new(format_args!("not so, but: {shown}")))
+    row.wants_octets(alloc, 2, told.as_bytes())
 }
