@@ -8,7 +8,7 @@ mod refusals;
 use crate::devices::{FrailShelf, Shelf};
 use crate::lines::{Wanted, ends_so};
 use answers::SINGLE;
-use comparisons::COMPARED;
+use comparisons::{COMPARED, Compared};
 use listings::{ACCEPTED, Accepted};
 use refusals::{REFUSED, Refused};
 use std::alloc::{AllocError, Global};
@@ -51,6 +51,17 @@ fn ends_both_ways(
     ends_so(rt, alloc, &mut slow, words, wanted);
 }
 
+/// Puts words behind others.
+fn extend<'w>(
+    words: &mut Vec<&'w str>,
+    command: &[&'w str],
+    more: &[&'w str],
+) -> Result<(), AllocError> {
+    words.extend_from_slice(command)?;
+    words.extend_from_slice(more)?;
+    Ok(())
+}
+
 /// The words of a command, and those behind them.
 fn joined<'w>(
     alloc: Global,
@@ -58,9 +69,13 @@ fn joined<'w>(
     more: &[&'w str],
 ) -> Result<Vec<&'w str>, AllocError> {
     let mut words = Vec::new(alloc);
-    words.extend_from_slice(command)?;
-    words.extend_from_slice(more)?;
-    Ok(words)
+    match extend(&mut words, command, more) {
+        Ok(()) => Ok(words),
+        Err(error) => {
+            drop(words);
+            Err(error)
+        }
+    }
 }
 
 /// Runs a command over a document, beside the catalogs.
@@ -85,6 +100,7 @@ fn is_refused(rt: &impl Abort, alloc: Global, row: &Refused) -> Result<(), Alloc
             status: 2,
         };
         makes(rt, alloc, row.0, words.as_slice(), &wanted);
+        drop(words);
     }
     Ok(())
 }
@@ -100,6 +116,7 @@ fn is_accepted(rt: &impl Abort, alloc: Global, row: &Accepted) -> Result<(), All
             status: 0,
         };
         makes(rt, alloc, row.0, words.as_slice(), &wanted);
+        drop(words);
     }
     Ok(())
 }
@@ -120,18 +137,24 @@ fn accepted(rt: HostRuntime) -> Result<(), Fail> {
     Ok(())
 }
 
+/// Two documents compare so.
+fn is_compared(rt: &impl Abort, alloc: Global, row: &Compared) -> Result<(), AllocError> {
+    let files = [("l", row.0), ("r", row.1), ("tables", TABLES)];
+    let words = joined(alloc, &["compare", "l", "r"], row.2)?;
+    let wanted = Wanted {
+        out: row.3.as_bytes(),
+        err: row.4,
+        status: row.5,
+    };
+    ends_both_ways(rt, alloc, files.as_slice(), words.as_slice(), &wanted);
+    drop(words);
+    Ok(())
+}
+
 #[test]
 fn compared(rt: HostRuntime) -> Result<(), Fail> {
-    let alloc = rt.alloc();
-    for (left, right, more, out, err, status) in &COMPARED {
-        let files = [("l", *left), ("r", *right), ("tables", TABLES)];
-        let words = joined(alloc, &["compare", "l", "r"], more)?;
-        let wanted = Wanted {
-            out: out.as_bytes(),
-            err,
-            status: *status,
-        };
-        ends_both_ways(&rt, alloc, files.as_slice(), words.as_slice(), &wanted);
+    for row in &COMPARED {
+        is_compared(&rt, rt.alloc(), row)?;
     }
     Ok(())
 }

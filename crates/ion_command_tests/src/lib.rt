@@ -1,12 +1,18 @@
-//! What the command makes of its words, and of worked documents: tests of `ion_command`, which stand above it, so that the
-//! gate proves it once, and not once more beside its tests.
+//! What the command makes of its words, and of worked documents, and what the calls of `ion_docs` answer: tests that stand
+//! above both, so that the gate proves each once, and not once more beside its tests.
 #![tactic(auto)]
 
+#[cfg(test)]
+mod answers;
 #[cfg(test)]
 mod devices;
 #[cfg(test)]
 mod documents;
 #[cfg(test)]
+mod faults;
+#[cfg(test)]
 mod lines;
+#[cfg(test)]
+mod streams;
 #[cfg(test)]
 mod words;

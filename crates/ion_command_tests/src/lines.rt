@@ -1,11 +1,11 @@
 //! What the words mean, the lines and the statuses, over documents in memory.
 
+use crate::answers::same;
 use crate::devices::{FrailShelf, Shelf};
 use ion_command::{Sources, run};
 use ion_devices::{FrailWriter, NEVER};
 use ion_symtab::ToWrite;
 use std::alloc::{AllocError, Global};
-use std::fmt::Debug;
 use std::io;
 use std::process::Abort;
 use std::test::Fail;
@@ -36,12 +36,24 @@ impl Row {
     }
 }
 
-/// Fails the test where words have come to anything else than is wanted.
-pub fn same<T: Copy + Debug + PartialEq>(rt: &impl Abort, words: &[&str], found: T, wanted: T) {
-    assert_eq!(rt; found, wanted, "{words:?}");
+/// Runs the words over these documents.
+fn run_into<N: Sources>(
+    alloc: Global,
+    sources: &mut N,
+    words: &[&str],
+    out: &mut Vec<u8>,
+    err: &mut Vec<u8>,
+) -> u8 {
+    run(
+        alloc,
+        words,
+        sources,
+        &mut ToWrite::new(out),
+        &mut ToWrite::new(err),
+    )
 }
 
-/// Runs the words over these documents.
+/// The words over these documents come to what is wanted.
 pub fn ends_so<N: Sources>(
     rt: &impl Abort,
     alloc: Global,
@@ -51,15 +63,11 @@ pub fn ends_so<N: Sources>(
 ) {
     let mut out = Vec::new(alloc);
     let mut err = Vec::new(alloc);
-    let status = run(
-        alloc,
-        words,
-        sources,
-        &mut ToWrite::new(&mut out),
-        &mut ToWrite::new(&mut err),
-    );
+    let status = run_into(alloc, sources, words, &mut out, &mut err);
     same(rt, words, err.as_slice(), wanted.err.as_bytes());
     same(rt, words, out.as_slice(), wanted.out);
+    drop(out);
+    drop(err);
     same(rt, words, status, wanted.status);
 }
 
@@ -384,26 +392,24 @@ const SAME: Wanted<'static> = Wanted {
     status: 0,
 };
 
-/// Each read of either document fails once; there are nine, the last of which answers the end.
+/// A comparison where this read of the document of this name fails; there are nine, the last of which answers the end.
+fn a_read_fails(rt: &impl Abort, alloc: Global, fails: &str, fails_at: u64) {
+    let mut shelf = FrailShelf {
+        files: &[("left", FILES[2].1), ("right", FILES[2].1)],
+        fails,
+        fails_at,
+    };
+    let wanted = if fails_at < 9 { FAILED_READ } else { SAME };
+    let words = ["compare", "left", "right"];
+    ends_so(rt, alloc, &mut shelf, &words, &wanted);
+}
+
+/// Each read of either document fails once.
 #[test]
 fn each_read_fails(rt: HostRuntime) {
-    for fails in &["left", "right"] {
-        for fails_at in 0..10 {
-            let files = [("left", FILES[2].1), ("right", FILES[2].1)];
-            let mut shelf = FrailShelf {
-                files: files.as_slice(),
-                fails,
-                fails_at,
-            };
-            let wanted = if fails_at < 9 { FAILED_READ } else { SAME };
-            ends_so(
-                &rt,
-                rt.alloc(),
-                &mut shelf,
-                &["compare", "left", "right"],
-                &wanted,
-            );
-        }
+    for fails_at in 0..10 {
+        a_read_fails(&rt, rt.alloc(), "left", fails_at);
+        a_read_fails(&rt, rt.alloc(), "right", fails_at);
     }
 }
 
@@ -419,26 +425,39 @@ fn status_over(alloc: Global, row: &Row, out: FrailWriter<'_>, err: FrailWriter<
 }
 
 /// One call of the output fails, each of which takes an octet.
-fn a_write_fails(rt: &impl Abort, alloc: Global, row: &Row, fails_at: u64) {
-    let mut out = Vec::new(alloc);
-    let mut err = Vec::new(alloc);
+fn over_failing(
+    alloc: Global,
+    row: &Row,
+    fails_at: u64,
+    out: &mut Vec<u8>,
+    err: &mut Vec<u8>,
+) -> u8 {
     let failing = FrailWriter {
-        taken: &mut out,
+        taken: out,
         takes: 1,
         calls: 0,
         fails_at,
     };
     let whole = FrailWriter {
-        taken: &mut err,
+        taken: err,
         takes: 256,
         calls: 0,
         fails_at: NEVER,
     };
-    let status = status_over(alloc, row, failing, whole);
+    status_over(alloc, row, failing, whole)
+}
+
+/// That is a fault, and what was written before stands.
+fn a_write_fails(rt: &impl Abort, alloc: Global, row: &Row, fails_at: u64) {
+    let mut out = Vec::new(alloc);
+    let mut err = Vec::new(alloc);
+    let status = over_failing(alloc, row, fails_at, &mut out, &mut err);
     let front = row.out.as_bytes().get(..fails_at as usize);
-    same(rt, row.words, status, 4);
     same(rt, row.words, Some(out.as_slice()), front);
-    same(rt, row.words, err.as_slice(), b"fault Write\n".as_slice());
+    same(rt, row.words, err.as_slice(), b"fault Write\n");
+    drop(out);
+    drop(err);
+    same(rt, row.words, status, 4);
 }
 
 /// Each write of an octet to the output fails once, and so does the flush behind the last.
@@ -454,25 +473,32 @@ fn each_write_fails(rt: HostRuntime) {
 }
 
 /// The output takes no octet, and the errors three.
-fn takes_nothing(rt: &impl Abort, alloc: Global, row: &Row) {
-    let mut out = Vec::new(alloc);
-    let mut err = Vec::new(alloc);
+fn over_nothing(alloc: Global, row: &Row, out: &mut Vec<u8>, err: &mut Vec<u8>) -> u8 {
     let taking_nothing = FrailWriter {
-        taken: &mut out,
+        taken: out,
         takes: 0,
         calls: 0,
         fails_at: NEVER,
     };
     let failing = FrailWriter {
-        taken: &mut err,
+        taken: err,
         takes: 1,
         calls: 0,
         fails_at: 3,
     };
-    let status = status_over(alloc, row, taking_nothing, failing);
+    status_over(alloc, row, taking_nothing, failing)
+}
+
+/// That is a fault where there is something to write.
+fn takes_nothing(rt: &impl Abort, alloc: Global, row: &Row) {
+    let mut out = Vec::new(alloc);
+    let mut err = Vec::new(alloc);
+    let status = over_nothing(alloc, row, &mut out, &mut err);
+    let taken = (out.len(), err.len());
+    drop(out);
+    drop(err);
     let wanted = if row.out.is_empty() { row.status } else { 4 };
-    same(rt, row.words, status, wanted);
-    same(rt, row.words, (out.len(), err.len()), (0, 3));
+    same(rt, row.words, (status, taken), (wanted, (0, 3)));
 }
 
 /// A writer of the output that takes no octet is a fault; writers of the errors change no status.
@@ -483,10 +509,8 @@ fn nothing_is_taken(rt: HostRuntime) {
     }
 }
 
-/// The status of a row, whose lines are as long as they should be where memory sufficed. Takes no
-/// memory of its own.
-fn status_of(rt: &impl Abort, alloc: Global, row: &Row) -> u8 {
-    let mut shelf = shelf();
+/// The status of a row, and how long the output and the errors are. Takes no memory of its own.
+fn lengths_of(alloc: Global, row: &Row) -> (u8, u64, u64) {
     let mut out_room = [0u8; 64];
     let mut err_room = [0u8; 256];
     let mut out = io::Cursor::new(out_room.as_mut_slice());
@@ -494,22 +518,21 @@ fn status_of(rt: &impl Abort, alloc: Global, row: &Row) -> u8 {
     let status = run(
         alloc,
         row.words,
-        &mut shelf,
+        &mut shelf(),
         &mut ToWrite::new(&mut out),
         &mut ToWrite::new(&mut err),
     );
-    let out_len = out.position();
-    let err_len = err.position();
+    (status, out.position(), err.position())
+}
+
+/// The status of a row, whose lines are as long as they should be where memory sufficed.
+fn status_of(rt: &impl Abort, alloc: Global, row: &Row) -> u8 {
+    let (status, out, err) = lengths_of(alloc, row);
     let whole = row.out.len() as u64;
     if status == row.status {
-        same(
-            rt,
-            row.words,
-            (out_len, err_len),
-            (whole, row.err.len() as u64),
-        );
+        same(rt, row.words, (out, err), (whole, row.err.len() as u64));
     } else {
-        let found = (status, out_len <= whole, err_len);
+        let found = (status, out <= whole, err);
         same(
             rt,
             row.words,
@@ -531,8 +554,7 @@ fn growths(rt: HostRuntime) {
 }
 
 /// Takes all memory that the process can get, in blocks of falling size.
-fn all_memory(alloc: Global) -> Result<Vec<Vec<u8>>, AllocError> {
-    let mut blocks = Vec::with_capacity(alloc, 1 << 20)?;
+fn take_all(alloc: Global, blocks: &mut Vec<Vec<u8>>) -> Result<(), AllocError> {
     let mut size: usize = 1 << 46;
     for _ in 0..1000000u32 {
         if size < 16 {
@@ -543,24 +565,30 @@ fn all_memory(alloc: Global) -> Result<Vec<Vec<u8>>, AllocError> {
             Err(_) => size /= 2,
         }
     }
-    Ok(blocks)
+    Ok(())
 }
 
-/// With all memory taken, and then one block more given back from one run to the next.
-#[test]
-fn starved(rt: HostRuntime) -> Result<(), Fail> {
-    let alloc = rt.alloc();
-    let row = &ROWS[5];
-    let mut blocks = all_memory(alloc)?;
+/// Gives back one block more from one run of the row to the next, until one gets memory enough; how many got too little.
+fn refusals(rt: &impl Abort, alloc: Global, row: &Row, blocks: &mut Vec<Vec<u8>>) -> u32 {
     let mut refused = 0u32;
     for _ in 0..100000u32 {
-        if status_of(&rt, alloc, row) == row.status {
+        if status_of(rt, alloc, row) == row.status {
             break;
         }
         refused = refused.saturating_add(1);
         drop(blocks.pop());
     }
+    refused
+}
+
+/// With all memory taken, and then given back.
+#[test]
+fn starved(rt: HostRuntime) -> Result<(), Fail> {
+    let alloc = rt.alloc();
+    let mut blocks = Vec::with_capacity(alloc, 1 << 20)?;
+    let taken = take_all(alloc, &mut blocks);
+    let refused = refusals(&rt, alloc, &ROWS[5], &mut blocks);
     drop(blocks);
     assert!(rt; 0 < refused && refused < 100000);
-    Ok(())
+    Ok(taken?)
 }

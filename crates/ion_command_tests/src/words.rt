@@ -1,9 +1,8 @@
 //! Rows of words: what they ask for, with memory enough.
 
-use crate::lines::same;
+use crate::answers::same;
 use ion_symtab::Limits;
 use ion_words::{Encoding, Request, Task, WordsError, parse};
-use std::process::Abort;
 
 /// The words, and what they ask for: the task, the catalog, the depth and the octets of an item.
 struct Row {
@@ -105,26 +104,36 @@ fn plain(rt: HostRuntime) {
             catalog: None,
             limits: Limits::usual(),
         };
-        same(&rt, words, parse(rt.alloc(), words), Ok(request));
+        same(&rt, *words, parse(rt.alloc(), words), Ok(request));
     }
+}
+
+/// What a row asks for.
+fn request_of(row: &Row) -> Option<Request<'static>> {
+    let limits = Limits::new(row.depth, row.item, Limits::usual().reads())?;
+    Some(Request {
+        task: row.task,
+        catalog: row.catalog,
+        limits,
+    })
 }
 
 #[test]
 fn with_options(rt: HostRuntime) {
     for row in &WITH_OPTIONS {
-        let limits = Limits::new(row.depth, row.item, Limits::usual().reads());
-        let request = limits.map(|limits| Request {
-            task: row.task,
-            catalog: row.catalog,
-            limits,
-        });
-        same(&rt, row.words, parse(rt.alloc(), row.words).ok(), request);
+        let asked = parse(rt.alloc(), row.words).ok();
+        same(&rt, row.words, asked, request_of(row));
     }
 }
 
 #[test]
 fn refused(rt: HostRuntime) {
     for words in &REFUSED {
-        same(&rt, words, parse(rt.alloc(), words), Err(WordsError::Usage));
+        same(
+            &rt,
+            *words,
+            parse(rt.alloc(), words),
+            Err(WordsError::Usage),
+        );
     }
 }

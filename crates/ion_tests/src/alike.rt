@@ -1,11 +1,12 @@
 //! Values at the fronts of two documents whose symbol tables differ, taken up at once where they are the same.
-ghost use Rattle.std.specs.Prelude.{◌≤◌, length, IfOk};
+ghost use Rattle.std.specs.Prelude.{◌≡◌, ◌≤◌, IsNone, IfOk};
 
 use crate::answers::same;
+use crate::steps::held_behind;
 use ion_binary::BinaryReader;
+use ion_model::Reason;
 use ion_symtab::{Catalog, Items, Limits};
 use std::alloc::Global;
-use std::test::Fail;
 
 /// A version marker and `$ion_symbol_table::{symbols:["a","b"]}`.
 const A_AND_B: [u8; 17] = [
@@ -17,49 +18,62 @@ const B_AND_A: [u8; 17] = [
     0xE0, 1, 0, 0xEA, 0xEE, 0x8B, 0x81, 0x83, 0xDE, 0x87, 0x87, 0xBE, 0x84, 0x81, 0x62, 0x81, 0x61,
 ];
 
-/// A reader that took up these octets.
-fn reader_behind<'a>(
+/// Two values, and how many octets of each are taken up.
+type Row = (&'static [u8], &'static [u8], Option<(usize, usize)>);
+
+/// What is taken up, or why a table was refused.
+type Taken = Result<Option<(usize, usize)>, Reason>;
+
+/// A reader takes up a table.
+fn takes<R: Items>(reader: &mut R, table: &[u8; 17]) -> Result<(), Reason>
+    requires used { R.taken reader.old ≡ 0 }
+    requires begins { IsNone (R.awaits reader.old) }
+    ensures { IfOk result (λ _. R.taken reader.new ≤ 17) }
+{
+    match held_behind(reader, table) {
+        Ok(_) => Ok(()),
+        Err(refusal) => Err(refusal.reason),
+    }
+}
+
+/// What is taken up of the two values, the first behind a table of `a` and `b`, the other behind one of `b` and `a`.
+fn behind_tables<R: Items>(reader: &mut R, other: &mut R, row: &Row) -> Taken
+    requires used { R.taken reader.old ≡ 0 }
+    requires other_used { R.taken other.old ≡ 0 }
+    requires begins { IsNone (R.awaits reader.old) }
+    requires other_begins { IsNone (R.awaits other.old) }
+{
+    if row.0.len() > 80 || row.1.len() > 80 {
+        return Err(Reason::TooLarge);
+    }
+    takes(reader, &A_AND_B)?;
+    takes(other, &B_AND_A)?;
+    Ok(reader.pass_alike(row.0, other, row.1))
+}
+
+/// The same, where the other's reader has these limits.
+fn beside<'a>(
+    reader: &mut BinaryReader<'a>,
     alloc: Global,
     catalog: &'a Catalog,
     limits: Limits,
-    front: &[u8],
-) -> Result<BinaryReader<'a>, &'static str>
-    requires front { length front.now ≤ 100 }
-    ensures taken { IfOk result (λ reader. ⟦<BinaryReader<'a> as Items>⟧.taken reader ≤ 100) }
+    row: &Row,
+) -> Taken
+    requires { ⟦<BinaryReader<'a> as Items>⟧.taken reader.old ≡ 0 }
 {
-    let mut reader = BinaryReader::new(alloc, catalog, limits).map_err(|_| "no memory")?;
-    let Ok(_) = reader.step(front) else {
-        drop(reader);
-        return Err("a refused table");
-    };
-    Ok(reader)
-}
-
-/// What is taken up of two values, the first behind a table of `a` and `b`, the other behind one of `b`
-/// and `a`, where the other's reader has these limits.
-fn taken_up(
-    alloc: Global,
-    octets: &[u8],
-    other_octets: &[u8],
-    other_limits: Limits,
-) -> Result<Option<(usize, usize)>, &'static str> {
-    if octets.len() > 100 || other_octets.len() > 100 {
-        return Err("a long row");
-    }
-    let catalog = Catalog::new(alloc);
-    let mut reader = reader_behind(alloc, &catalog, Limits::usual(), &A_AND_B)?;
-    let Ok(mut other) = reader_behind(alloc, &catalog, other_limits, &B_AND_A) else {
-        drop(reader);
-        return Err("no other reader");
-    };
-    let taken = reader.pass_alike(octets, &mut other, other_octets);
+    let mut other = BinaryReader::new(alloc, catalog, limits)?;
+    let taken = behind_tables(reader, &mut other, row);
     drop(other);
-    drop(reader);
-    Ok(taken)
+    taken
 }
 
-/// Two values, and how many octets of each are taken up.
-type Row = (&'static [u8], &'static [u8], Option<(usize, usize)>);
+/// The same, where the first's reader has the usual ones.
+fn taken_up(alloc: Global, catalog: &Catalog, other_limits: Limits, row: &Row) -> Taken {
+    let mut reader = BinaryReader::new(alloc, catalog, Limits::usual())?;
+    let taken = beside(&mut reader, alloc, catalog, other_limits, row);
+    drop(reader);
+    taken
+}
 
 static ROWS: [Row; 22] = [
     // nulls, bools and scalars of equal octets
@@ -104,13 +118,13 @@ static ROWS: [Row; 22] = [
 ];
 
 #[test]
-fn same_values(rt: HostRuntime) -> Result<(), Fail> {
+fn same_values(rt: HostRuntime) {
+    let catalog = Catalog::new(rt.alloc());
     for row in &ROWS {
-        let (octets, other_octets, taken) = *row;
-        let found = taken_up(rt.alloc(), octets, other_octets, Limits::usual())?;
-        same(&rt, row, &found, &taken);
+        let found = taken_up(rt.alloc(), &catalog, Limits::usual(), row);
+        same(&rt, *row, found, Ok(row.2));
     }
-    Ok(())
+    drop(catalog);
 }
 
 /// Three lists.
@@ -119,19 +133,25 @@ const LISTS: &[u8] = &[0xB4, 0xB3, 0xB2, 0x21, 5];
 /// A blob of 16 octets.
 const BLOB: &[u8] = &[0xAE, 0x8E, 0, 0, 0, 0, 0, 0, 0, 0, 0, 0, 0, 0, 0, 0];
 
+/// The greatest depth and the most octets of an item on the other side.
+static LIMITED: [(u32, u64, Row); 6] = [
+    (3, 16, (LISTS, LISTS, Some((5, 5)))),
+    (3, 16, (BLOB, BLOB, Some((16, 16)))),
+    (2, 16, (LISTS, LISTS, None)),
+    (2, 16, (BLOB, BLOB, Some((16, 16)))),
+    (3, 15, (LISTS, LISTS, Some((5, 5)))),
+    (3, 15, (BLOB, BLOB, None)),
+];
+
 #[test]
-fn limits_of_the_other_side(rt: HostRuntime) -> Result<(), Fail> {
-    for (depth, item, octets, taken) in [
-        (3, 16, LISTS, Some((5, 5))),
-        (3, 16, BLOB, Some((16, 16))),
-        (2, 16, LISTS, None),
-        (2, 16, BLOB, Some((16, 16))),
-        (3, 15, LISTS, Some((5, 5))),
-        (3, 15, BLOB, None),
-    ] {
-        let limits = Limits::new(depth, item, 1).ok_or("limits")?;
-        let found = taken_up(rt.alloc(), octets, octets, limits)?;
-        same(&rt, &(depth, item, octets), &found, &taken);
+fn limits_of_the_other_side(rt: HostRuntime) {
+    let catalog = Catalog::new(rt.alloc());
+    for (depth, item, row) in &LIMITED {
+        let found = match Limits::new(*depth, *item, 1) {
+            Some(limits) => taken_up(rt.alloc(), &catalog, limits, row),
+            None => Err(Reason::TooLarge),
+        };
+        same(&rt, (*depth, *item, *row), found, Ok(row.2));
     }
-    Ok(())
+    drop(catalog);
 }

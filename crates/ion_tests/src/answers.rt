@@ -1,29 +1,31 @@
-//! How the tests compare what was found with what was wanted.
+//! How the tests compare what was found with what was wanted. All is passed by value: in a proof a borrow stands in every
+//! step until it ends.
 use std::fmt::Debug;
 use std::process::Abort;
 
 /// Fails the test unless the two are equal; `place` says where in the test that is.
-pub(crate) fn same<T: PartialEq + Debug>(
+pub(crate) fn same<T: Copy + PartialEq + Debug>(
     rt: &impl Abort,
-    place: &impl Debug,
-    found: &T,
-    wanted: &T,
+    place: impl Copy + Debug,
+    found: T,
+    wanted: T,
 ) {
     assert_eq!(rt; found, wanted, "{place:?}");
 }
 
 /// Fails the test unless what was found is the wanted answer, or this want of memory.
-pub(crate) fn same_or_starved<T: PartialEq + Debug, E: PartialEq + Debug>(
+pub(crate) fn same_or_starved<T: Copy + PartialEq + Debug, E: Copy + PartialEq + Debug>(
     rt: &impl Abort,
-    place: &impl Debug,
-    found: &Result<T, E>,
-    wanted: &T,
-    starved: &E,
+    place: impl Copy + Debug,
+    found: Result<T, E>,
+    wanted: T,
+    starved: E,
 ) {
-    match found {
-        Ok(found) => same(rt, place, found, wanted),
-        Err(found) => same(rt, place, found, starved),
-    }
+    let wanted = match found {
+        Ok(_) => Ok(wanted),
+        Err(_) => Err(starved),
+    };
+    same(rt, place, found, wanted);
 }
 
 /// Fails the test unless that holds which `claim` says.

@@ -2,42 +2,66 @@
 use crate::answers::same;
 use ion_devices::{FrailReader, FrailWriter};
 use ion_symtab::{Failed, Fault, FromRead, Inlet, Limits, Outlet, ToWrite, flushed, write_whole};
+use std::alloc::{AllocError, Global};
 use std::io;
+use std::process::Abort;
 use std::test::Fail;
+
+/// What two reads answer, the first octet of their piece then, and whether the reader has failed.
+type Reads = ([Result<usize, Failed>; 2], u8, bool);
+
+/// Reads twice.
+fn two_reads(reader: &mut FromRead<FrailReader<'_>>) -> Reads {
+    let mut piece = [0u8; 8];
+    let read = [reader.read(&mut piece), reader.read(&mut piece)];
+    (read, piece[0], reader.failed())
+}
+
+/// Two reads of a reader that fails at the call behind them with this kind, two more, and how many calls that were.
+fn fails_once(kind: io::ErrorKind) -> (Reads, Reads, u64) {
+    let mut reader = FromRead::new(FrailReader {
+        octets: b"abc",
+        first: 1,
+        then: 1,
+        calls: 0,
+        fails_at: 2,
+        kind,
+    });
+    let going = two_reads(&mut reader);
+    let ended = two_reads(&mut reader);
+    (going, ended, reader.calls())
+}
 
 #[test]
 fn read_fails_once(rt: HostRuntime) {
-    for kind in [io::ErrorKind::Interrupted, io::ErrorKind::Other] {
-        let mut reader = FromRead::new(FrailReader {
-            octets: b"abc",
-            first: 1,
-            then: 1,
-            calls: 0,
-            fails_at: 2,
-            kind,
-        });
-        let mut piece = [0u8; 8];
-        let read = [reader.read(&mut piece), reader.read(&mut piece)];
-        let going = (read, piece[0], reader.failed());
-        same(&rt, &kind, &going, &([Ok(1), Ok(1)], b'b', false));
-        let read = [reader.read(&mut piece), reader.read(&mut piece)];
-        let ended = (read, reader.failed(), reader.calls());
-        same(&rt, &kind, &ended, &([Err(Failed), Err(Failed)], true, 4));
+    for kind in &[io::ErrorKind::Interrupted, io::ErrorKind::Other] {
+        let (going, (read, _, failed), calls) = fails_once(*kind);
+        same(&rt, *kind, going, ([Ok(1), Ok(1)], b'b', false));
+        let ended = (read, failed, calls);
+        same(&rt, *kind, ended, ([Err(Failed), Err(Failed)], true, 4));
     }
+}
+
+/// A read, and the piece behind it.
+type Read = (Result<usize, Failed>, [u8; 3]);
+
+/// Two reads, two that give nothing, and how often the reader was called and whether it has failed.
+fn reads_to_the_end(octets: &[u8]) -> (Read, Read, [Result<usize, Failed>; 2], (u64, bool)) {
+    let mut reader = FromRead::new(octets);
+    let mut piece = [0u8; 3];
+    let three = (reader.read(&mut piece), piece);
+    let two = (reader.read(&mut piece), piece);
+    let none = [reader.read(&mut piece[..0]), reader.read(&mut piece)];
+    (three, two, none, (reader.calls(), reader.failed()))
 }
 
 #[test]
 fn read_to_the_end(rt: HostRuntime) {
-    let mut reader = FromRead::new(b"abcde".as_slice());
-    let mut piece = [0u8; 3];
-    let three = (reader.read(&mut piece), piece);
-    same(&rt, &"three", &three, &(Ok(3), *b"abc"));
-    let two = (reader.read(&mut piece), [piece[0], piece[1]]);
-    same(&rt, &"two", &two, &(Ok(2), *b"de"));
-    let none = [reader.read(&mut piece[..0]), reader.read(&mut piece)];
-    same(&rt, &"none", &none, &[Ok(0), Ok(0)]);
-    let ended = (reader.calls(), reader.failed());
-    same(&rt, &"ended", &ended, &(4, false));
+    let (three, (two, piece), none, ended) = reads_to_the_end(b"abcde");
+    same(&rt, "three", three, (Ok(3), *b"abc"));
+    same(&rt, "two", (two, piece[0], piece[1]), (Ok(2), b'd', b'e'));
+    same(&rt, "none", none, [Ok(0), Ok(0)]);
+    same(&rt, "ended", ended, (4, false));
 }
 
 /// What a write of `abcde` and a flush behind it answer, and whether the writer has failed.
@@ -56,105 +80,138 @@ fn write_and_flush(fails_at: u64, taken: &mut Vec<u8>) -> Written {
     (written, passed_on, writer.failed())
 }
 
+/// Which call fails, what was taken before, and what is answered.
+static WRITTEN: [(u64, &[u8], Written); 5] = [
+    (0, b"", (Err(Fault::Write), Err(Fault::Write), true)),
+    (1, b"ab", (Err(Fault::Write), Err(Fault::Write), true)),
+    (2, b"abcd", (Err(Fault::Write), Err(Fault::Write), true)),
+    (3, b"abcde", (Ok(()), Err(Fault::Write), true)),
+    (4, b"abcde", (Ok(()), Ok(()), false)),
+];
+
 /// Each write of three, and then the flush, fails; what was taken before is a front of the text.
 #[test]
 fn write_fails_once(rt: HostRuntime) {
-    let fault = Err(Fault::Write);
-    for (fails_at, front, wanted) in [
-        (0, "", (fault, fault, true)),
-        (1, "ab", (fault, fault, true)),
-        (2, "abcd", (fault, fault, true)),
-        (3, "abcde", (Ok(()), fault, true)),
-        (4, "abcde", (Ok(()), Ok(()), false)),
-    ] {
+    for (fails_at, front, wanted) in &WRITTEN {
         let mut taken = Vec::new(rt.alloc());
-        let found = write_and_flush(fails_at, &mut taken);
-        same(&rt, &fails_at, &found, &wanted);
-        same(&rt, &fails_at, &taken.as_slice(), &front.as_bytes());
+        let found = write_and_flush(*fails_at, &mut taken);
+        same(&rt, *fails_at, found, *wanted);
+        same(&rt, *fails_at, taken.as_slice(), *front);
+        drop(taken);
     }
 }
 
-#[test]
-fn write_takes_nothing(rt: HostRuntime) {
-    let mut taken = Vec::new(rt.alloc());
+/// What a write of no octet and one of an octet answer, each with whether the writer has failed then, and a flush.
+type Takes = (
+    (Result<usize, Failed>, bool),
+    (Result<usize, Failed>, Result<(), Failed>, bool),
+);
+
+/// Writes to a writer that takes no octet.
+fn write_nothing(taken: &mut Vec<u8>) -> Takes {
     let mut writer = ToWrite::new(FrailWriter {
-        taken: &mut taken,
+        taken,
         calls: 0,
         fails_at: 99,
         takes: 0,
     });
     let nothing = (writer.write(b""), writer.failed());
-    same(&rt, &"nothing", &nothing, &(Ok(0), false));
     let refused = (writer.write(b"a"), writer.flush(), writer.failed());
-    same(
-        &rt,
-        &"an octet",
-        &refused,
-        &(Err(Failed), Err(Failed), true),
-    );
+    (nothing, refused)
 }
 
 #[test]
-fn writer_comes_back(rt: HostRuntime) -> Result<(), Fail> {
+fn write_takes_nothing(rt: HostRuntime) {
+    let mut taken = Vec::new(rt.alloc());
+    let found = write_nothing(&mut taken);
+    drop(taken);
+    let refused = (Err(Failed), Err(Failed), true);
+    same(&rt, "writes", found, ((Ok(0), false), refused));
+}
+
+#[test]
+fn writer_comes_back(rt: HostRuntime) {
     let mut writer = ToWrite::new(Vec::new(rt.alloc()));
-    write_whole(&mut writer, b"abc")?;
+    let written = write_whole(&mut writer, b"abc");
     let inner = writer.into_inner();
-    same(&rt, &"inner", &inner.as_slice(), &b"abc".as_slice());
-    Ok(())
+    same(&rt, "written", written, Ok(()));
+    same(&rt, "inner", inner.as_slice(), b"abc");
+    drop(inner);
+}
+
+/// The usual limits, and changed ones.
+fn changed_limits() -> [Option<Limits>; 5] {
+    let usual = Limits::usual();
+    [
+        Some(usual),
+        usual.with_depth(128),
+        usual.with_item(7),
+        usual.with_reads(2),
+        usual.with_depth(129),
+    ]
+}
+
+/// The same, each made from its parts.
+fn made_limits() -> [Option<Limits>; 5] {
+    [
+        Limits::new(64, 16777216, 4294967296),
+        Limits::new(128, 16777216, 4294967296),
+        Limits::new(64, 7, 4294967296),
+        Limits::new(64, 16777216, 2),
+        None,
+    ]
 }
 
 #[test]
 fn limits(rt: HostRuntime) {
     let usual = Limits::usual();
     let parts = (usual.depth(), usual.item(), usual.reads());
-    same(&rt, &"usual", &parts, &(64, 16777216, 4294967296));
-    let changed = [
-        Some(usual),
-        usual.with_depth(128),
-        usual.with_item(7),
-        usual.with_reads(2),
-        usual.with_depth(129),
-    ];
-    let wanted = [
-        Limits::new(64, 16777216, 4294967296),
-        Limits::new(128, 16777216, 4294967296),
-        Limits::new(64, 7, 4294967296),
-        Limits::new(64, 16777216, 2),
-        None,
-    ];
-    same(&rt, &"changed", &changed, &wanted);
+    same(&rt, "usual", parts, (64, 16777216, 4294967296));
+    same(&rt, "changed", changed_limits(), made_limits());
 }
+
+/// A depth, the octets of an item, a number of reads, and whether there are such limits.
+static LIMITS: [(u32, u64, u64, bool); 8] = [
+    (64, 16777216, 4294967296, true),
+    (128, 1073741824, 1, true),
+    (0, 1, 1, false),
+    (129, 1, 1, false),
+    (1, 0, 1, false),
+    (1, 1073741825, 1, false),
+    (1, 1, 0, false),
+    (1, 1, 4294967297, false),
+];
 
 /// The greatest that there may be, and what is beyond it.
 #[test]
 fn limits_of_limits(rt: HostRuntime) {
-    for (depth, item, reads, may_be) in [
-        (64, 16777216, 4294967296, true),
-        (128, 1073741824, 1, true),
-        (0, 1, 1, false),
-        (129, 1, 1, false),
-        (1, 0, 1, false),
-        (1, 1073741825, 1, false),
-        (1, 1, 0, false),
-        (1, 1, 4294967297, false),
-    ] {
-        let some = Limits::new(depth, item, reads).is_some();
-        same(&rt, &(depth, item, reads), &some, &may_be);
+    for row in &LIMITS {
+        let some = Limits::new(row.0, row.1, row.2).is_some();
+        same(&rt, *row, some, row.3);
     }
+}
+
+static MESSAGES: [(Fault, &str); 6] = [
+    (Fault::Memory, "Memory"),
+    (Fault::Read, "Read"),
+    (Fault::Write, "Write"),
+    (Fault::TooManyReads, "TooManyReads"),
+    (Fault::TooLarge, "TooLarge"),
+    (Fault::Open, "Open"),
+];
+
+/// The message of a fault is this word.
+fn says(rt: &impl Abort, alloc: Global, fault: Fault, word: &str) -> Result<(), AllocError> {
+    let message = format!(in alloc; "{fault}")?;
+    same(rt, fault, message.as_str(), word);
+    drop(message);
+    Ok(())
 }
 
 #[test]
 fn messages(rt: HostRuntime) -> Result<(), Fail> {
-    for (fault, word) in [
-        (Fault::Memory, "Memory"),
-        (Fault::Read, "Read"),
-        (Fault::Write, "Write"),
-        (Fault::TooManyReads, "TooManyReads"),
-        (Fault::TooLarge, "TooLarge"),
-        (Fault::Open, "Open"),
-    ] {
-        let message = format!(in rt.alloc(); "{fault}")?;
-        same(&rt, &fault, &message.as_str(), &word);
+    for (fault, word) in &MESSAGES {
+        says(&rt, rt.alloc(), *fault, *word)?;
     }
     Ok(())
 }

@@ -1,5 +1,5 @@
-//! The tests of the libraries that no row of a table says (`ion_rows` has those). Tests stand above the libraries, so that
-//! the gate proves each library once, and not once more beside its tests.
+//! The tests of the libraries below `ion_docs` that no row of a table says (`ion_rows` has those). Tests stand above the
+//! libraries, so that the gate proves each library once, and not once more beside its tests.
 #![tactic(auto)]
 
 #[cfg(test)]
@@ -9,10 +9,6 @@ mod answers;
 #[cfg(test)]
 mod devices;
 #[cfg(test)]
-mod documents;
-#[cfg(test)]
-mod faults;
-#[cfg(test)]
 mod model;
 #[cfg(test)]
 mod readers;
@@ -20,3 +16,7 @@ mod readers;
 mod scanner;
 #[cfg(test)]
 mod starved;
+#[cfg(test)]
+mod steps;
+#[cfg(test)]
+mod writers;

@@ -1,4 +1,5 @@
-//! Symbols, an empty path, the names and numbers of kinds and reasons, and values as keys of sets.
+//! Symbols, an empty path, the names and numbers of kinds and reasons, and values as keys of sets. What is owned is let go
+//! by a call of `drop`: that is one step of a proof, where the end of a block is one for each of its parts.
 use crate::answers::{holds, same};
 use ion_model::{
     Decimal, Field, Kind, Local, Path, Payload, Precision, Reason, Sequence, Symbol, Timestamp,
@@ -7,24 +8,34 @@ use ion_model::{
 use std::alloc::{AllocError, Global};
 use std::collections::{BTreeSet, HashSet};
 use std::hash::Hash;
+use std::process::Abort;
 use std::test::Fail;
+
+/// A copy of the symbol has this text, and is the same.
+fn is_copied(rt: &impl Abort, name: &Symbol, text: &str) -> Result<(), Reason> {
+    let copy = name.copy()?;
+    same(rt, "the copy", copy.text(), Some(text));
+    holds(rt, "the copy is the same", copy.same(name));
+    drop(copy);
+    Ok(())
+}
 
 #[test]
 fn symbols(rt: HostRuntime) -> Result<(), Fail> {
     let name = Symbol::known(rt.alloc(), "name")?;
-    let copy = name.copy()?;
-    same(&rt, &"the copy", &copy.text(), &Some("name"));
-    holds(&rt, "the copy is the same", copy.same(&name));
-    Ok(())
+    let copied = is_copied(&rt, &name, "name");
+    drop(name);
+    Ok(copied?)
 }
 
 /// Neither a name nor the empty text is the unknown symbol.
 #[test]
 fn the_unknown_symbol(rt: HostRuntime) -> Result<(), Fail> {
-    for text in ["name", ""] {
-        let known = Symbol::known(rt.alloc(), text)?;
+    for text in &["name", ""] {
+        let known = Symbol::known(rt.alloc(), *text)?;
         let found = known.same(&Symbol::unknown());
-        same(&rt, &text, &found, &false);
+        drop(known);
+        same(&rt, *text, found, false);
     }
     Ok(())
 }
@@ -32,27 +43,31 @@ fn the_unknown_symbol(rt: HostRuntime) -> Result<(), Fail> {
 #[test]
 fn an_empty_path_has_no_parts(rt: HostRuntime) {
     let count = Path::empty(rt.alloc()).parts().len();
-    same(&rt, &"parts", &count, &0);
+    same(&rt, "parts", count, 0);
 }
+
+static REASONS: [(Reason, u8, &str); 4] = [
+    (Reason::Memory, 1, "Memory"),
+    (Reason::Float, 5, "Float"),
+    (Reason::Depth, 19, "Depth"),
+    (Reason::KeywordAsName, 22, "KeywordAsName"),
+];
+
+static KINDS: [(Kind, &str); 4] = [
+    (Kind::Null, "null"),
+    (Kind::Str, "string"),
+    (Kind::Sexp, "sexp"),
+    (Kind::Fields, "struct"),
+];
 
 #[test]
 fn words(rt: HostRuntime) {
-    for (reason, number, name) in [
-        (Reason::Memory, 1, "Memory"),
-        (Reason::Float, 5, "Float"),
-        (Reason::Depth, 19, "Depth"),
-        (Reason::KeywordAsName, 22, "KeywordAsName"),
-    ] {
-        let found = (reason.number(), reason.name());
-        same(&rt, &name, &found, &(number, name));
+    for row in &REASONS {
+        let found = (row.0.number(), row.0.name());
+        same(&rt, row.2, found, (row.1, row.2));
     }
-    for (kind, name) in [
-        (Kind::Null, "null"),
-        (Kind::Str, "string"),
-        (Kind::Sexp, "sexp"),
-        (Kind::Fields, "struct"),
-    ] {
-        same(&rt, &kind, &kind.name(), &name);
+    for row in &KINDS {
+        same(&rt, row.1, row.0.name(), row.1);
     }
 }
 
@@ -70,15 +85,21 @@ fn power(alloc: Global, exponent: i32) -> Result<Value, Fail> {
 /// Whether a hashed set of the one key has the equal key too, and not the other.
 fn hashes<K: Ord + Hash>(alloc: Global, one: &K, equal: &K, other: &K) -> Result<bool, AllocError> {
     let mut keys = HashSet::new(alloc);
-    keys.insert(one)?;
-    Ok(keys.contains(&equal) && !keys.contains(&other))
+    let inserted = keys.insert(one);
+    let finds = (keys.contains(&equal), keys.contains(&other));
+    drop(keys);
+    inserted?;
+    Ok(finds == (true, false))
 }
 
 /// The same of a sorted set.
 fn sorts<K: Ord>(alloc: Global, one: &K, equal: &K, other: &K) -> Result<bool, AllocError> {
     let mut keys = BTreeSet::new(alloc);
-    keys.insert(one)?;
-    Ok(keys.contains(&equal) && !keys.contains(&other))
+    let inserted = keys.insert(one);
+    let finds = (keys.contains(&equal), keys.contains(&other));
+    drop(keys);
+    inserted?;
+    Ok(finds == (true, false))
 }
 
 /// Whether sets of the one key have the equal key too, and not the other.
@@ -86,21 +107,23 @@ fn finds<K: Ord + Hash>(alloc: Global, one: &K, equal: &K, other: &K) -> Result<
     Ok(hashes(alloc, one, equal, other)? && sorts(alloc, one, equal, other)?)
 }
 
+/// Noon of a leap day.
+const NOON: Local = Local {
+    year: 2024,
+    month: 2,
+    day: 29,
+    hour: 12,
+    minute: 0,
+    second: 0,
+    fraction: 0,
+};
+
 #[test]
 fn scalars_as_keys(rt: HostRuntime) -> Result<(), Fail> {
     let (one, tenth) = (Decimal::new(false, 1, 0), Decimal::new(false, 1, -1));
-    let noon = Local {
-        year: 2024,
-        month: 2,
-        day: 29,
-        hour: 12,
-        minute: 0,
-        second: 0,
-        fraction: 0,
-    };
-    let unknown = Timestamp::new(noon, Precision::Minute, None);
-    let utc = Timestamp::new(noon, Precision::Minute, Some(0));
     holds(&rt, "decimals", finds(rt.alloc(), &one, &one, &tenth)?);
+    let unknown = Timestamp::new(NOON, Precision::Minute, None);
+    let utc = Timestamp::new(NOON, Precision::Minute, Some(0));
     holds(&rt, "timestamps", finds(rt.alloc(), &utc, &utc, &unknown)?);
     Ok(())
 }
@@ -117,9 +140,11 @@ fn powers(alloc: Global, exponents: [i32; 3]) -> Result<Vec<Value>, Fail> {
 #[test]
 fn values_as_keys(rt: HostRuntime) -> Result<(), Fail> {
     let powers = powers(rt.alloc(), [2, 2, 3])?;
-    let [one, equal, other] = powers.as_slice() else {
-        return Err("no powers".into());
+    let found = match powers.as_slice() {
+        [one, equal, other] => finds(rt.alloc(), one, equal, other),
+        _ => Ok(false),
     };
-    holds(&rt, "structs", finds(rt.alloc(), one, equal, other)?);
+    drop(powers);
+    holds(&rt, "structs", found?);
     Ok(())
 }

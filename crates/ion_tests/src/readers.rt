@@ -1,19 +1,13 @@
-//! What a step of a reader uses, and what a reader holds between two. A reader is let go by a call of `drop`: that is one
-//! step of a proof, where the end of a block is one for each of its parts.
+//! What a step of a reader uses, and what a reader holds between two.
+ghost use Rattle.std.specs.Prelude.{◌≡◌};
+
 use crate::answers::same;
+use crate::steps::{Held, ends, held_behind, int_behind};
 use ion_binary::BinaryReader;
-use ion_model::{Payload, Reason, Refusal, Value};
+use ion_model::{Reason, Refusal};
 use ion_symtab::{Catalog, Items, Limits};
 use ion_text::TextReader;
 use std::alloc::Global;
-
-/// The int that a step gave.
-fn int_in(value: &Option<Value>) -> Option<i128> {
-    match &value.as_ref()?.payload {
-        Payload::Int(whole) => Some(whole.get()),
-        _ => None,
-    }
-}
 
 /// How many octets a step uses and the int that it gives; and whether the end gives no value.
 type Read = (
@@ -22,72 +16,75 @@ type Read = (
 );
 
 /// One step of a binary document, and its end.
-fn read_whole(alloc: Global, octets: [u8; 5]) -> Result<Read, Reason> {
-    let catalog = Catalog::new(alloc);
-    let mut reader = BinaryReader::new(alloc, &catalog, Limits::usual())?;
-    let step = reader
-        .step(&octets)
-        .map(|step| (step.used, int_in(&step.value)));
-    let end = reader.finish().map(|value| value.is_none());
-    Ok((step, end))
+fn read_whole(alloc: Global, catalog: &Catalog, octets: [u8; 5]) -> Result<Read, Reason> {
+    let mut reader = BinaryReader::new(alloc, catalog, Limits::usual())?;
+    let step = int_behind(&mut reader, &octets);
+    Ok((step, ends(reader)))
 }
 
 #[test]
 fn a_step_takes_a_whole_document(rt: HostRuntime) {
-    let found = read_whole(rt.alloc(), [0xE0, 1, 0, 0xEA, 0x20]);
-    same(&rt, &"step", &found, &Ok((Ok((5, Some(0))), Ok(true))));
+    let catalog = Catalog::new(rt.alloc());
+    let found = read_whole(rt.alloc(), &catalog, [0xE0, 1, 0, 0xEA, 0x20]);
+    drop(catalog);
+    same(&rt, "step", found, Ok((Ok((5, Some(0))), Ok(true))));
 }
 
-/// How many octets a step used, whether it gave a value, and whether octets are held then.
-type Held = (usize, bool, bool);
+/// What two steps of a binary reader give.
+type Steps = Result<[Held; 2], Refusal>;
+
+/// Two steps of a reader that has used nothing yet.
+fn two_steps<'a>(reader: &mut BinaryReader<'a>, front: &[u8; 6], rest: &[u8; 1]) -> Steps
+    requires { ⟦<BinaryReader<'a> as Items>⟧.taken reader.old ≡ 0 }
+{
+    let open = held_behind(reader, front)?;
+    let whole = held_behind(reader, rest)?;
+    Ok([open, whole])
+}
 
 /// Two steps of a binary document.
-fn read_body(alloc: Global, front: [u8; 6], rest: [u8; 1]) -> Result<[Held; 2], Reason> {
-    let catalog = Catalog::new(alloc);
-    let mut reader = BinaryReader::new(alloc, &catalog, Limits::usual())?;
-    let Ok(open) = reader.step(&front) else {
-        drop(reader);
-        return Err(Reason::Malformed);
-    };
-    let open = (open.used, open.value.is_some(), reader.held() > 0);
-    let Ok(whole) = reader.step(&rest) else {
-        drop(reader);
-        return Err(Reason::Malformed);
-    };
-    let whole = (whole.used, whole.value.is_some(), reader.held() > 0);
+fn read_body(
+    alloc: Global,
+    catalog: &Catalog,
+    front: [u8; 6],
+    rest: [u8; 1],
+) -> Result<Steps, Reason> {
+    let mut reader = BinaryReader::new(alloc, catalog, Limits::usual())?;
+    let steps = two_steps(&mut reader, &front, &rest);
     drop(reader);
-    Ok([open, whole])
+    Ok(steps)
 }
 
 /// While an item lacks octets some are held, and none behind it.
 #[test]
 fn a_body_is_held(rt: HostRuntime) {
-    let steps = read_body(rt.alloc(), [0xE0, 1, 0, 0xEA, 0x22, 5], [7]);
+    let catalog = Catalog::new(rt.alloc());
+    let found = read_body(rt.alloc(), &catalog, [0xE0, 1, 0, 0xEA, 0x22, 5], [7]);
+    drop(catalog);
     same(
         &rt,
-        &"steps",
-        &steps,
-        &Ok([(6, false, true), (1, true, false)]),
+        "steps",
+        found,
+        Ok(Ok([(6, false, true), (1, true, false)])),
     );
 }
 
 /// One step of a text.
-fn read_text(alloc: Global, octets: [u8; 3]) -> Result<Held, Reason> {
-    let catalog = Catalog::new(alloc);
-    let mut reader = TextReader::new(alloc, &catalog, Limits::usual())?;
-    let step = reader
-        .step(&octets)
-        .map(|step| (step.used, step.value.is_some()));
-    let held = reader.held() > 0;
+fn read_text(
+    alloc: Global,
+    catalog: &Catalog,
+    octets: [u8; 3],
+) -> Result<Result<Held, Refusal>, Reason> {
+    let mut reader = TextReader::new(alloc, catalog, Limits::usual())?;
+    let step = held_behind(&mut reader, &octets);
     drop(reader);
-    match step {
-        Ok((used, gives)) => Ok((used, gives, held)),
-        Err(refusal) => Err(refusal.reason),
-    }
+    Ok(step)
 }
 
 #[test]
 fn a_text_is_held(rt: HostRuntime) {
-    let found = read_text(rt.alloc(), *b"\"ab");
-    same(&rt, &"step", &found, &Ok((3, false, true)));
+    let catalog = Catalog::new(rt.alloc());
+    let found = read_text(rt.alloc(), &catalog, *b"\"ab");
+    drop(catalog);
+    same(&rt, "step", found, Ok(Ok((3, false, true))));
 }

@@ -1,7 +1,7 @@
 //! What a scanner holds, foresees and lends, and what it says again.
 use crate::answers::same;
 use ion_model::{Reason, Refusal};
-use ion_tokens::{Begun, Body, Foresight, Form, Place, Scanner, Token};
+use ion_tokens::{Body, Foresight, Form, Place, Scanner, Token};
 use std::alloc::Global;
 use std::borrow::CowStr;
 use std::process::Abort;
@@ -35,10 +35,14 @@ fn step(scanner: &mut Scanner, piece: &[u8]) -> Option<Result<Stepped, Refusal>>
     if scanner.used() > 1 << 40 || piece.len() > 1 << 40 {
         return None;
     }
-    Some(match scanner.step(piece, Place::Top) {
-        Ok(scan) => Ok((scan.used, told(&scan.token), scan.left)),
-        Err(refusal) => Err(refusal),
-    })
+    match scanner.step(piece, Place::Top) {
+        Ok(scan) => {
+            let stepped = (scan.used, told(&scan.token), scan.left);
+            drop(scan);
+            Some(Ok(stepped))
+        }
+        Err(refusal) => Some(Err(refusal)),
+    }
 }
 
 /// The same, where only the number of octets used is asked for.
@@ -49,44 +53,64 @@ fn used(scanner: &mut Scanner, piece: &[u8]) -> Option<Result<usize, Refusal>> {
     }
 }
 
-/// How many octets of each piece are used, and what has begun behind it.
-#[test]
-fn open_octets(rt: HostRuntime) {
-    let rows: [(&[u8], usize, Option<Begun>); 6] = [
-        (b"", 0, None),
-        (b" \"ab", 4, at(1, 4, Form::Other)),
-        (b"\"", 1, None),
-        (b" /", 2, None),
-        (b"/ c\n''", 6, at(11, 13, Form::Quote)),
-        (b"'", 1, at(11, 14, Form::Long)),
-    ];
-    let mut scanner = Scanner::new(rt.alloc());
-    for (piece, count, wanted) in &rows {
-        let found = used(&mut scanner, *piece);
-        same(&rt, piece, &found, &Some(Ok(*count)));
-        same(&rt, piece, &scanner.begun(), wanted);
-    }
-    same(&rt, &"looked at", &scanner.looked(), &14);
+/// Pieces, how many octets of each are used, and where the token begins and ends that has begun behind it.
+static OPEN: [(&[u8], usize, Option<(u64, u64, Form)>); 6] = [
+    (b"", 0, None),
+    (b" \"ab", 4, Some((1, 4, Form::Other))),
+    (b"\"", 1, None),
+    (b" /", 2, None),
+    (b"/ c\n''", 6, Some((11, 13, Form::Quote))),
+    (b"'", 1, Some((11, 14, Form::Long))),
+];
+
+/// Where the token begins and ends that has begun, and its form.
+fn begun(scanner: &Scanner) -> Option<(u64, u64, Form)> {
+    let begun = scanner.begun()?;
+    Some((begun.start, begun.end, begun.form))
 }
 
-/// A token that begins and ends there.
-fn at(start: u64, end: u64, form: Form) -> Option<Begun> {
-    Some(Begun { start, end, form })
+/// Each piece uses what stands beside it, and that has begun behind it.
+#[test]
+fn open_octets(rt: HostRuntime) {
+    let mut scanner = Scanner::new(rt.alloc());
+    for (piece, count, wanted) in &OPEN {
+        let found = (used(&mut scanner, *piece), begun(&scanner));
+        same(&rt, *piece, found, (Some(Ok(*count)), *wanted));
+    }
+    let looked = scanner.looked();
+    drop(scanner);
+    same(&rt, "looked at", looked, 14);
+}
+
+/// What a step of a piece uses, and how many octets are held behind it.
+type Held = (Option<Result<usize, Refusal>>, usize);
+
+/// What is held while a token is open, and behind its end.
+fn held(alloc: Global) -> [Held; 2] {
+    let mut scanner = Scanner::new(alloc);
+    let open = (used(&mut scanner, b" \"ab"), scanner.held());
+    let ended = (used(&mut scanner, b"\""), scanner.held());
+    drop(scanner);
+    [open, ended]
 }
 
 /// Octets are held while a token is open.
 #[test]
 fn held_octets(rt: HostRuntime) {
-    let mut scanner = Scanner::new(rt.alloc());
-    let open = used(&mut scanner, b" \"ab");
-    same(
-        &rt,
-        &"open",
-        &(open, scanner.held() > 0),
-        &(Some(Ok(4)), true),
-    );
-    let ended = used(&mut scanner, b"\"");
-    same(&rt, &"ended", &(ended, scanner.held()), &(Some(Ok(1)), 0));
+    let [(open, held), ended] = held(rt.alloc());
+    same(&rt, "open", (open, held > 0), (Some(Ok(4)), true));
+    same(&rt, "ended", ended, (Some(Ok(1)), 0));
+}
+
+/// What two steps of a token with a bad escape use, and what the end refuses.
+fn refused(alloc: Global) -> ([Option<Result<usize, Refusal>>; 2], Option<Refusal>) {
+    let mut scanner = Scanner::new(alloc);
+    let steps = [used(&mut scanner, b"\"\\q"), used(&mut scanner, b" ")];
+    let ended = match scanner.finish(Place::Top) {
+        Ok(_) => None,
+        Err(refusal) => Some(refusal),
+    };
+    (steps, ended)
 }
 
 /// A refusal is answered again.
@@ -96,11 +120,9 @@ fn refusal_stays(rt: HostRuntime) {
         offset: 3,
         reason: Reason::BadEscape,
     };
-    let mut scanner = Scanner::new(rt.alloc());
-    let steps = [used(&mut scanner, b"\"\\q"), used(&mut scanner, b" ")];
-    same(&rt, &"steps", &steps, &[Some(Err(refusal)); 2]);
-    let ended = scanner.finish(Place::Top).err();
-    same(&rt, &"the end", &ended, &Some(refusal));
+    let (steps, ended) = refused(rt.alloc());
+    same(&rt, "steps", steps, [Some(Err(refusal)); 2]);
+    same(&rt, "the end", ended, Some(refusal));
 }
 
 /// A piece, how many of its octets are used, and what each of some octets would show behind them.
@@ -149,16 +171,17 @@ fn foresights(rt: HostRuntime) {
     let mut scanner = Scanner::new(rt.alloc());
     for (piece, count, shown) in &FORESEEN {
         let found = used(&mut scanner, *piece);
-        same(&rt, piece, &found, &Some(Ok(*count)));
+        same(&rt, *piece, found, Some(Ok(*count)));
         foresees(&rt, &scanner, *shown);
     }
+    drop(scanner);
 }
 
 /// Each octet would show what stands beside it.
 fn foresees(rt: &impl Abort, scanner: &Scanner, shown: &[(u8, Foresight)]) {
     for (octet, wanted) in shown {
         let found = scanner.foresee(Place::Top, *octet);
-        same(rt, octet, &found, wanted);
+        same(rt, *octet, found, *wanted);
     }
 }
 
@@ -167,28 +190,31 @@ fn gives(rt: &impl Abort, alloc: Global, rows: &[(&[u8], Stepped)]) {
     let mut scanner = Scanner::new(alloc);
     for (piece, wanted) in rows {
         let found = step(&mut scanner, *piece);
-        same(rt, piece, &found, &Some(Ok(*wanted)));
+        same(rt, *piece, found, Some(Ok(*wanted)));
     }
+    drop(scanner);
 }
+
+static LEFT: [(&[u8], Stepped); 3] = [
+    (b"ab,", (2, Given::LentWord, true)),
+    (b",c", (1, Given::Other, false)),
+    (b"c", (1, Given::Nothing, false)),
+];
 
 /// Where an octet ended a token and isn't part of it, the step says so.
 #[test]
 fn left_octets(rt: HostRuntime) {
-    let rows: [(&[u8], Stepped); 3] = [
-        (b"ab,", (2, Given::LentWord, true)),
-        (b",c", (1, Given::Other, false)),
-        (b"c", (1, Given::Nothing, false)),
-    ];
-    gives(&rt, rt.alloc(), &rows);
+    gives(&rt, rt.alloc(), &LEFT);
 }
+
+static LENT: [(&[u8], Stepped); 3] = [
+    (b"ab cd", (2, Given::LentWord, true)),
+    (b" cd", (3, Given::Nothing, false)),
+    (b"e ", (1, Given::OwnedWord, true)),
+];
 
 /// A word whole in its piece is lent, and one that two pieces gave is owned.
 #[test]
 fn lent_words(rt: HostRuntime) {
-    let rows: [(&[u8], Stepped); 3] = [
-        (b"ab cd", (2, Given::LentWord, true)),
-        (b" cd", (3, Given::Nothing, false)),
-        (b"e ", (1, Given::OwnedWord, true)),
-    ];
-    gives(&rt, rt.alloc(), &rows);
+    gives(&rt, rt.alloc(), &LENT);
 }

@@ -4,9 +4,10 @@ mod tables;
 mod values;
 
 use crate::answers::{same, same_or_starved};
+use crate::steps::{ends, gives_value};
 use ion_binary::{BinaryReader, BinaryWriter};
 use ion_model::{Reason, Refusal, Value};
-use ion_symtab::{Catalog, Fault, Items, Limits, ToWrite};
+use ion_symtab::{Catalog, Fault, Limits, ToWrite};
 use ion_text::{TextReader, TextWriter};
 use std::alloc::Global;
 use std::io;
@@ -31,25 +32,22 @@ impl Write for Counting {
     }
 }
 
-/// A value; or want of memory, at which no octet was used.
-fn gives(rt: &impl Abort, step: &Result<bool, Refusal>) {
-    let starved = Refusal {
-        offset: 0,
-        reason: Reason::Memory,
-    };
-    same_or_starved(rt, &"a value", step, &true, &starved);
-}
+/// The answer to a step that gets no memory: no octet was used.
+const STARVED: Refusal = Refusal {
+    offset: 0,
+    reason: Reason::Memory,
+};
 
 /// Whether a step over a text gives a value.
-fn read_text(alloc: Global) -> Result<bool, Refusal> {
-    let catalog = Catalog::new(alloc);
-    let mut reader = TextReader::new(alloc, &catalog, Limits::usual()).map_err(|reason| Refusal {
-        offset: 0,
-        reason,
-    })?;
-    let step = reader.step(TEXT).map(|step| step.value.is_some());
-    drop(reader);
-    step
+fn read_text(alloc: Global, catalog: &Catalog) -> Result<bool, Refusal> {
+    match TextReader::new(alloc, catalog, Limits::usual()) {
+        Ok(mut reader) => {
+            let step = gives_value(&mut reader, TEXT);
+            drop(reader);
+            step
+        }
+        Err(reason) => Err(Refusal { offset: 0, reason }),
+    }
 }
 
 const TEXT: &[u8] = b"a::{b:[\"c\",1.5,2007T,d],e:{{Zg==}}} ";
@@ -61,33 +59,39 @@ const BINARY: [u8; 20] = [
 ];
 
 /// Whether a step gives a value, and what the end refuses.
-fn read_binary(alloc: Global) -> Result<(Result<bool, Refusal>, Option<Refusal>), Reason> {
-    let catalog = Catalog::new(alloc);
-    let mut reader = BinaryReader::new(alloc, &catalog, Limits::usual())?;
-    let step = reader.step(&BINARY).map(|step| step.value.is_some());
-    Ok((step, reader.finish().err()))
+type Binary = (Result<bool, Refusal>, Option<Refusal>);
+
+/// Reads the binary document.
+fn read_binary(alloc: Global, catalog: &Catalog) -> Result<Binary, Reason> {
+    let mut reader = BinaryReader::new(alloc, catalog, Limits::usual())?;
+    let step = gives_value(&mut reader, &BINARY);
+    let end = ends(reader).err();
+    Ok((step, end))
+}
+
+/// A value; or want of memory, which the end answers again.
+fn gives(rt: &impl Abort, read: Result<Binary, Reason>) {
+    match read {
+        Ok((step, end)) => {
+            same_or_starved(rt, "binary", step, true, STARVED);
+            same(rt, "end", end, step.err());
+        }
+        Err(reason) => same(rt, "binary", reason, Reason::Memory),
+    }
 }
 
 #[test]
 fn starved_readers(rt: HostRuntime) {
-    gives(&rt, &read_text(rt.alloc()));
-    match read_binary(rt.alloc()) {
-        Ok((step, end)) => {
-            gives(&rt, &step);
-            same(&rt, &"end", &end, &step.err());
-        }
-        Err(reason) => same(&rt, &"binary", &reason, &Reason::Memory),
-    }
+    let catalog = Catalog::new(rt.alloc());
+    let text = read_text(rt.alloc(), &catalog);
+    let binary = read_binary(rt.alloc(), &catalog);
+    drop(catalog);
+    same_or_starved(&rt, "text", text, true, STARVED);
+    gives(&rt, binary);
 }
 
 /// What a put answers, what it answers again if it was refused, and what the end answers.
 type Puts = [Result<(), Fault>; 3];
-
-/// A put is done or wants memory, and each later call answers the same.
-fn stays(rt: &impl Abort, puts: Puts) {
-    same_or_starved(rt, &"put", &puts[0], &(), &Fault::Memory);
-    same(rt, &"again", &puts, &[puts[0]; 3]);
-}
 
 /// Puts a value as text; whether octets went out, too.
 fn puts_text(alloc: Global, value: &Value) -> (Puts, bool) {
@@ -104,8 +108,8 @@ fn puts_text(alloc: Global, value: &Value) -> (Puts, bool) {
 
 /// Puts a value in binary.
 fn puts_binary(alloc: Global, value: &Value) -> Result<Puts, Fault> {
-    let mut out = ToWrite::new(Counting { taken: 0 });
     let mut writer = BinaryWriter::new(alloc)?;
+    let mut out = ToWrite::new(Counting { taken: 0 });
     let put = writer.put(&mut out, value);
     let again = match put {
         Ok(()) => put,
@@ -114,17 +118,27 @@ fn puts_binary(alloc: Global, value: &Value) -> Result<Puts, Fault> {
     Ok([put, again, writer.finish(&mut out)])
 }
 
+/// A put is done or wants memory, and each later call answers the same.
+fn stays(rt: &impl Abort, puts: Puts) {
+    same_or_starved(rt, "put", puts[0], (), Fault::Memory);
+    same(rt, "again", puts, [puts[0]; 3]);
+}
+
 /// Without memory nothing goes out as text.
+fn puts(rt: &impl Abort, alloc: Global, value: &Value) {
+    let (puts, went_out) = puts_text(alloc, value);
+    stays(rt, puts);
+    same(rt, "octets", went_out, puts[0].is_ok());
+    match puts_binary(alloc, value) {
+        Ok(puts) => stays(rt, puts),
+        Err(fault) => same(rt, "binary", fault, Fault::Memory),
+    }
+}
+
 #[test]
 fn starved_writers(rt: HostRuntime) {
-    let Ok(value) = value(rt.alloc(), TEXT) else {
-        return;
-    };
-    let (puts, went_out) = puts_text(rt.alloc(), &value);
-    stays(&rt, puts);
-    same(&rt, &"octets", &went_out, &puts[0].is_ok());
-    match puts_binary(rt.alloc(), &value) {
-        Ok(puts) => stays(&rt, puts),
-        Err(fault) => same(&rt, &"binary", &fault, &Fault::Memory),
+    if let Ok(value) = value(rt.alloc(), TEXT) {
+        puts(&rt, rt.alloc(), &value);
+        drop(value);
     }
 }

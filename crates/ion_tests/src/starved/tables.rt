@@ -1,14 +1,12 @@
 //! Values and symbol tables, read here from text.
-use ion_docs::load_catalog;
 use ion_model::{Reason, Symbol, Value};
-use ion_symtab::{Catalog, Fault, FromRead, Items, Limits};
+use ion_symtab::{Catalog, Items, Limits, SharedTable};
 use ion_text::TextReader;
 use std::alloc::Global;
 
-/// The value that a text spells which ends behind it.
-pub(crate) fn value(alloc: Global, text: &[u8]) -> Result<Value, Reason> {
-    let catalog = Catalog::new(alloc);
-    let mut reader = TextReader::new(alloc, &catalog, Limits::usual())?;
+/// The value that a text spells under this catalog.
+fn read(alloc: Global, catalog: &Catalog, text: &[u8]) -> Result<Value, Reason> {
+    let mut reader = TextReader::new(alloc, catalog, Limits::usual())?;
     let step = reader.step(text);
     drop(reader);
     match step {
@@ -17,21 +15,51 @@ pub(crate) fn value(alloc: Global, text: &[u8]) -> Result<Value, Reason> {
     }
 }
 
+/// The value that a text spells which ends behind it.
+pub(crate) fn value(alloc: Global, text: &[u8]) -> Result<Value, Reason> {
+    let catalog = Catalog::new(alloc);
+    let value = read(alloc, &catalog, text);
+    drop(catalog);
+    value
+}
+
+/// Makes a struct a local symbol table.
+fn annotate(alloc: Global, table: &mut Value) -> Result<(), Reason> {
+    let note = Symbol::known(alloc, "$ion_symbol_table")?;
+    table.annotations.push(note)?;
+    Ok(())
+}
+
 /// `$ion_symbol_table::{..}` of this struct.
 pub(crate) fn local(alloc: Global, fields: &[u8]) -> Result<Value, Reason> {
     let mut table = value(alloc, fields)?;
-    table
-        .annotations
-        .push(Symbol::known(alloc, "$ion_symbol_table")?)?;
-    Ok(table)
+    match annotate(alloc, &mut table) {
+        Ok(()) => Ok(table),
+        Err(reason) => {
+            drop(table);
+            Err(reason)
+        }
+    }
 }
 
-/// The catalog of the shared tables that a text describes.
+/// The shared table that a text describes.
+fn shared(alloc: Global, text: &[u8]) -> Result<SharedTable, Reason> {
+    let described = value(alloc, text)?;
+    let table = SharedTable::from_value(alloc, &described);
+    drop(described);
+    table
+}
+
+/// The catalog of the one shared table that a text describes.
 pub(crate) fn catalog(alloc: Global, text: &[u8]) -> Result<Catalog, Reason> {
-    match load_catalog(alloc, &mut FromRead::new(text), Limits::usual()) {
-        Ok(Ok(catalog)) => Ok(catalog),
-        Ok(Err(refusal)) => Err(refusal.reason),
-        Err(Fault::Memory) => Err(Reason::Memory),
-        Err(_) => Err(Reason::Incomplete),
+    let table = shared(alloc, text)?;
+    let mut catalog = Catalog::new(alloc);
+    match catalog.add(table) {
+        Ok(()) => Ok(catalog),
+        Err((table, reason)) => {
+            drop(table);
+            drop(catalog);
+            Err(reason)
+        }
     }
 }
