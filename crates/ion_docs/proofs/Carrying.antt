@@ -1,8 +1,7 @@
 -- Values that go from a reader to an encoder without being built.
-use Rattle.std.proofs.Common.{◌≡◌, ◌∙◌, ◌+◌, ◌*◌, ◌≤◌, ◌^◌, ℕ, List, [], ◌∷◌, ◌++◌, length, length-append, arith, refl, Option, Some, None, IfSome, Result, Ok, Err, OnErr, IfErr, ap, sym, subst}
+use Rattle.std.proofs.Common.{◌≡◌, ◌∙◌, ◌+◌, ℕ, List, [], ◌∷◌, ◌++◌, length, arith, refl, Option, Some, None, IfSome, Result, Ok, Err, OnErr, IfErr, ap, subst}
 use Rattle.ion_model.specs.declared.value.Value.{Value}
-use Rattle.ion_model.specs.Kept.{IsKept, AreKept}
-use Rattle.ion_model.specs.laws.Kept.{kept_last}
+use Rattle.ion_model.specs.Kept.{AreKept}
 use Rattle.ion_symtab.specs.declared.catalog.Catalog.{Catalog}
 use Rattle.ion_symtab.specs.declared.limits.Limits.{Limits}
 use Rattle.ion_symtab.specs.declared.fault.Fault.{Fault}
@@ -10,20 +9,17 @@ use Rattle.ion_symtab.specs.declared.inlet.Inlet.{Ghosts as Inlet}
 use Rattle.ion_symtab.specs.declared.items.Items.{Ghosts as Items}
 use Rattle.ion_symtab.specs.declared.outlet.Outlet.{Ghosts as Outlet}
 use Rattle.ion_symtab.specs.Took.{Took, TookFront}
-use Rattle.ion_binary.specs.declared.writer.BinaryWriter.{BinaryWriter}
 use Rattle.ion_binary.specs.Carrying.{WritesValue}
 use Rattle.ion_binary.specs.Output.{Progress, nothing_yet, adds, after}
 use Rattle.ion_binary.specs.writer.Puts.{puts, behind}
 use Rattle.ion_binary.specs.Writing.{Writing}
 use Rattle.ion_streams.specs.declared.source.Source.{Source}
 use Rattle.ion_docs.specs.declared.writers.Encoder.{Ghosts as Encoder}
-use Rattle.ion_docs.specs.Carried.{PutValue}
 use Rattle.ion_docs.specs.Encodings.{TookBehind, TookSomeBehind, IsPuttingFault, binary_encoding}
 use Rattle.ion_docs.specs.laws.Encodings.{puts_one, behind_one, binary_fault}
 use Rattle.ion_streams.specs.reading.Alongside.{WentPast}
-use Rattle.ion_streams.specs.reading.Read.{IsReady, IsWithin, work, Reads}
+use Rattle.ion_streams.specs.reading.Read.{IsWithin, Reads}
 use Rattle.ion_streams.proofs.Steps.{plain_next, reads_went}
-use Rattle.ion_docs.proofs.Conversions.{took_whole}
 
 pub some_each : {A : Type 0} {P Q : A → Type 0} (o : Option A) → ((x : A) → P x → Q x) → IfSome o P → IfSome o Q
 some_each None f p = tt

@@ -67,7 +67,7 @@ impl<I: Items + Drop> Source<I> {
     }
 
     /// How many octets of the document are used.
-    pub fn offset(&self) -> u64
+    pub(crate) fn offset(&self) -> u64
         ensures { result ≡ self.now.used }
     {
         self.used
@@ -254,7 +254,7 @@ impl<I: Items + Drop> Standing<I> {
     /// where it stands. Without a value the document isn't open any more.
     ///
     /// Faults are `Memory`, `Read` and `TooManyReads`.
-    pub fn advance<R: Inlet>(&mut self, reader: &mut R) -> Result<Option<Value>, Fault>
+    pub(crate) fn advance<R: Inlet>(&mut self, reader: &mut R) -> Result<Option<Value>, Fault>
         requires { IfOpen self.old (IsReady I.Items) }
         ensures gives { IfOk result (λ value.
             (g : Catalog) (l : Limits) (first : R) (s : List Value) →

@@ -1,4 +1,4 @@
-use Rattle.std.proofs.Common.{rules, refl}
+use Rattle.std.proofs.Common.{refl}
 use Rattle.ion_streams.proofs.Alongside.{past}
 use Rattle.ion_docs.proofs.carriers.carry.Goals as goal
 
