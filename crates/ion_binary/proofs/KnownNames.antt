@@ -1,5 +1,5 @@
 -- What a writer wrote of a value whose symbols have ids already.
-use Rattle.std.proofs.Common.{◌≡◌, ℕ, Bool, true, if◌then◌else◌, List, [], ◌++◌, length, drop, Some, None, Result, Ok, Err, OnOk, OnErr, IfErr, ap, sym, subst, ◌∙◌, arith, le-ltb}
+use Rattle.std.proofs.Common.{◌≡◌, ℕ, Bool, true, if◌then◌else◌, List, [], ◌++◌, length, drop, Some, None, Result, Ok, Err, OnOk, OnErr, IfErr, refl, ap, sym, subst, ◌∙◌, arith, le-ltb}
 use Rattle.ion_model.specs.declared.value.Value.{Value}
 use Rattle.ion_symtab.specs.declared.fault.Fault.{Fault}
 use Rattle.ion_symtab.specs.declared.fault.Fault.TheVariants.{Write}
@@ -21,6 +21,7 @@ module _ {W : Type 0} (O : Outlet W) (names : Names) (begun : Bool) (new : Writi
       → IfErr answer (λ fault. (fault ≡ Write) × (O.has_failed now ≡ true)) → OnOk answer (new ≡ record { progress = record { names = names; begun = true }; failed = None }) → IfErr answer (λ fault. new.failed ≡ Some fault)
       → WritesValue O (record { progress = record { names = names; begun = begun }; failed = None }) new before now v answer
   wrote_known (Ok x) took front cause goes failed = record {
+    fine = refl;
     ok = subst (λ w. Took O.took O.written before now w) adds_known took;
     goes_on = goes ∙ ap (λ (n : Names). record { progress = record { names = n; begun = true }; failed = None }) (sym named);
     front = tt;
@@ -28,6 +29,7 @@ module _ {W : Type 0} (O : Outlet W) (names : Names) (begun : Bool) (new : Writi
     failed = tt;
   }
   wrote_known (Err fault) took front cause goes failed = record {
+    fine = refl;
     ok = tt;
     goes_on = tt;
     front = subst (λ w. TookFront O.took O.written before now w) adds_known front;

@@ -19,6 +19,7 @@ returns-clause-carries g c =
     let setting : SameSetting r (record r { used = r.used + n; start = r.used + n }) = record { catalog = refl; limits = refl; failed = refl } in (
       v,
       record {
+        fine = search rules;
         within = c.extent-count.ensures;
         some = omega (arith, c.if-count-eq0.false);
         kept = admitted.kept;
