@@ -6,7 +6,8 @@ mod listings;
 mod refusals;
 
 use crate::devices::{FrailShelf, Shelf};
-use crate::lines::{Wanted, ends_so};
+use crate::lines::ends_so;
+use crate::wanted::Wanted;
 use answers::SINGLE;
 use comparisons::{COMPARED, Compared};
 use listings::{ACCEPTED, Accepted};

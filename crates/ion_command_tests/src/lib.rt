@@ -14,5 +14,8 @@ mod faults;
 mod lines;
 #[cfg(test)]
 mod streams;
+mod wanted;
 #[cfg(test)]
 mod words;
+
+pub use wanted::{Row, Wanted};

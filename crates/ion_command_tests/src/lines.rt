@@ -2,6 +2,7 @@
 
 use crate::answers::same;
 use crate::devices::{FrailShelf, Shelf};
+use crate::wanted::{Row, Wanted};
 use ion_command::{Sources, run};
 use ion_devices::{FrailWriter, NEVER};
 use ion_symtab::ToWrite;
@@ -9,32 +10,6 @@ use std::alloc::{AllocError, Global};
 use std::io;
 use std::process::Abort;
 use std::test::Fail;
-
-/// The words, what goes to the output and to the errors, and the status.
-struct Row {
-    words: &'static [&'static str],
-    out: &'static str,
-    err: &'static str,
-    status: u8,
-}
-
-/// What has to come of words: what goes to the output and to the errors, and the status.
-#[derive(Clone, Copy)]
-pub struct Wanted<'a> {
-    pub out: &'a [u8],
-    pub err: &'a str,
-    pub status: u8,
-}
-
-impl Row {
-    fn wanted(&self) -> Wanted<'static> {
-        Wanted {
-            out: self.out.as_bytes(),
-            err: self.err,
-            status: self.status,
-        }
-    }
-}
 
 /// Runs the words over these documents.
 fn run_into<N: Sources>(

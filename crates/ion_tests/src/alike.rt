@@ -2,7 +2,7 @@
 ghost use Rattle.std.specs.Prelude.{◌≡◌, ◌≤◌, IsNone, IfOk};
 
 use crate::answers::same;
-use crate::steps::held_behind;
+use crate::held::held_behind;
 use ion_binary::BinaryReader;
 use ion_model::Reason;
 use ion_symtab::{Catalog, Items, Limits};

@@ -8,6 +8,7 @@ mod alike;
 mod answers;
 #[cfg(test)]
 mod devices;
+mod held;
 #[cfg(test)]
 mod model;
 #[cfg(test)]
@@ -20,3 +21,5 @@ mod starved;
 mod steps;
 #[cfg(test)]
 mod writers;
+
+pub use held::{Held, held_behind};

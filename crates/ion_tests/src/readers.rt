@@ -2,7 +2,8 @@
 ghost use Rattle.std.specs.Prelude.{◌≡◌};
 
 use crate::answers::same;
-use crate::steps::{Held, ends, held_behind, int_behind};
+use crate::held::{Held, held_behind};
+use crate::steps::{ends, int_behind};
 use ion_binary::BinaryReader;
 use ion_model::{Reason, Refusal};
 use ion_symtab::{Catalog, Items, Limits};

@@ -1,28 +1,10 @@
 //! What a step and the end of a reader answer, said by what can be compared. What is owned is let go by a call of `drop`,
 //! here and in all tests: that is one step of a proof, where the end of a block is one for each of its parts.
-ghost use Rattle.std.specs.Prelude.{◌+◌, ◌<◌, ◌≤◌, ◌^◌, length, IfOk, IsNone};
+ghost use Rattle.std.specs.Prelude.{◌+◌, ◌<◌, ◌^◌, length, IsNone};
 
+use crate::held::held_behind;
 use ion_model::{Payload, Refusal, Value};
 use ion_symtab::Items;
-
-/// How many octets a step used, whether it gave a value, and whether octets are held then.
-pub(crate) type Held = (usize, bool, bool);
-
-/// What a step uses and gives, and whether octets are held behind it.
-pub(crate) fn held_behind<R: Items>(reader: &mut R, octets: &[u8]) -> Result<Held, Refusal>
-    requires room { R.taken reader.old + length octets.now < 2 ^ 63 }
-    requires begins { IsNone (R.awaits reader.old) }
-    ensures taken { IfOk result (λ _. R.taken reader.new ≤ R.taken reader.old + length octets.now) }
-{
-    match reader.step(octets) {
-        Ok(step) => {
-            let (used, gives) = (step.used, step.value.is_some());
-            drop(step);
-            Ok((used, gives, reader.held() > 0))
-        }
-        Err(refusal) => Err(refusal),
-    }
-}
 
 /// Whether a step gives a value.
 pub(crate) fn gives_value<R: Items>(reader: &mut R, octets: &[u8]) -> Result<bool, Refusal>
