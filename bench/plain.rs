@@ -6,7 +6,7 @@
 //!     ./plain check FILE                     accepted N
 //!     ./plain show FILE                      a line for each value, then accepted N
 //!     ./plain compare LEFT RIGHT             equivalent N, or different N
-//!     ./plain convert FILE --to binary       the shortest binary document
+//!     ./plain convert FILE --to binary       binary, each length and number in the fewest octets
 //!
 //! `-` names standard input. `--depth N` and `--item N` are the limits on a value's depth (usually 64) and octets
 //! (usually 2^24). The status is 0 for accepted and equivalent, 1 for different, 2 for refused, 3 for wrong words,

@@ -4,8 +4,8 @@
 BEFORE is an older build, or the plain program of plain.rs (`rustc -O --edition 2021 plain.rs`). Both run `check`, `show`,
 `compare` (a document with itself) and `convert --to binary` and `--to text` over the documents of documents.py, and `check`
 over those of texts.py. Of each command and document it prints the least processor time that each program took in ROUNDS
-(usually 5) rounds, the second's over the first's, and the second's peak of memory, or the 14 MiB of the Python that starts
-it, where that is less. What the plain program doesn't do is left out.
+(usually 5) rounds and the megabytes a second (of one side in `compare`), the second's time over the first's, and the second's
+peak of memory, or the 14 MiB of the Python that starts it, where that is less. What the plain program doesn't do is left out.
 """
 import os
 import subprocess
@@ -48,13 +48,15 @@ def main():
         for script in ("documents.py", "texts.py"):
             subprocess.run([sys.executable, f"{here}/{script}", folder, megabytes], check=True)
         for name in sorted(os.listdir(folder)):
+            size = os.path.getsize(f"{folder}/{name}") / 1e6
             for words in BINARY if name.endswith(".10n") else [["check"]]:
                 try:
                     (before, now), peak = measured(programs, words, f"{folder}/{name}", rounds)
                 except Fails as failure:
                     print(f"left out: {failure}", flush=True)
                     continue
-                print(f"{name} {' '.join(words)}: {before:.3f} s and {now:.3f} s, {now / before:.2f}, peak {peak:.1f} MiB", flush=True)
+                rates = f"{size / before:.0f} and {size / now:.0f} MB a second"
+                print(f"{name} {' '.join(words)}: {before:.3f} s and {now:.3f} s, {rates}, {now / before:.2f}, peak {peak:.1f} MiB", flush=True)
 
 
 main()

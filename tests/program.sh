@@ -59,8 +59,8 @@ run check short --depth 1 < /dev/null;      expect 'a depth that admits it' 0 'a
 run check short --item 3 < /dev/null;       expect 'an item too long' 2 '' 'refused 5 ItemTooLong'
 run check absent < /dev/null;               expect 'a name that is not there' 4 '' 'fault Open'
 run check directory < /dev/null
-case "$(cat err)" in 'fault Read' | 'fault Open') ;; *) echo "a folder: $(cat err)" ;; esac
-: > err;                                    expect 'a folder' 4 '' ''
+case "$(cat err)" in 'fault Open') echo 'fault Read' > err ;; esac    # a system refuses to read a folder, or to open it
+                                            expect 'a folder' 4 '' 'fault Read'
 run check "$(printf 'a\377')" < /dev/null;  expect 'a word that is no UTF-8' 3 '' "$usage"
 
 cat short > pipe &

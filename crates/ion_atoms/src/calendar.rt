@@ -1,9 +1,13 @@
 //! The proleptic Gregorian calendar of the years 1 to 9999, whose days timestamps have (Ion 1.0,
-//! "Timestamp"). Nothing here takes memory.
-ghost use Rattle.std.specs.Prelude.{◌≡◌, ◌≤◌, ◌<◌, ◌+◌, ◌*◌, ◌⊎◌, ◌+ℤ◌, ◌≤ℤ◌, ◌<ℤ◌, pos, neg_ℤ, SomeIff, IfSome, IfNone, IsSome, ◌↔◌};
+//! "Timestamp"). Which days a month has and which day lies beside another is answered by `jiff`. It is
+//! asked only where that isn't plain: each month has the days 1 to 28. Nothing here takes memory.
+ghost use Rattle.std.specs.Prelude.{◌≡◌, ◌≤◌, ◌<◌, ◌+◌, ◌*◌, ◌⊎◌, ◌+ℤ◌, ◌≤ℤ◌, ◌<ℤ◌, pos, neg_ℤ, SomeIff, IfSome, IfNone, IsSome, IsTrue, ◌↔◌};
+ghost use Rattle.jiff.specs.Words.{IsYmd};
 ghost use Rattle.ion_atoms.specs.declared.calendar.Date.{Date as Day};
-ghost use Rattle.ion_atoms.specs.Calendar.{IsDate, IsMinute, InYears, is_leap, month_length, day_number, minute_number, first_day, last_day};
+ghost use Rattle.ion_atoms.specs.Calendar.{IsDate, IsMinute, InYears, month_length, day_number, minute_number, first_day, last_day};
 ghost use Rattle.ion_atoms.specs.Neighbours.{day_of};
+
+use jiff::civil;
 
 /// A day: its year, and its month and day of the month, both counted from 1.
 #[derive(Clone, Copy, Debug, PartialEq, Eq)]
@@ -21,45 +25,47 @@ pub struct Minute {
     pub minute: u8,
 }
 
-/// How many days a month of the years 1 to 9999 has.
-#[inline]
-pub fn days_of_month(year: u16, month: u8) -> u8
+/// Whether a month of the years 1 to 9999 has a day of this number.
+#[inline(always)]
+pub fn has_day(year: u16, month: u8, day: u8) -> bool
+    requires year { (1 ≤ year) × (year ≤ 9999) }
+    requires month { (1 ≤ month) × (month ≤ 12) }
+    ensures { IsTrue result ↔ ((1 ≤ day) × (day ≤ month_length year month)) }
+{
+    1 <= day && (day <= 28 || day <= days_of_month(year, month))
+}
+
+// How many days a month of the years 1 to 9999 has.
+#[inline(never)]
+fn days_of_month(year: u16, month: u8) -> u8
     requires year { (1 ≤ year) × (year ≤ 9999) }
     requires month { (1 ≤ month) × (month ≤ 12) }
     ensures { result ≡ month_length year month }
 {
-    match month {
-        2 if is_leap(year) => 29,
-        2 => 28,
-        4 | 6 | 9 | 11 => 30,
-        _ => 31,
+    match civil::Date::new(year as i16, month as i8, 1) {
+        Ok(first) => first.days_in_month() as u8,
+        Err(_) => unreachable!(),
     }
-}
-
-fn is_leap(year: u16) -> bool
-    ensures { result ≡ is_leap year }
-{
-    year % 4 == 0 && (year % 100 != 0 || year % 400 == 0)
 }
 
 impl Date {
     /// The day of this year, month and day of the month; `None` exactly where the years 1 to 9999 have
     /// no such day.
-    pub fn new(year: u16, month: u8, day: u8) -> Option<Date>
+    pub(crate) fn new(year: u16, month: u8, day: u8) -> Option<Date>
         ensures { let date : Day = record { year = year; month = month; day = day } in
             SomeIff result (IsDate date) date }
     {
         if year < 1 || year > 9999 || month < 1 || month > 12 {
             return None;
         }
-        if day < 1 || day > days_of_month(year, month) {
+        if !has_day(year, month, day) {
             return None;
         }
         Some(Date { year, month, day })
     }
 
     /// The day before; `None` exactly for 0001-01-01.
-    pub fn before(self) -> Option<Date>
+    fn before(self) -> Option<Date>
         requires { IsDate self }
         ensures some { IfSome result (λ d. IsDate d × (day_number d + 1 ≡ day_number self)) }
         ensures none { IfNone result (day_number self ≡ first_day) }
@@ -67,32 +73,45 @@ impl Date {
         if self.day > 1 {
             return Some(day_of(self.year, self.month, self.day - 1));
         }
-        if self.month > 1 {
-            let last = days_of_month(self.year, self.month - 1);
-            return Some(day_of(self.year, self.month - 1, last));
-        }
-        if self.year > 1 {
-            return Some(day_of(self.year - 1, 12, 31));
-        }
-        None
+        self.yesterday()
     }
 
     /// The day after; `None` exactly for 9999-12-31.
-    pub fn after(self) -> Option<Date>
+    fn after(self) -> Option<Date>
         requires { IsDate self }
         ensures some { IfSome result (λ d. IsDate d × (day_number d ≡ day_number self + 1)) }
         ensures none { IfNone result (day_number self ≡ last_day) }
     {
-        if self.day < days_of_month(self.year, self.month) {
+        if self.day < 28 {
             return Some(day_of(self.year, self.month, self.day + 1));
         }
-        if self.month < 12 {
-            return Some(day_of(self.year, self.month + 1, 1));
+        self.tomorrow()
+    }
+
+    // The day before as `jiff` answers it.
+    #[inline(never)]
+    fn yesterday(self) -> Option<Date>
+        requires { IsDate self }
+        ensures some { IfSome result (λ d. IsDate d × (day_number d + 1 ≡ day_number self)) }
+        ensures none { IfNone result (day_number self ≡ first_day) }
+    {
+        match civil_date(self).yesterday() {
+            Ok(day) => own_date(day),
+            Err(_) => None,
         }
-        if self.year < 9999 {
-            return Some(day_of(self.year + 1, 1, 1));
+    }
+
+    // The day after as `jiff` answers it.
+    #[inline(never)]
+    fn tomorrow(self) -> Option<Date>
+        requires { IsDate self }
+        ensures some { IfSome result (λ d. IsDate d × (day_number d ≡ day_number self + 1)) }
+        ensures none { IfNone result (day_number self ≡ last_day) }
+    {
+        match civil_date(self).tomorrow() {
+            Ok(day) => own_date(day),
+            Err(_) => None,
         }
-        None
     }
 }
 
@@ -101,6 +120,32 @@ fn day_of(year: u16, month: u8, day: u8) -> Date
     ensures { result ≡ day_of year month day }
 {
     Date { year, month, day }
+}
+
+// The same day in `jiff`.
+fn civil_date(date: Date) -> civil::Date
+    requires { IsDate date }
+    ensures { IsYmd (pos date.year) (pos date.month) (pos date.day) result }
+{
+    match civil::Date::new(date.year as i16, date.month as i8, date.day as i8) {
+        Ok(date) => date,
+        Err(_) => unreachable!(),
+    }
+}
+
+// The same day, if it isn't before the year 1.
+fn own_date(date: civil::Date) -> Option<Date>
+    ensures some { IfSome result (λ d. IsDate d × IsYmd (pos d.year) (pos d.month) (pos d.day) date) }
+    ensures none { IfNone result (date.year <ℤ pos 1) }
+{
+    if date.year() < 1 {
+        return None;
+    }
+    Some(Date {
+        year: date.year() as u16,
+        month: date.month() as u8,
+        day: date.day() as u8,
+    })
 }
 
 // The day before, the day itself and the day after, for 0, 1 and 2 days.

@@ -86,17 +86,16 @@ impl Decimal {
     pub fn same(self, other: Decimal) -> bool
         ensures { result ≡ decimal_same self other }
     {
-        self.negative == other.negative
-            && self.magnitude.get() == other.magnitude.get()
-            && self.exponent == other.exponent
+        let signs = self.negative == other.negative;
+        signs && self.magnitude.get() == other.magnitude.get() && self.exponent == other.exponent
     }
 
     /// The order of decimals: by exponent, then a minus first, then by magnitude.
     pub fn order(self, other: Decimal) -> Ordering
         ensures { result ≡ decimal_cmp self other }
     {
-        self.exponent
-            .cmp(&other.exponent)
+        let exponents = self.exponent.cmp(&other.exponent);
+        exponents
             .then(other.negative.cmp(&self.negative))
             .then(self.magnitude.get().cmp(&other.magnitude.get()))
     }

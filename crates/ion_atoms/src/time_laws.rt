@@ -1,5 +1,7 @@
 //! Laws of the calendar and of timestamps. Each stands on an empty function: its contract is the law.
-ghost use Rattle.std.specs.Prelude.{◌≡◌, ◌≤◌, pos};
+ghost use Rattle.std.specs.Prelude.{◌≡◌, ◌≤◌, ◌-ℤ◌, pos};
+ghost use Rattle.jiff.specs.Words.{epoch_day, IsYmd};
+ghost use Rattle.jiff_core.specs.declared.civil.date.Date.{Date as CivilDate};
 ghost use Rattle.ion_atoms.specs.declared.calendar.Date.{Date};
 ghost use Rattle.ion_atoms.specs.declared.calendar.Minute.{Minute};
 ghost use Rattle.ion_atoms.specs.Calendar.{IsDate, IsMinute, InYears, day_number, minute_number, first_day, last_day};
@@ -17,6 +19,13 @@ pub fn days_by_number()
 pub fn minutes_by_number()
     ensures within { (m : Minute) → IsMinute m → InYears (pos (minute_number m)) }
     ensures one { (m n : Minute) → IsMinute m → IsMinute n → minute_number m ≡ minute_number n → m ≡ n }
+{}
+
+/// Day numbers are those of `jiff`, which counts from the first of January 1970 on.
+pub fn as_jiff()
+    ensures { let first : Date = record { year = 1970; month = 1; day = 1 } in
+        (d : Date) (c : CivilDate) → IsDate d → IsYmd (pos d.year) (pos d.month) (pos d.day) c
+        → epoch_day c ≡ pos (day_number d) -ℤ pos (day_number first) }
 {}
 
 /// Timestamps of one precision, one offset and one instant are one: they agree in the local fields too.

@@ -176,9 +176,8 @@ impl Timestamp {
     pub fn same(self, other: Timestamp) -> bool
         ensures { result ≡ timestamp_same self other }
     {
-        self.precision.rank() == other.precision.rank()
-            && same_offsets(self.offset, other.offset)
-            && self.local().same(other.local())
+        let precisions = self.precision.rank() == other.precision.rank();
+        precisions && same_offsets(self.offset, other.offset) && self.local().same(other.local())
     }
 
     /// The order of timestamps: by precision (year first, fewer digits first), then the unknown offset
@@ -186,9 +185,8 @@ impl Timestamp {
     pub fn order(self, other: Timestamp) -> Ordering
         ensures { result ≡ timestamp_cmp self other }
     {
-        self.precision
-            .rank()
-            .cmp(&other.precision.rank())
+        let precisions = self.precision.rank().cmp(&other.precision.rank());
+        precisions
             .then(order_offsets(self.offset, other.offset))
             .then(self.local().order_date(other.local()))
             .then(self.local().order_time(other.local()))

@@ -12,7 +12,7 @@ use Rattle.ion_binary.specs.declared.state.Effect.TheVariants.{Goes, Gives}
 use Rattle.ion_binary.specs.declared.state.Frame.{Frame}
 use Rattle.ion_binary.specs.declared.state.Phase.{Phase}
 use Rattle.ion_binary.specs.declared.state.Phase.TheVariants.{InBody, InPad}
-use Rattle.ion_binary.specs.machine.Judge.{judge}
+use Rattle.ion_binary.specs.Judge.{judge}
 use Rattle.ion_binary.specs.machine.EachOctet.{Spot, under, moved, Machine, Outcome, at, in_body, judged}
 use Rattle.ion_binary.specs.laws.reading.Complete.{body_run}
 use Rattle.ion_binary.specs.machine.Run.{Run, run}

@@ -12,6 +12,10 @@ pub mod Fronts
 pub mod Wholes
 pub mod Slotted
 pub mod Walks
+pub mod Visited
+pub mod Measured
 pub mod Transcriptions
+pub mod Transcribed
+pub mod Compared
 pub mod KnownNames
 pub mod Alikes

@@ -8,7 +8,7 @@ use Rattle.ion_atoms.specs.declared.refusal.Reason.{Reason}
 use Rattle.ion_atoms.specs.declared.refusal.Reason.TheVariants.{SymbolRange, BadUtf8}
 use Rattle.ion_model.specs.declared.value.Payload.TheVariants as payloads
 use Rattle.ion_symtab.specs.Slots.{Slot, symbol_at, resolve}
-use Rattle.ion_binary.specs.machine.Judge.{as_symbol, symbol_of, text_of}
+use Rattle.ion_binary.specs.Judge.{as_symbol, symbol_of, text_of}
 
 -- an id above the greatest has no symbol
 pub resolve_past : (c : List Slot) (id : ℕ) → length c < id → resolve c id ≡ Err SymbolRange

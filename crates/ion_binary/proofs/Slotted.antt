@@ -12,7 +12,7 @@ use Rattle.ion_symtab.specs.Slots.{Slot, resolve}
 use Rattle.ion_binary.specs.declared.form.Scalar.TheVariants as scalars
 use Rattle.ion_binary.specs.Grammar.{IsScalar, is_int, is_negative, is_symbol, is_string, is_clob, is_blob}
 use Rattle.ion_binary.specs.laws.reading.Judged.{decimal_sound, timestamp_sound}
-use Rattle.ion_binary.specs.machine.Judge.{as_decimal, as_timestamp}
+use Rattle.ion_binary.specs.Judge.{as_decimal, as_timestamp}
 
 pub int_is : (c : List Slot) (body : List ℕ) (n : ℕ) (z : ℤ) → n ≡ positional 256 body → n < 2 ^ 127 → z ≡ pos n → IsScalar c body scalars.Int (payloads.Int z)
 int_is c body n z e small same =

@@ -30,7 +30,7 @@ use Rattle.ion_binary.specs.declared.state.Phase.TheVariants.{Ready}
 use Rattle.ion_binary.specs.Opening.{opening_of}
 use Rattle.ion_binary.specs.Grammar.{Header, listed, IsScalar, Plain, is_null, is_truth, is_scalar, is_listing, is_struct, is_ordered, Binary, unannotated, wrapped, Ids, one_id, IsPad, Sequence, one_more, padded, Fields, one_field, padded_field}
 use Rattle.ion_binary.specs.machine.Framed.{Heads, Framed, IsListing, IsStruct, Wraps}
-use Rattle.ion_binary.specs.laws.reading.Stands.{depths, field_depths}
+use Rattle.ion_binary.specs.Depths.{depths, field_depths}
 use Rattle.ion_binary.specs.laws.reading.Complete.{depth-listed, depth-fields, depth-annotated, field_deepest-more, binary_run, binary_some}
 use Rattle.ion_binary.specs.machine.EachOctet.{Spot, under, moved, deliver, levels, unfit, or_else, misfits, stray, nameless}
 use Rattle.ion_binary.specs.laws.reading.Sound.{ends_back, misfits_ends}

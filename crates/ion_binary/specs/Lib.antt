@@ -1,9 +1,13 @@
 pub mod Grammar
 pub mod Opening
+pub mod Depths
+pub mod Judge
 pub mod HeaderRows
+pub mod Deciding
 pub mod Output
 pub mod Writing
 pub mod Carrying
 pub mod machine
+pub mod visiting
 pub mod writer
 pub mod laws

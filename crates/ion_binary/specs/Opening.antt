@@ -1,5 +1,5 @@
 -- What a descriptor octet opens (Ion 1.0, "Ion Binary Encoding", typed value formats).
-use Rattle.std.specs.Prelude.{ℕ, ◌==◌, if◌then◌else◌, Result, Ok, Err}
+use Rattle.std.specs.Prelude.{ℕ, Bool, true, false, ◌==◌, if◌then◌else◌, Result, Ok, Err}
 use Rattle.ion_atoms.specs.declared.kind.Kind.{Kind}
 use Rattle.ion_atoms.specs.declared.kind.Kind.TheVariants as kinds
 use Rattle.ion_atoms.specs.declared.refusal.Reason.{Reason}
@@ -72,3 +72,11 @@ kind_of_form (forms.Listing listings.Sexp) = kinds.Sexp
 kind_of_form forms.Struct = kinds.Fields
 kind_of_form forms.OrderedStruct = kinds.Fields
 kind_of_form forms.Wrapper = kinds.Null
+
+abbrev pub is_pad : Form → Bool
+is_pad forms.Pad = true
+is_pad _ = false
+
+abbrev pub is_wrapper : Form → Bool
+is_wrapper forms.Wrapper = true
+is_wrapper _ = false

@@ -1,5 +1,4 @@
 -- The reader as a machine.
-pub mod Judge
 pub mod EachOctet
 pub mod Run
 pub mod Views

@@ -1,5 +1,4 @@
 -- What the writer keeps.
-pub mod Ids
 pub mod Later
 pub mod Puts
 pub mod Names

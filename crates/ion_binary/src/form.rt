@@ -1,6 +1,8 @@
 //! What a descriptor octet opens.
 ghost use Rattle.std.specs.Prelude.{◌≡◌};
 ghost use Rattle.ion_binary.specs.Opening.{opening_of, body_of, with_octets, kind_of_form};
+ghost use Rattle.ion_binary.specs.visiting.Brackets.{bracket_of, kind_in};
+ghost use Rattle.ion_binary.specs.machine.EachOctet.{hollow};
 
 use ion_model::{Kind, Reason};
 use ion_scalar::{Descriptor, Size};
@@ -23,6 +25,14 @@ pub enum Scalar {
 pub enum Listing {
     List,
     Sexp,
+}
+
+/// What opens and closes around items or fields.
+#[derive(Clone, Copy, PartialEq, Eq)]
+pub enum Bracket {
+    List,
+    Sexp,
+    Fields,
 }
 
 /// What has a length.
@@ -98,6 +108,29 @@ fn with_octets(scalar: Scalar, size: Size) -> Opening
     }
 }
 
+/// The brackets around the items of a listing.
+#[inline(always)]
+pub fn bracket_of(listing: Listing) -> Bracket
+    ensures { result ≡ bracket_of listing }
+{
+    match listing {
+        Listing::List => Bracket::List,
+        Listing::Sexp => Bracket::Sexp,
+    }
+}
+
+/// The kind of what stands in brackets.
+#[inline(always)]
+pub fn kind_in(bracket: Bracket) -> Kind
+    ensures { result ≡ kind_in bracket }
+{
+    match bracket {
+        Bracket::List => Kind::List,
+        Bracket::Sexp => Kind::Sexp,
+        Bracket::Fields => Kind::Fields,
+    }
+}
+
 /// The kind of the values of this form; pads and wrappers have none of their own.
 #[inline(always)]
 pub fn kind_of(form: Form) -> Kind
@@ -115,5 +148,24 @@ pub fn kind_of(form: Form) -> Kind
         Form::Listing(Listing::Sexp) => Kind::Sexp,
         Form::Struct | Form::OrderedStruct => Kind::Fields,
         Form::Pad | Form::Wrapper => Kind::Null,
+    }
+}
+
+/// Why a form has no body of this size: a negative int, a timestamp, a struct that announces the order of
+/// its fields and a wrapper have some octets (Ion 1.0, "Ion Binary Encoding", typed value formats).
+pub fn hollow(form: Form, size: u64) -> Option<Reason>
+    ensures { result ≡ hollow form size }
+{
+    match form {
+        Form::Scalar(Scalar::NegativeInt | Scalar::Timestamp)
+        | Form::OrderedStruct
+        | Form::Wrapper => {
+            if size == 0 {
+                Some(Reason::Malformed)
+            } else {
+                None
+            }
+        }
+        _ => None,
     }
 }

@@ -11,6 +11,12 @@ ghost use Rattle.ion_binary.specs.declared.form.Form.{Form};
 ghost use Rattle.ion_binary.specs.Grammar.{Document, Header};
 ghost use Rattle.ion_binary.specs.HeaderRows.{IsHeader};
 ghost use Rattle.ion_binary.specs.Output.{bin_of};
+ghost use Rattle.std.specs.Prelude.{◌≡◌, ◌≤◌, length, take, Some, None, Err};
+ghost use Rattle.ion_atoms.specs.declared.refusal.Refusal.{Refusal};
+ghost use Rattle.ion_atoms.specs.declared.refusal.Reason.{Reason};
+ghost use Rattle.ion_atoms.specs.declared.refusal.Reason.TheVariants.{Incomplete};
+ghost use Rattle.ion_binary.specs.machine.Run.{trace};
+ghost use Rattle.ion_binary.specs.Deciding.{Decides, Answers};
 ghost use Rattle.ion_binary.specs.laws.writing.RoundTrip.{FitsIn};
 
 /// The headers of the grammar are the descriptors and lengths that the specification's table of type
@@ -27,4 +33,14 @@ pub fn round_trip()
         AreKept s → NoTables s → FitsIn l s → Document g l (bin_of s) s }
     ensures again { (g h : List Table) (l m : Limits) (u : List ℕ) (s : List Value) →
         AreTextTables g → AreOctets u → Document g l u s → FitsIn m s → Document h m (bin_of s) s }
+{}
+
+/// Each refusal is one that the table of the format has, and each row of the table refuses.
+pub fn refusals()
+    ensures answers { (g : List Table) (l : Limits) (u : List ℕ) (r : Refusal) →
+        (trace g l u).refused ≡ Some r → (r.offset ≤ length u) × Answers g l (take r.offset u) r.reason }
+    ensures refuses { (g : List Table) (l : Limits) (u : List ℕ) (k : ℕ) (e : Reason) → k ≤ length u →
+        Decides g l (take k u) e → (r : Refusal) × ((trace g l u).refused ≡ Some r) × (r.offset ≡ k) }
+    ensures ends { (g : List Table) (l : Limits) (u : List ℕ) (r : Refusal) → (trace g l u).refused ≡ None →
+        (trace g l u).ends ≡ Err r → r ≡ record { offset = length u; reason = Incomplete } }
 {}

@@ -2,13 +2,16 @@
 #![tactic(auto)]
 
 mod alike;
+mod comparison;
 mod form;
 pub mod laws;
+mod measure;
 mod reader;
 mod scalar;
 mod slots;
 mod state;
 mod transcription;
+mod visitor;
 mod walk;
 mod whole;
 mod writer;

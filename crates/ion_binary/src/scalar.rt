@@ -1,7 +1,7 @@
 //! The scalars whose octets are their body.
 ghost use Rattle.std.specs.Prelude.{◌≡◌, ◌^◌, ◌<◌, IfOk};
 ghost use Rattle.ion_symtab.specs.Outcome.{Gives};
-ghost use Rattle.ion_binary.specs.machine.Judge.{judge, int_of, symbol_of, text_of};
+ghost use Rattle.ion_binary.specs.Judge.{judge, int_of, symbol_of, text_of};
 
 use crate::form::Scalar;
 use ion_model::{Bytes, Payload, Reason, Text, Whole};
@@ -16,7 +16,7 @@ use std::mem;
 /// `TooLarge` for an int of magnitude 2^127 and more, `Malformed` for a negative zero, `BadUtf8` for a
 /// string that isn't UTF-8; for a symbol what `Context::resolve` says of its id, and `TooLarge` from
 /// 2^127 on; for a decimal or timestamp what its body is refused for. `Memory` may come at any point.
-#[tactic(auto, unfolding(crate::specs::machine::Judge::judge))]
+#[tactic(auto, unfolding(crate::specs::Judge::judge))]
 pub fn judge(context: &Context, scalar: Scalar, body: &mut Vec<u8>) -> Result<Payload, Reason>
     ensures { Gives (judge context.now scalar body.old.items) result }
 {
@@ -29,7 +29,7 @@ pub fn judge(context: &Context, scalar: Scalar, body: &mut Vec<u8>) -> Result<Pa
 }
 
 /// The same of octets that are lent: those of a string, clob or blob are copied.
-#[tactic(auto, unfolding(crate::specs::machine::Judge::judge))]
+#[tactic(auto, unfolding(crate::specs::Judge::judge))]
 pub fn judge_lent(
     alloc: Global,
     context: &Context,

@@ -4,18 +4,18 @@
 //! symbol that has no id yet: the reader takes such values up, and the writer puts them.
 //!
 //! Each function appends to `out`. Where it answers `None`, some octets may stand there.
-ghost use Rattle.std.specs.Prelude.{◌≡◌, ◌≤◌, ◌<◌, List, Option, ℕ, length, take, get_or, IfSome};
+ghost use Rattle.std.specs.Prelude.{◌≡◌, ◌≤◌, ◌<◌, true, List, Option, ℕ, length, take, IfSome};
 ghost use Rattle.ion_atoms.specs.Octets.{AreOctets};
 ghost use Rattle.ion_symtab.specs.Slots.{Slot};
-ghost use Rattle.ion_binary.specs.Opening.{opening_of};
-ghost use Rattle.ion_binary.specs.HeaderRows.{type_code};
-ghost use Rattle.ion_binary.specs.declared.form.Form.TheVariants as forms;
+ghost use Rattle.ion_binary.specs.visiting.Brackets.{code_in};
+ghost use Rattle.ion_binary.specs.visiting.Transcribing.{AddsId, AddsPlace, Frames};
 ghost use Rattle.ion_binary.specs.declared.form.Scalar.TheVariants as scalars;
-ghost use Rattle.ion_binary.specs.machine.Transcribed.{HasId, Transcribed, TranscribedPlain, TranscribedBody, TranscribedWrapper, TranscribedScalar, TranscribedItems, TranscribedFields, TranscribedIds};
+ghost use Rattle.ion_binary.specs.machine.Transcribed.{HasId, Transcribed, TranscribedScalar};
 
-use crate::form::{Form, Listing, Opening, Scalar, opening_of};
+use crate::form::{Bracket, Scalar};
 use crate::slots::{put_scalar, small_uint};
-use crate::whole::{lengths, number, pad_of};
+use crate::visitor::Visitor;
+use crate::walk::walk_value;
 use crate::writer::crossings::Crossings;
 use crate::writer::framing::{
     frame, insert_length, put_decimal_value, put_framed, put_id, put_null, put_symbol,
@@ -24,10 +24,17 @@ use crate::writer::framing::{
 use crate::writer::names::Names;
 use ion_model::{Kind, Payload, Symbol};
 use ion_symtab::Context;
+use std::hash::BuildHasher;
+use std::mem;
 
 /// The id of a symbol among the names, where it has one; its id in the document that is read tells where it
 /// probably is.
-fn id_among(names: &Names, crossings: &mut Crossings, id: u64, symbol: &Symbol) -> Option<u64>
+fn id_among<S: BuildHasher + Drop>(
+    names: &Names<S>,
+    crossings: &mut Crossings,
+    id: u64,
+    symbol: &Symbol,
+) -> Option<u64>
     ensures { IfSome result (λ other. HasId names.now symbol.now other) }
 {
     let guess = crossings.guess(id);
@@ -39,13 +46,139 @@ fn id_among(names: &Names, crossings: &mut Crossings, id: u64, symbol: &Symbol) 
     Some(other as u64)
 }
 
+/// The visitor that writes what it takes as binary values, by ids that the symbols have already.
+#[derive(Drop)]
+pub(crate) struct Transcription<'a, S: BuildHasher> {
+    names: &'a Names<S>,
+    crossings: Crossings,
+    out: Vec<u8>,
+}
+
+impl<S: BuildHasher + Drop> Transcription<'_, S> {
+    /// Appends the id of a symbol.
+    #[inline(always)]
+    fn put_symbol_id(&mut self, id: u64, symbol: &Symbol) -> bool
+        ensures { result ≡ true → AddsId self.old self.new symbol.now }
+    {
+        symbol.kept();
+        let Some(other) = id_among(self.names, &mut self.crossings, id, symbol) else {
+            return false;
+        };
+        put_id(other, &mut self.out).is_ok()
+    }
+
+    /// Appends an octet in whose place a descriptor will stand: where that is.
+    #[inline(always)]
+    fn put_place(&mut self) -> Option<usize>
+        ensures { IfSome result (λ place. AddsPlace self.old self.new place) }
+    {
+        let place = self.out.len();
+        self.out.push(0).ok()?;
+        Some(place)
+    }
+
+    /// Sets a descriptor of what stands behind a place.
+    #[inline(always)]
+    fn set_frame(&mut self, code: u8, place: usize) -> bool
+        requires { code < 16 }
+        ensures { result ≡ true → Frames code self.old self.new place }
+    {
+        if place >= self.out.len() {
+            return false;
+        }
+        frame(code, place, &mut self.out).is_ok()
+    }
+}
+
+impl<S: BuildHasher + Drop> Visitor for Transcription<'_, S> {
+    type Mark = usize;
+
+    ghost use Rattle.ion_binary.specs.visiting.Transcribing.{transcribing};
+
+    ghost visits = { transcribing };
+
+    #[inline(always)]
+    fn scalar(&mut self, context: &Context, scalar: Scalar, body: &[u8]) -> bool {
+        put_scalar_again(
+            context,
+            self.names,
+            &mut self.crossings,
+            scalar,
+            body,
+            &mut self.out,
+        )
+        .is_some()
+    }
+
+    #[inline(always)]
+    fn null(&mut self, kind: Kind) -> bool {
+        put_null(kind, &mut self.out).is_ok()
+    }
+
+    #[inline(always)]
+    fn truth(&mut self, truth: bool) -> bool {
+        put_truth(truth, &mut self.out).is_ok()
+    }
+
+    #[inline(always)]
+    fn annotation(&mut self, id: u64, symbol: &Symbol) -> bool {
+        self.put_symbol_id(id, symbol)
+    }
+
+    #[inline(always)]
+    fn name(&mut self, id: u64, symbol: &Symbol) -> bool {
+        self.put_symbol_id(id, symbol)
+    }
+
+    #[inline(always)]
+    fn open(&mut self, _bracket: Bracket) -> Option<usize> {
+        self.put_place()
+    }
+
+    #[inline(always)]
+    fn close(&mut self, bracket: Bracket, mark: usize) -> bool {
+        self.set_frame(code_of(bracket), mark)
+    }
+
+    #[inline(always)]
+    fn open_wrapper(&mut self) -> Option<usize> {
+        self.put_place()
+    }
+
+    #[inline(always)]
+    fn end_annotations(&mut self, mark: &usize) -> bool {
+        let place = *mark;
+        if place >= self.out.len() {
+            return false;
+        }
+        let count = self.out.len() - place - 1;
+        insert_length(place + 1, count, &mut self.out).is_ok()
+    }
+
+    #[inline(always)]
+    fn close_wrapper(&mut self, mark: usize) -> bool {
+        self.set_frame(14, mark)
+    }
+}
+
+/// The type code of what stands in brackets (Ion 1.0, "Ion Binary Encoding", "11: List", "12: S-expression", "13: Structure").
+fn code_of(bracket: Bracket) -> u8
+    ensures code { result ≡ code_in bracket }
+    ensures small { result < 16 }
+{
+    match bracket {
+        Bracket::List => 11,
+        Bracket::Sexp => 12,
+        Bracket::Fields => 13,
+    }
+}
+
 /// Appends the value at the front of these octets, of at most so many levels: how many octets it has
 /// (Ion 1.0, "Ion Binary Encoding", typed value formats). `None` where it isn't whole, is refused, has a
 /// symbol without an id or is in any way unusual, as local symbol tables are.
-#[cycle(transcription)]
-pub(crate) fn transcribe(
+pub(crate) fn transcribe<S: BuildHasher + Drop>(
     context: &Context,
-    names: &Names,
+    names: &Names<S>,
     crossings: &mut Crossings,
     octets: &[u8],
     level: u32,
@@ -55,254 +188,22 @@ pub(crate) fn transcribe(
     ensures value { IfSome result (λ count. Transcribed context.now names.now level
         (take count octets.now) out.old.items out.new.items) }
 {
-    if octets.is_empty() {
-        return None;
-    }
-    let opening = opening_of(octets[0]);
-    if let Opening::Sized(form, size) = opening {
-        if let Form::Wrapper = form {
-            let rest = &octets[1..];
-            let (used, count) = lengths(size, rest)?;
-            let body = &rest[used..used + count];
-            put_wrapped(context, names, crossings, body, level, out)?;
-            return Some(1 + used + count);
-        }
-    }
-    put_plain(context, names, crossings, opening, octets, level, out)
-}
-
-/// Appends the value that is the body of an annotation wrapper (Ion 1.0, "Ion Binary Encoding", "14:
-/// Annotations").
-#[cycle(transcription)]
-#[inline(never)]
-fn put_wrapped(
-    context: &Context,
-    names: &Names,
-    crossings: &mut Crossings,
-    body: &[u8],
-    level: u32,
-    out: &mut Vec<u8>,
-) -> Option<()>
-    ensures { IfSome result (λ _. TranscribedWrapper context.now names.now level
-        body.now out.old.items out.new.items) }
-{
-    let (size, used) = number(body)?;
-    if size == 0 || size >= (body.len() - used) as u64 {
-        return None;
-    }
-    let stop = used + size as usize;
-    let place = out.len();
-    out.push(0).ok()?;
-    put_annotations(context, names, crossings, &body[used..stop], out)?;
-    let inner = &body[stop..];
-    let opening = opening_of(inner[0]);
-    let count = put_plain(context, names, crossings, opening, inner, level, out)?;
-    if count < inner.len() {
-        return None;
-    }
-    frame(14, place, out).ok()
-}
-
-/// Appends the annotations that these octets are the ids of, behind their length, if none of them is the
-/// name of local symbol tables.
-fn put_annotations(
-    context: &Context,
-    names: &Names,
-    crossings: &mut Crossings,
-    ids: &[u8],
-    out: &mut Vec<u8>,
-) -> Option<()>
-    ensures { IfSome result (λ _. TranscribedIds context.now names.now
-        ids.now out.old.items out.new.items) }
-{
-    let place = out.len();
-    let mut at = 0;
-    for _ in 0..ids.len() {
-        if at >= ids.len() {
-            break;
-        }
-        let (id, used) = number(&ids[at..])?;
-        let Ok(symbol) = context.symbol(id) else {
-            return None;
-        };
-        if symbol.names_table() {
-            return None;
-        }
-        symbol.kept();
-        let other = id_among(names, crossings, id, symbol)?;
-        put_id(other, out).ok()?;
-        at += used;
-    }
-    if at < ids.len() {
-        return None;
-    }
-    insert_length(place, out.len() - place, out).ok()
-}
-
-/// The same as `transcribe` of a value without annotations, whose descriptor opens this.
-#[cycle(transcription)]
-#[inline(always)]
-fn put_plain(
-    context: &Context,
-    names: &Names,
-    crossings: &mut Crossings,
-    opening: Opening,
-    octets: &[u8],
-    level: u32,
-    out: &mut Vec<u8>,
-) -> Option<usize>
-    requires some { 0 < length octets.now }
-    requires opens { opening ≡ opening_of (get_or octets.now 0 0) }
-    ensures within { IfSome result (λ count. count ≤ length octets.now) }
-    ensures value { IfSome result (λ count. TranscribedPlain context.now names.now level
-        (take count octets.now) out.old.items out.new.items) }
-{
-    match opening {
-        Opening::Null(kind) => {
-            put_null(kind, out).ok()?;
-            Some(1)
-        }
-        Opening::Truth(truth) => {
-            put_truth(truth, out).ok()?;
-            Some(1)
-        }
-        Opening::Sized(form, size) => {
-            let rest = &octets[1..];
-            let (used, count) = lengths(size, rest)?;
-            let body = &rest[used..used + count];
-            put_body(context, names, crossings, form, body, level, out)?;
-            Some(1 + used + count)
-        }
-        _ => None,
-    }
-}
-
-/// Appends the value of this form whose body these octets are.
-#[cycle(transcription)]
-#[inline(always)]
-fn put_body(
-    context: &Context,
-    names: &Names,
-    crossings: &mut Crossings,
-    form: Form,
-    body: &[u8],
-    level: u32,
-    out: &mut Vec<u8>,
-) -> Option<()>
-    ensures { IfSome result (λ _. TranscribedBody context.now names.now form level
-        body.now out.old.items out.new.items) }
-{
-    match form {
-        Form::Scalar(scalar) => put_scalar_again(context, names, crossings, scalar, body, out),
-        Form::Listing(listing) => put_items(context, names, crossings, listing, body, level, out),
-        Form::Struct => put_fields(context, names, crossings, body, level, out),
-        Form::OrderedStruct => {
-            if body.is_empty() {
-                return None;
-            }
-            put_fields(context, names, crossings, body, level, out)
-        }
-        _ => None,
-    }
-}
-
-/// The type code of a list or an s-expression (Ion 1.0, "Ion Binary Encoding", "11: List", "12: S-expression").
-fn code_of(listing: Listing) -> u8
-    ensures code { result ≡ type_code (forms.Listing listing) }
-    ensures small { result < 16 }
-{
-    match listing {
-        Listing::List => 11,
-        Listing::Sexp => 12,
-    }
-}
-
-/// Appends the list or the s-expression of the items that these octets are, with pads anywhere.
-#[cycle(transcription)]
-#[inline(never)]
-fn put_items(
-    context: &Context,
-    names: &Names,
-    crossings: &mut Crossings,
-    listing: Listing,
-    body: &[u8],
-    level: u32,
-    out: &mut Vec<u8>,
-) -> Option<()>
-    ensures { IfSome result (λ _. TranscribedItems context.now names.now listing level
-        body.now out.old.items out.new.items) }
-{
-    if level == 0 {
-        return None;
-    }
-    let place = out.len();
-    out.push(0).ok()?;
-    let mut at = 0;
-    for _ in 0..body.len() {
-        if at >= body.len() {
-            break;
-        }
-        if let Some(count) = pad_of(&body[at..]) {
-            at += count;
-            continue;
-        }
-        at += transcribe(context, names, crossings, &body[at..], level - 1, out)?;
-    }
-    if at < body.len() {
-        return None;
-    }
-    frame(code_of(listing), place, out).ok()
-}
-
-/// Appends the struct of the fields that these octets are: an id and its value, or an id of any kind and a
-/// pad.
-#[cycle(transcription)]
-#[inline(never)]
-fn put_fields(
-    context: &Context,
-    names: &Names,
-    crossings: &mut Crossings,
-    body: &[u8],
-    level: u32,
-    out: &mut Vec<u8>,
-) -> Option<()>
-    ensures { IfSome result (λ _. TranscribedFields context.now names.now level
-        body.now out.old.items out.new.items) }
-{
-    if level == 0 {
-        return None;
-    }
-    let place = out.len();
-    out.push(0).ok()?;
-    let mut at = 0;
-    for _ in 0..body.len() {
-        if at >= body.len() {
-            break;
-        }
-        let (id, used) = number(&body[at..])?;
-        at += used;
-        if let Some(count) = pad_of(&body[at..]) {
-            at += count;
-            continue;
-        }
-        let Ok(symbol) = context.symbol(id) else {
-            return None;
-        };
-        symbol.kept();
-        let other = id_among(names, crossings, id, symbol)?;
-        put_id(other, out).ok()?;
-        at += transcribe(context, names, crossings, &body[at..], level - 1, out)?;
-    }
-    if at < body.len() {
-        return None;
-    }
-    frame(13, place, out).ok()
+    let alloc = *out.allocator();
+    let mut transcription = Transcription {
+        names,
+        crossings: mem::replace(crossings, Crossings::new(alloc)),
+        out: mem::replace(out, Vec::new(alloc)),
+    };
+    let count = walk_value(context, octets, level, &mut transcription);
+    *crossings = transcription.crossings;
+    *out = transcription.out;
+    count
 }
 
 /// Appends the scalar whose body these octets are.
-fn put_scalar_again(
+fn put_scalar_again<S: BuildHasher + Drop>(
     context: &Context,
-    names: &Names,
+    names: &Names<S>,
     crossings: &mut Crossings,
     scalar: Scalar,
     body: &[u8],
@@ -355,9 +256,9 @@ fn put_number(context: &Context, scalar: Scalar, body: &[u8], out: &mut Vec<u8>)
     }
 }
 
-fn put_symbol_again(
+fn put_symbol_again<S: BuildHasher + Drop>(
     context: &Context,
-    names: &Names,
+    names: &Names<S>,
     crossings: &mut Crossings,
     body: &[u8],
     out: &mut Vec<u8>,

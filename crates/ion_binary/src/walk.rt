@@ -1,69 +1,19 @@
-//! Values whose octets lie whole in memory and that nobody asks for: they are judged and not built. What
+//! Values whose octets lie whole in memory: they are gone over, and a visitor takes them. What
 //! is cut, refused or unusual isn't told here: the reader takes it up octet by octet.
-ghost use Rattle.std.specs.Prelude.{◌≡◌, ◌+◌, ◌-◌, ◌≤◌, ◌<◌, ◌^◌, true, List, length, take, get_or, IfSome};
+ghost use Rattle.std.specs.Prelude.{◌≡◌, ◌≤◌, ◌<◌, true, List, length, take, get_or, IfSome};
 ghost use Rattle.std.specs.Str.{IsUtf8};
 ghost use Rattle.ion_symtab.specs.Slots.{Slot};
 ghost use Rattle.ion_binary.specs.Opening.{opening_of};
 ghost use Rattle.ion_binary.specs.declared.form.Scalar.TheVariants as scalars;
-ghost use Rattle.ion_binary.specs.machine.Walked.{Walked, WalkedPlain, WalkedBody, WalkedWrapper, WalkedScalar, WalkedItems, WalkedFields, WalkedIds};
+ghost use Rattle.ion_binary.specs.machine.Walked.{WalkedScalar};
+ghost use Rattle.ion_binary.specs.machine.Walked.{Walked, WalkedPlain, WalkedBody, WalkedWrapper, WalkedListing, WalkedStruct, WalkedItems, WalkedFields, WalkedIds};
 
-use crate::form::{Form, Opening, Scalar, kind_of, opening_of};
+use crate::form::{Bracket, Form, Listing, Opening, Scalar, bracket_of, opening_of};
 use crate::slots::{magnitude_of, small_uint};
+use crate::visitor::Visitor;
 use crate::whole::{lengths, number, pad_of};
-use ion_model::{Kind, Outline};
 use ion_scalar::{is_decimal_body, is_timestamp_body, is_uint};
 use ion_symtab::Context;
-
-/// What a walk noted of the values that it went over.
-#[derive(Clone, Copy, Drop)]
-pub(crate) struct Tally {
-    /// The kind of the last value.
-    kind: Kind,
-    /// How many levels the deepest left.
-    level: u32,
-    /// How many nodes all had.
-    nodes: u64,
-}
-
-impl Tally {
-    /// Of no value yet, where there may be so many levels.
-    pub fn new(level: u32) -> Tally
-        ensures { (result.level ≡ level) × (result.nodes ≡ 0) }
-    {
-        Tally {
-            kind: Kind::Null,
-            level,
-            nodes: 0,
-        }
-    }
-
-    /// Notes the node of a value of this kind.
-    #[inline(always)]
-    fn note(&mut self, kind: Kind)
-        requires { self.old.nodes + 1 < 2 ^ 64 }
-        ensures { self.new ≡
-            record { kind = kind; level = self.old.level; nodes = self.old.nodes + 1 } }
-    {
-        self.kind = kind;
-        self.nodes += 1;
-    }
-
-    /// The outline of one value that was walked over, where there might be so many levels.
-    pub fn outline(&self, level: u32) -> Outline
-        requires { self.now.level ≤ level }
-        ensures { result ≡ record {
-          kind = self.now.kind;
-          depth = level - self.now.level;
-          nodes = self.now.nodes;
-        } }
-    {
-        Outline {
-            kind: self.kind,
-            depth: (level - self.level) as u64,
-            nodes: self.nodes,
-        }
-    }
-}
 
 /// Whether a body is this scalar (Ion 1.0, "Ion Binary Encoding", typed value formats).
 #[inline(always)]
@@ -132,47 +82,42 @@ fn is_text(body: &[u8]) -> bool
     simdutf8::is_utf8(body)
 }
 
-/// How many annotations these octets are the ids of, if none of them is the name of local symbol tables.
-fn annotations(context: &Context, ids: &[u8]) -> Option<u64>
-    ensures { IfSome result (λ count. WalkedIds context.now ids.now count) }
+/// Whether these octets are ids of annotations, of which none is the name of local symbol tables.
+fn annotations<T: Visitor>(context: &Context, ids: &[u8], visitor: &mut T) -> bool
+    ensures { result ≡ true → WalkedIds T.visits context.now ids.now visitor.old visitor.new }
 {
     let mut at = 0;
-    let mut count: u64 = 0;
     for _ in 0..ids.len() {
         if at >= ids.len() {
             break;
         }
-        let (id, used) = number(&ids[at..])?;
-        let Ok(symbol) = context.symbol(id) else {
-            return None;
+        let Some((id, used)) = number(&ids[at..]) else {
+            return false;
         };
-        if symbol.names_table() {
-            return None;
+        let Ok(symbol) = context.symbol(id) else {
+            return false;
+        };
+        if symbol.names_table() || !visitor.annotation(id, symbol) {
+            return false;
         }
         at += used;
-        count += 1;
     }
-    if at < ids.len() {
-        return None;
-    }
-    Some(count)
+    at >= ids.len()
 }
 
 /// How many octets the value at the front of these has, of at most so many levels (Ion 1.0, "Ion Binary
 /// Encoding", typed value formats). `None` where it isn't whole, is refused or is in any way unusual, as
 /// local symbol tables are.
 #[cycle(walk)]
-pub(crate) fn walk_value(
+pub(crate) fn walk_value<T: Visitor>(
     context: &Context,
     octets: &[u8],
     level: u32,
-    tally: &mut Tally,
+    visitor: &mut T,
 ) -> Option<usize>
-    requires low { tally.old.level ≤ level }
-    requires few { tally.old.nodes + length octets.now < 2 ^ 63 }
     ensures within { IfSome result (λ count. count ≤ length octets.now) }
     ensures value { IfSome result (λ count.
-        Walked context.now level (take count octets.now) tally.old tally.new) }
+        Walked T.visits context.now level (take count octets.now) visitor.old visitor.new) }
 {
     if octets.is_empty() {
         return None;
@@ -182,23 +127,22 @@ pub(crate) fn walk_value(
         if let Form::Wrapper = form {
             let rest = &octets[1..];
             let (used, count) = lengths(size, rest)?;
-            if walk_wrapped(context, &rest[used..used + count], level, tally) {
+            if walk_wrapped(context, &rest[used..used + count], level, visitor) {
                 return Some(1 + used + count);
             }
             return None;
         }
     }
-    walk_plain(context, opening, octets, level, tally)
+    walk_plain(context, opening, octets, level, visitor)
 }
 
 /// Whether these octets are the body of an annotation wrapper (Ion 1.0, "Ion Binary Encoding", "14:
 /// Annotations").
 #[cycle(walk)]
 #[inline(never)]
-fn walk_wrapped(context: &Context, body: &[u8], level: u32, tally: &mut Tally) -> bool
-    requires low { tally.old.level ≤ level }
-    requires few { tally.old.nodes + length body.now < 2 ^ 63 }
-    ensures { result ≡ true → WalkedWrapper context.now level body.now tally.old tally.new }
+fn walk_wrapped<T: Visitor>(context: &Context, body: &[u8], level: u32, visitor: &mut T) -> bool
+    ensures { result ≡ true →
+        WalkedWrapper T.visits context.now level body.now visitor.old visitor.new }
 {
     let Some((size, used)) = number(body) else {
         return false;
@@ -207,49 +151,52 @@ fn walk_wrapped(context: &Context, body: &[u8], level: u32, tally: &mut Tally) -
         return false;
     }
     let stop = used + size as usize;
-    let Some(count) = annotations(context, &body[used..stop]) else {
+    let Some(mark) = visitor.open_wrapper() else {
         return false;
     };
-    tally.nodes += count;
-    let inner = &body[stop..];
-    match walk_plain(context, opening_of(inner[0]), inner, level, tally) {
-        None => false,
-        Some(count) => count >= inner.len(),
+    if !annotations(context, &body[used..stop], visitor) || !visitor.end_annotations(&mark) {
+        return false;
     }
+    let inner = &body[stop..];
+    let Some(count) = walk_plain(context, opening_of(inner[0]), inner, level, visitor) else {
+        return false;
+    };
+    count >= inner.len() && visitor.close_wrapper(mark)
 }
 
 /// The same as `walk_value` of a value without annotations, whose descriptor opens this.
 #[cycle(walk)]
 #[inline(always)]
-fn walk_plain(
+fn walk_plain<T: Visitor>(
     context: &Context,
     opening: Opening,
     octets: &[u8],
     level: u32,
-    tally: &mut Tally,
+    visitor: &mut T,
 ) -> Option<usize>
     requires some { 0 < length octets.now }
     requires opens { opening ≡ opening_of (get_or octets.now 0 0) }
-    requires low { tally.old.level ≤ level }
-    requires few { tally.old.nodes + length octets.now < 2 ^ 63 }
     ensures within { IfSome result (λ count. count ≤ length octets.now) }
     ensures value { IfSome result (λ count.
-        WalkedPlain context.now level (take count octets.now) tally.old tally.new) }
+        WalkedPlain T.visits context.now level (take count octets.now) visitor.old visitor.new) }
 {
     match opening {
         Opening::Null(kind) => {
-            tally.note(kind);
-            Some(1)
+            if visitor.null(kind) {
+                return Some(1);
+            }
+            None
         }
-        Opening::Truth(_) => {
-            tally.note(Kind::Bool);
-            Some(1)
+        Opening::Truth(truth) => {
+            if visitor.truth(truth) {
+                return Some(1);
+            }
+            None
         }
         Opening::Sized(form, size) => {
             let rest = &octets[1..];
             let (used, count) = lengths(size, rest)?;
-            if walk_body(context, form, &rest[used..used + count], level, tally) {
-                tally.note(kind_of(form));
+            if walk_body(context, form, &rest[used..used + count], level, visitor) {
                 return Some(1 + used + count);
             }
             None
@@ -258,34 +205,60 @@ fn walk_plain(
     }
 }
 
-/// Whether these octets are the body of a value of this form, whose own node isn't noted.
+/// Whether these octets are the body of a value of this form.
 #[cycle(walk)]
 #[inline(always)]
-fn walk_body(context: &Context, form: Form, body: &[u8], level: u32, tally: &mut Tally) -> bool
-    requires low { tally.old.level ≤ level }
-    requires few { tally.old.nodes + length body.now < 2 ^ 63 }
-    ensures { result ≡ true → WalkedBody context.now form level body.now tally.old tally.new }
+fn walk_body<T: Visitor>(
+    context: &Context,
+    form: Form,
+    body: &[u8],
+    level: u32,
+    visitor: &mut T,
+) -> bool
+    ensures { result ≡ true →
+        WalkedBody T.visits context.now form level body.now visitor.old visitor.new }
 {
     match form {
-        Form::Scalar(scalar) => is_scalar(context, scalar, body),
-        Form::Listing(_) => walk_items(context, body, level, tally),
-        Form::Struct => walk_fields(context, body, level, tally),
-        Form::OrderedStruct => !body.is_empty() && walk_fields(context, body, level, tally),
+        Form::Scalar(scalar) => visitor.scalar(context, scalar, body),
+        Form::Listing(listing) => walk_listing(context, listing, body, level, visitor),
+        Form::Struct => walk_struct(context, body, level, visitor),
+        Form::OrderedStruct => !body.is_empty() && walk_struct(context, body, level, visitor),
         _ => false,
     }
 }
 
-/// Whether these octets are items one behind the other, with pads anywhere.
+/// Whether these octets are the items of a listing.
 #[cycle(walk)]
 #[inline(never)]
-fn walk_items(context: &Context, body: &[u8], level: u32, tally: &mut Tally) -> bool
-    requires few { tally.old.nodes + length body.now < 2 ^ 63 }
-    ensures { result ≡ true → WalkedItems context.now level body.now tally.old tally.new }
+fn walk_listing<T: Visitor>(
+    context: &Context,
+    listing: Listing,
+    body: &[u8],
+    level: u32,
+    visitor: &mut T,
+) -> bool
+    ensures { result ≡ true →
+        WalkedListing T.visits context.now listing level body.now visitor.old visitor.new }
 {
     if level == 0 {
         return false;
     }
-    tally.level = tally.level.min(level - 1);
+    let bracket = bracket_of(listing);
+    let Some(mark) = visitor.open(bracket) else {
+        return false;
+    };
+    if !walk_items(context, body, level - 1, visitor) {
+        return false;
+    }
+    visitor.close(bracket, mark)
+}
+
+/// Whether these octets are items one behind the other, with pads anywhere.
+#[cycle(walk)]
+#[inline(always)]
+fn walk_items<T: Visitor>(context: &Context, body: &[u8], level: u32, visitor: &mut T) -> bool
+    ensures { result ≡ true → WalkedItems T.visits context.now level body.now visitor.old visitor.new }
+{
     let mut at = 0;
     for _ in 0..body.len() {
         if at >= body.len() {
@@ -295,7 +268,7 @@ fn walk_items(context: &Context, body: &[u8], level: u32, tally: &mut Tally) -> 
             at += count;
             continue;
         }
-        match walk_value(context, &body[at..], level - 1, tally) {
+        match walk_value(context, &body[at..], level, visitor) {
             None => return false,
             Some(count) => at += count,
         }
@@ -303,18 +276,32 @@ fn walk_items(context: &Context, body: &[u8], level: u32, tally: &mut Tally) -> 
     at >= body.len()
 }
 
-/// Whether these octets are fields one behind the other: an id and its value, or an id of any kind and a
-/// pad.
+/// Whether these octets are the fields of a struct.
 #[cycle(walk)]
 #[inline(never)]
-fn walk_fields(context: &Context, body: &[u8], level: u32, tally: &mut Tally) -> bool
-    requires few { tally.old.nodes + length body.now < 2 ^ 63 }
-    ensures { result ≡ true → WalkedFields context.now level body.now tally.old tally.new }
+fn walk_struct<T: Visitor>(context: &Context, body: &[u8], level: u32, visitor: &mut T) -> bool
+    ensures { result ≡ true →
+        WalkedStruct T.visits context.now level body.now visitor.old visitor.new }
 {
     if level == 0 {
         return false;
     }
-    tally.level = tally.level.min(level - 1);
+    let Some(mark) = visitor.open(Bracket::Fields) else {
+        return false;
+    };
+    if !walk_fields(context, body, level - 1, visitor) {
+        return false;
+    }
+    visitor.close(Bracket::Fields, mark)
+}
+
+/// Whether these octets are fields one behind the other: an id and its value, or an id of any kind and a
+/// pad.
+#[cycle(walk)]
+#[inline(always)]
+fn walk_fields<T: Visitor>(context: &Context, body: &[u8], level: u32, visitor: &mut T) -> bool
+    ensures { result ≡ true → WalkedFields T.visits context.now level body.now visitor.old visitor.new }
+{
     let mut at = 0;
     for _ in 0..body.len() {
         if at >= body.len() {
@@ -328,11 +315,13 @@ fn walk_fields(context: &Context, body: &[u8], level: u32, tally: &mut Tally) ->
             at += count;
             continue;
         }
-        let Ok(_) = context.symbol(id) else {
+        let Ok(symbol) = context.symbol(id) else {
             return false;
         };
-        tally.nodes += 1;
-        match walk_value(context, &body[at..], level - 1, tally) {
+        if !visitor.name(id, symbol) {
+            return false;
+        }
+        match walk_value(context, &body[at..], level, visitor) {
             None => return false,
             Some(count) => at += count,
         }

@@ -5,7 +5,7 @@ ghost use Rattle.ion_model.specs.Measures.{bare, depth};
 ghost use Rattle.ion_scalar.specs.binary.Fields.{VarUInt};
 ghost use Rattle.ion_binary.specs.Opening.{opening_of};
 ghost use Rattle.ion_binary.specs.Grammar.{listed, Ids, IsPad, Plain, Binary, Fields, Sequence as Items};
-ghost use Rattle.ion_binary.specs.laws.reading.Stands.{depths, field_depths};
+ghost use Rattle.ion_binary.specs.Depths.{depths, field_depths};
 ghost use Rattle.ion_binary.specs.machine.Framed.{Heads, Framed, Wraps, IsListing, IsStruct};
 
 use crate::form::{Form, Listing, Opening, opening_of};

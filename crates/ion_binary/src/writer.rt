@@ -19,6 +19,7 @@ use ion_symtab::{Context, Fault, Outlet, flushed, write_whole};
 use names::Names;
 use std::alloc::Global;
 use std::fmt::{self, Debug, Formatter};
+use std::hash::{BuildHasher, BuildHasherDefault, FoldHasher};
 use std::marker::Model;
 use table::put_table;
 
@@ -36,11 +37,12 @@ const MARKER: [u8; 4] = [0xE0, 0x01, 0x00, 0xEA];
 /// see the symbols that have ids, whether the marker is out, and the fault that each call answers.
 ///
 /// Every length and number has the fewest octets. Before a value with symbols whose texts have no ids yet
-/// stands one local symbol table, which appends them in the order of their first use.
+/// stands one local symbol table, which appends them in the order of their first use. Ids are found by a
+/// hash of the texts, and don't depend on it.
 #[derive(Drop)]
-pub struct BinaryWriter {
+pub struct BinaryWriter<S: BuildHasher = BuildHasherDefault<FoldHasher>> {
     alloc: Global,
-    names: Names,
+    names: Names<S>,
     guesses: Guesses,
     crossings: Crossings,
     /// The octets of the value that was written last; those of the next value take their memory.
@@ -53,13 +55,13 @@ pub struct BinaryWriter {
     failed: Option<Fault>,
 }
 
-impl Debug for BinaryWriter {
+impl<S: BuildHasher> Debug for BinaryWriter<S> {
     fn fmt<W: fmt::Write>(&self, f: &mut Formatter<W>) -> fmt::Result {
         f.debug_struct("BinaryWriter").finish_non_exhaustive()
     }
 }
 
-impl Model for BinaryWriter {
+impl<S: BuildHasher> Model for BinaryWriter<S> {
     ghost use Rattle.ion_binary.specs.Writing.{Writing};
 
     ghost Value = { Writing };
@@ -69,12 +71,22 @@ impl Model for BinaryWriter {
 
 impl BinaryWriter {
     /// A writer of a document of which nothing is written yet. The only fault is `Memory`.
+    /// The hasher has a fixed seed: where a stranger chooses the texts, `with_hasher` has a random one.
     pub fn new(alloc: Global) -> Result<BinaryWriter, Fault>
+        ensures { MatchResult result (λ w. w ≡ record { progress = nothing_yet; failed = None }) (λ f. f ≡ faults.Memory) }
+    {
+        BinaryWriter::with_hasher(alloc, BuildHasherDefault::new())
+    }
+}
+
+impl<S: BuildHasher + Drop> BinaryWriter<S> {
+    /// The same, of a writer that finds ids by this hasher. What it writes is the same.
+    pub fn with_hasher(alloc: Global, hasher: S) -> Result<BinaryWriter<S>, Fault>
         ensures { MatchResult result (λ w. w ≡ record { progress = nothing_yet; failed = None }) (λ f. f ≡ faults.Memory) }
     {
         Ok(BinaryWriter {
             alloc,
-            names: Names::system(alloc)?,
+            names: Names::system(alloc, hasher)?,
             guesses: Guesses::new(alloc),
             crossings: Crossings::new(alloc),
             octets: Vec::new(alloc),
@@ -205,9 +217,9 @@ fn put_opened<W: Outlet>(out: &mut W, begun: bool, octets: &[u8]) -> Result<(), 
 
 // Appends what stands before a value: the marker where none is out, and the table of the names from an id
 // on where there are any. The only fault is `Memory`.
-fn put_front(
+fn put_front<S: BuildHasher + Drop>(
     alloc: Global,
-    names: &Names,
+    names: &Names<S>,
     known: usize,
     begun: bool,
     front: &mut Vec<u8>,

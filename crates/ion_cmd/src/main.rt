@@ -1,7 +1,7 @@
 //! The command: its words, the file system and the standard streams.
 #![tactic(auto)]
 
-use ion_command::{FileSystem, carry_out, refuse_words};
+use ion_command::{FileSystem, RandomHasher, carry_out, refuse_words};
 use ion_symtab::ToWrite;
 use ion_words::WordsError;
 use std::env;
@@ -16,8 +16,17 @@ fn main(rt: HostRuntime) -> ExitCode {
     let status = match BufWriter::with_capacity(rt.alloc(), KEPT_BACK, rt.stdout()) {
         Ok(buffered) => {
             let mut sources = FileSystem::new(&rt);
+            let hashers = RandomHasher::new(&rt);
             let mut out = ToWrite::new(buffered);
-            carry_out(rt.alloc(), env::args(&rt), &mut sources, &mut out, &mut err)
+            let arguments = env::args(&rt);
+            carry_out(
+                rt.alloc(),
+                arguments,
+                &mut sources,
+                &hashers,
+                &mut out,
+                &mut err,
+            )
         }
         Err(_) => refuse_words(WordsError::Memory, &mut err).code(),
     };

@@ -4,6 +4,7 @@ use Rattle.std.specs.List.{Contains}
 use Rattle.std.proofs.lemmas.List.Elements.{Contains-append_right, Contains-append_cases, Contains-push_cases}
 use Rattle.std.proofs.lemmas.Option.{same_Some, none-some}
 use Rattle.std.proofs.lemmas.Result.{IfOk-weaker}
+use Rattle.ion_model.specs.declared.value.Value.{Value}
 use Rattle.ion_atoms.specs.declared.refusal.Refusal.{Refusal as the_refusal}
 use Rattle.ion_symtab.specs.Cause.{IsReadCause}
 use Rattle.ion_symtab.specs.Took.{TookFront}
@@ -18,13 +19,11 @@ use Rattle.ion_symtab.specs.declared.outlet.Outlet.{Ghosts as Outlet}
 use Rattle.ion_streams.specs.Checked.{IsChecked}
 use Rattle.ion_streams.specs.Compared.{IsCompared}
 use Rattle.ion_streams.specs.declared.comparison.Verdict.{Verdict}
-use Rattle.ion_docs.specs.Conversion.{KeepsStream}
-use Rattle.ion_docs.specs.Converted.{IsConverted, ConvertsSoFar, ReadSoFar}
-use Rattle.ion_docs.specs.Encodings.{encoding_of}
+use Rattle.ion_docs.specs.Converted.{IsConverted, IsConvertCause, ConvertsSoFar, ReadSoFar}
+use Rattle.ion_docs.specs.Encodings.{Encoding, encoding_of}
 use Rattle.ion_docs.specs.Formats.{documents}
 use Rattle.ion_streams.specs.Listing.{IsWriteCause}
-use Rattle.ion_docs.specs.declared.conversion.Target.{Target}
-use Rattle.ion_words.specs.declared.request.Encoding.{Encoding}
+use Rattle.ion_words.specs.declared.request.Encoding.{Encoding as asked_encoding}
 use Rattle.ion_words.specs.declared.request.WordsError.{WordsError}
 use Rattle.ion_words.specs.declared.request.WordsError.TheVariants as words_errors
 use Rattle.std.specs.declared.io.Error.{Error}
@@ -38,7 +37,11 @@ use Rattle.ion_command.specs.declared.command.Ending.TheVariants.{Refused}
 use Rattle.ion_command.specs.declared.command.Status.{Status}
 use Rattle.ion_command.specs.declared.command.Status.TheVariants as the_status
 use Rattle.ion_command.specs.declared.lines.Whose.{Whose}
-use Rattle.ion_command.specs.Owed.{target_of, code_of, AreLimitsOf, IsCatalog, IsStopped, IsStoppedAt, NeedsLarge, IsDone, IsAnswered, WroteFront, WroteSoFar, is_done, Owes, usage, answered, untold, no_memory, OwesWithout, OwesFor}
+use Rattle.ion_command.specs.Owed.{target_of, code_of, AreLimitsOf, IsCatalog, IsStopped, IsStoppedAt, NeedsLarge, IsDone, IsAnswered, WroteFront, WroteSoFar, is_done, JobLacksHasher, OwesWithHasher, usage, answered, untold, no_memory, OwesWithout, OwesFor}
+
+pub or_more : {A B C : Type 0} → A ⊎ B → A ⊎ B ⊎ C
+or_more (inl a) = inl a
+or_more (inr b) = inr (inl b)
 
 pub first_of_names : (name : Name) (names : List Name) → Contains (name ∷ names) name
 first_of_names name names = (0, omega arith, refl)
@@ -46,20 +49,20 @@ first_of_names name names = (0, omega arith, refl)
 pub behind_first : (before name : Name) (names : List Name) → Contains names name → Contains (before ∷ names) name
 behind_first before name names h = Contains-append_right (before ∷ []) names name h
 
-module _ {X : Type 0} (R : Inlet X) (gives : Name → X → Type 0) (refuses : Name → Type 0) (l : Limits) (names : List Name) (large : Type 0) where
-  pub stopped_opening : (failed : Bool) (name : Name) → Contains names name → (fault : Fault) → ((fault ≡ Open) × refuses name) ⊎ (fault ≡ Memory) → IsStopped R gives refuses l names large failed fault
+module _ {X : Type 0} (R : Inlet X) (gives : Name → X → Type 0) (refuses : Name → Type 0) (l : Limits) (names : List Name) (lacking large : Type 0) where
+  pub stopped_opening : (failed : Bool) (name : Name) → Contains names name → (fault : Fault) → ((fault ≡ Open) × refuses name) ⊎ (fault ≡ Memory) → IsStopped R gives refuses l names lacking large failed fault
   stopped_opening failed name within fault (inl refused) = rw refused.0 (name, within, refused.1)
   stopped_opening failed name within fault (inr memory) = rw memory tt
 
-  pub stopped_reading : (failed : Bool) (name : Name) → Contains names name → (first now : X) → gives name first → (fault : Fault) → IsReadCause R l.reads first now fault → IsStopped R gives refuses l names large failed fault
+  pub stopped_reading : (failed : Bool) (name : Name) → Contains names name → (first now : X) → gives name first → (fault : Fault) → IsReadCause R l.reads first now fault → IsStopped R gives refuses l names lacking large failed fault
   stopped_reading failed name within first now given Memory h = tt
-  stopped_reading failed name within first now given Read h = (name, within, first, now, given, h)
+  stopped_reading failed name within first now given Read h = inl (name, within, first, now, given, h)
   stopped_reading failed name within first now given Write h = absurd h
   stopped_reading failed name within first now given TooManyReads h = (name, within, first, now, given, h)
   stopped_reading failed name within first now given TooLarge h = absurd h
   stopped_reading failed name within first now given Open h = absurd h
 
-  pub stopped_writing : {T : Type 0} (W : Outlet T) (new : T) (fault : Fault) → IsWriteCause W new fault → IsStopped R gives refuses l names large (W.has_failed new) fault
+  pub stopped_writing : {T : Type 0} (W : Outlet T) (new : T) (fault : Fault) → IsWriteCause W new fault → IsStopped R gives refuses l names lacking large (W.has_failed new) fault
   stopped_writing W new Memory h = tt
   stopped_writing W new Read h = absurd h
   stopped_writing W new Write h = h
@@ -67,22 +70,42 @@ module _ {X : Type 0} (R : Inlet X) (gives : Name → X → Type 0) (refuses : N
   stopped_writing W new TooLarge h = absurd h
   stopped_writing W new Open h = absurd h
 
+  pub stopped_once : (name : Name) → Contains names name → (first now : X) → gives name first → {T : Type 0} (W : Outlet T) (new : T) (fault : Fault) → IsReadCause R l.reads first now fault ⊎ IsWriteCause W new fault → IsStopped R gives refuses l names lacking large (W.has_failed new) fault
+  stopped_once name within first now given W new fault (inl h) = stopped_reading (W.has_failed new) name within first now given fault h
+  stopped_once name within first now given W new fault (inr h) = stopped_writing W new fault h
+
   pub stopped_comparing : (left right : Name) → Contains names left → Contains names right → (l_first l_now r_first r_now : X) → gives left l_first → gives right r_first → {T : Type 0} (W : Outlet T) (new : T) (fault : Fault) →
-      IsReadCause R l.reads l_first l_now fault ⊎ IsReadCause R l.reads r_first r_now fault ⊎ IsWriteCause W new fault → IsStopped R gives refuses l names large (W.has_failed new) fault
+      IsReadCause R l.reads l_first l_now fault ⊎ IsReadCause R l.reads r_first r_now fault ⊎ IsWriteCause W new fault → IsStopped R gives refuses l names lacking large (W.has_failed new) fault
   stopped_comparing left right l_in r_in l_first l_now r_first r_now l_given r_given W new fault (inl h) = stopped_reading (W.has_failed new) left l_in l_first l_now l_given fault h
   stopped_comparing left right l_in r_in l_first l_now r_first r_now l_given r_given W new fault (inr (inl h)) = stopped_reading (W.has_failed new) right r_in r_first r_now r_given fault h
   stopped_comparing left right l_in r_in l_first l_now r_first r_now l_given r_given W new fault (inr (inr h)) = stopped_writing W new fault h
 
+  stopped_putting : (E : Encoding) (WasRead : List Value → Type 0) → ((s : List Value) → WasRead s → E.needs_large_id s → large) → {T : Type 0} (W : Outlet T) (new : T) (fault : Fault) → IsConvertCause E WasRead (W.has_failed new) fault → IsStopped R gives refuses l names lacking large (W.has_failed new) fault
+  stopped_putting E WasRead needs W new Memory h = tt
+  stopped_putting E WasRead needs W new Read h = absurd h
+  stopped_putting E WasRead needs W new Write h = h
+  stopped_putting E WasRead needs W new TooManyReads h = absurd h
+  stopped_putting E WasRead needs W new TooLarge h = needs h.0 h.1 h.2
+  stopped_putting E WasRead needs W new Open h = absurd h
+
+  -- a conversion was stopped
+  pub stopped_converting : (name : Name) → Contains names name → (first now : X) → gives name first → (E : Encoding) (WasRead : List Value → Type 0) → ((s : List Value) → WasRead s → E.needs_large_id s → large) → {T : Type 0} (W : Outlet T) (new : T) (fault : Fault) →
+      IsReadCause R l.reads first now fault ⊎ IsConvertCause E WasRead (W.has_failed new) fault ⊎ (fault ≡ Read) × lacking → IsStopped R gives refuses l names lacking large (W.has_failed new) fault
+  stopped_converting name within first now given E WasRead needs W new fault (inl h) = stopped_reading (W.has_failed new) name within first now given fault h
+  stopped_converting name within first now given E WasRead needs W new fault (inr (inl h)) = stopped_putting E WasRead needs W new fault h
+  stopped_converting name within first now given E WasRead needs W new fault (inr (inr h)) = rw h.0 (inr h.1)
+
   -- and for more names, whose readers were given before
-  pub IsStopped-kept : (gave : Name → X → Type 0) (refused : Name → Type 0) (more : List Name) (larger : Type 0) (failed failed_too : Bool) (fault : Fault) →
-      ((name : Name) → Contains names name → Contains more name) → ((name : Name) (input : X) → Contains names name → gives name input → gave name input) → ((name : Name) → Contains names name → refuses name → refused name) → (large → larger) → (failed ≡ true → failed_too ≡ true) →
-      IsStopped R gives refuses l names large failed fault → IsStopped R gave refused l more larger failed_too fault
-  IsStopped-kept gave refused more larger failed failed_too Memory within kept none large_too fails h = tt
-  IsStopped-kept gave refused more larger failed failed_too Read within kept none large_too fails h = (h.0, within h.0 h.1, h.2, h.3, kept h.0 h.2 h.1 h.4, h.5)
-  IsStopped-kept gave refused more larger failed failed_too Write within kept none large_too fails h = fails h
-  IsStopped-kept gave refused more larger failed failed_too TooManyReads within kept none large_too fails h = (h.0, within h.0 h.1, h.2, h.3, kept h.0 h.2 h.1 h.4, h.5)
-  IsStopped-kept gave refused more larger failed failed_too TooLarge within kept none large_too fails h = large_too h
-  IsStopped-kept gave refused more larger failed failed_too Open within kept none large_too fails h = (h.0, within h.0 h.1, none h.0 h.1 h.2)
+  pub IsStopped-kept : (gave : Name → X → Type 0) (refused : Name → Type 0) (more : List Name) (scarcer larger : Type 0) (failed failed_too : Bool) (fault : Fault) →
+      ((name : Name) → Contains names name → Contains more name) → ((name : Name) (input : X) → Contains names name → gives name input → gave name input) → ((name : Name) → Contains names name → refuses name → refused name) → (lacking → scarcer) → (large → larger) → (failed ≡ true → failed_too ≡ true) →
+      IsStopped R gives refuses l names lacking large failed fault → IsStopped R gave refused l more scarcer larger failed_too fault
+  IsStopped-kept gave refused more scarcer larger failed failed_too Memory within kept none lacking_too large_too fails h = tt
+  IsStopped-kept gave refused more scarcer larger failed failed_too Read within kept none lacking_too large_too fails (inl h) = inl (h.0, within h.0 h.1, h.2, h.3, kept h.0 h.2 h.1 h.4, h.5)
+  IsStopped-kept gave refused more scarcer larger failed failed_too Read within kept none lacking_too large_too fails (inr h) = inr (lacking_too h)
+  IsStopped-kept gave refused more scarcer larger failed failed_too Write within kept none lacking_too large_too fails h = fails h
+  IsStopped-kept gave refused more scarcer larger failed failed_too TooManyReads within kept none lacking_too large_too fails h = (h.0, within h.0 h.1, h.2, h.3, kept h.0 h.2 h.1 h.4, h.5)
+  IsStopped-kept gave refused more scarcer larger failed failed_too TooLarge within kept none lacking_too large_too fails h = large_too h
+  IsStopped-kept gave refused more scarcer larger failed failed_too Open within kept none lacking_too large_too fails h = (h.0, within h.0 h.1, none h.0 h.1 h.2)
 
 -- what was done with readers that names gave later was done with ones that they gave before
 module _ {X T : Type 0} (R : Inlet X) (gives gave : Name → X → Type 0) (W : Outlet T) (old new : T) (g : the_catalog) (l : Limits) (ending : Ending) where
@@ -99,11 +122,6 @@ module _ {X Y : Type 0} (R : Inlet X) (gives gave : Name → X → Type 0) (I : 
   NeedsLarge-kept (convert file to) kept h = (h.0, h.1, kept file h.0 (first_of_names file []) h.2, h.3, h.4, h.5)
   NeedsLarge-kept (compare left right) kept h = h
 
--- a conversion to the target of what was asked for
-pub done_converting : {X T : Type 0} (R : Inlet X) (gives : Name → X → Type 0) (W : Outlet T) (old new : T) (g : the_catalog) (l : Limits) (file : Name) (to : Encoding) (target : Target) → target ≡ target_of to → (first now : X) → gives file first → (result : Result Ending Fault) →
-    IfOk result (λ ending. (answer : Result ℕ the_refusal) × IsConverted R W (encoding_of target) (documents g l) first now old new answer × KeepsStream R W (encoding_of target) g l first now old new answer × EndsShown answer ending) → IfOk result (IsDone R gives W old new (convert file to) g l)
-done_converting R gives W old new g l file to target is first now given result h = IfOk-weaker result _ _ (λ ending ended. (first, now, given, ended.0, ended.1, ended.2, ended.3)) (rw is at h)
-
 -- what went out before a fault
 module _ {X T : Type 0} (R : Inlet X) (gives : Name → X → Type 0) (W : Outlet T) (old new : T) (g : the_catalog) (l : Limits) where
   pub front_checking : (file : Name) (first now : X) → gives file first → TookFront W.took W.written old new [] ⊎ ((answer : Result ℕ the_refusal) × IsChecked R (documents g l) first now answer × TookFront W.took W.written old new (answer_line answer)) →
@@ -116,11 +134,6 @@ module _ {X T : Type 0} (R : Inlet X) (gives : Name → X → Type 0) (W : Outle
       TookFront W.took W.written old new [] ⊎ ((l_first : X) × (l_now : X) × gives left l_first × (r_first : X) × (r_now : X) × gives right r_first × (verdict : Verdict) × IsCompared R R (documents g l) (documents g l) l_first l_now r_first r_now verdict × TookFront W.took W.written old new (verdict_line verdict))
   front_comparing left right l_first l_now r_first r_now l_given r_given (inl none) = inl none
   front_comparing left right l_first l_now r_first r_now l_given r_given (inr h) = inr (l_first, l_now, l_given, r_first, r_now, r_given, h.0, h.1, h.2)
-
-module _ {X Y T : Type 0} (R : Inlet X) (gives : Name → X → Type 0) (I : Items Y) (W : Outlet T) (old new : T) (g : the_catalog) (l : Limits) where
-  pub front_converting : (file : Name) (to : Encoding) (target : Target) → target ≡ target_of to → (first now : X) → gives file first → ConvertsSoFar (encoding_of target) (ReadSoFar R I g l first now) W old new →
-      TookFront W.took W.written old new [] ⊎ WroteFront R gives I W old new (convert file to) g l
-  front_converting file to target is first now given h = inr (first, now, given, rw is at h)
 
 module _ {X Y T : Type 0} (R : Inlet X) (gives gave : Name → X → Type 0) (I : Items Y) (W : Outlet T) (old new : T) (g : the_catalog) (l : Limits) where
   WroteFront-kept : (job : Job) → ((name : Name) (input : X) → Contains (names_of_job job) name → gives name input → gave name input) → WroteFront R gives I W old new job g l → WroteFront R gave I W old new job g l
@@ -169,20 +182,20 @@ pub free_of_catalog : (catalog : Option Name) (names : List Name) → NamesInput
 free_of_catalog None names once name within is taken = none-some name taken
 free_of_catalog (Some first) names once name within is taken = free_behind first name names once within is taken
 
-module _ {S X Y : Type 0} (R : Inlet X) (gives : S → Name → X → Type 0) (refuses : S → Name → Type 0) (I : Items Y) (asked : Asked) (l : Limits) (first : S) where
-  pub stopped_at_catalog : (failed : Bool) (fault : Fault) → IsStopped R (gives first) (refuses first) l (names_with asked.catalog []) ⊥ false fault → IsStoppedAt R (gives first) (refuses first) I asked l failed fault
+module _ {S X Y : Type 0} (R : Inlet X) (gives : S → Name → X → Type 0) (refuses : S → Name → Type 0) (none : Type 0) (I : Items Y) (asked : Asked) (l : Limits) (first : S) where
+  pub stopped_at_catalog : (failed : Bool) (fault : Fault) → IsStopped R (gives first) (refuses first) l (names_with asked.catalog []) ⊥ ⊥ false fault → IsStoppedAt R (gives first) (refuses first) none I asked l failed fault
   stopped_at_catalog failed fault h = inl h
 
   -- behind the catalog, that the sources give the other names what they gave
   module _ (then : S) (kept : Keeps gives refuses first then asked.catalog) (once : NamesInputOnce (names_of asked)) (g : the_catalog) (catalog : IsCatalog R (gives first) asked.catalog l (Ok g)) where
-    pub stopped_behind : (failed : Bool) (fault : Fault) → IsStopped R (gives then) (refuses then) l (names_of_job asked.job) (NeedsLarge R (gives then) I asked.job g l) failed fault → IsStoppedAt R (gives first) (refuses first) I asked l failed fault
+    pub stopped_behind : (failed : Bool) (fault : Fault) → IsStopped R (gives then) (refuses then) l (names_of_job asked.job) (JobLacksHasher none asked.job) (NeedsLarge R (gives then) I asked.job g l) failed fault → IsStoppedAt R (gives first) (refuses first) none I asked l failed fault
     stopped_behind failed fault h =
         let kept_given : (name : Name) (input : X) → Contains (names_of_job asked.job) name → gives then name input → gives first name input = λ name input within given. kept.given name input (free_of_catalog asked.catalog (names_of_job asked.job) once name within) given in
         inr (
           g,
           catalog,
-          IsStopped-kept R (gives then) (refuses then) l (names_of_job asked.job) _ (gives first) (refuses first) (names_of_job asked.job) _ failed failed fault (λ name within. within) kept_given
-              (λ name within refused. kept.refused name (free_of_catalog asked.catalog (names_of_job asked.job) once name within) refused) (NeedsLarge-kept R (gives then) (gives first) I g l asked.job kept_given) (λ fails. fails) h,
+          IsStopped-kept R (gives then) (refuses then) l (names_of_job asked.job) _ _ (gives first) (refuses first) (names_of_job asked.job) _ _ failed failed fault (λ name within. within) kept_given
+              (λ name within refused. kept.refused name (free_of_catalog asked.catalog (names_of_job asked.job) once name within) refused) (λ lacks. lacks) (NeedsLarge-kept R (gives then) (gives first) I g l asked.job kept_given) (λ fails. fails) h,
         )
 
 pub answered_behind : {S X T : Type 0} (R : Inlet X) (gives : S → Name → X → Type 0) (refuses : S → Name → Type 0) (W : Outlet T) (asked : Asked) (l : Limits) (first then : S) → Keeps gives refuses first then asked.catalog → NamesInputOnce (names_of asked) → (g : the_catalog) → IsCatalog R (gives first) asked.catalog l (Ok g) →
@@ -200,32 +213,32 @@ front_behind R gives refuses I W asked l first then kept once g catalog old new 
       (λ name input within given. kept.given name input (free_of_catalog asked.catalog (names_of_job asked.job) once name within) given) h,
 )
 
-module _ {X Y T D : Type 0} (R : Inlet X) (gives : Name → X → Type 0) (refuses : Name → Type 0) (I : Items Y) (W : Outlet T) (V : Outlet D) where
+module _ {X Y T D : Type 0} (R : Inlet X) (gives : Name → X → Type 0) (refuses : Name → Type 0) (none : Type 0) (I : Items Y) (W : Outlet T) (V : Outlet D) where
   pub owes_refused : (request : Asked) (l : Limits) (whose : Whose) (refusal : the_refusal) (out out_now : T) (err err_now : D) (status : Status) → AreLimitsOf request l → IsAnswered R gives W out out_now request l (Refused whose refusal) → PassesOn W out out_now →
       (status ≡ the_status.Refused) ⊎ (status ≡ the_status.Fault) → (status ≡ the_status.Refused → Reports V err err_now (refusal_line whose refusal)) → (status ≡ the_status.Fault → Reports V err err_now (fault_line Memory)) →
-      Owes R gives refuses I W V (Some request) out out_now err err_now (code_of status)
+      OwesWithHasher R gives refuses none I W V (Some request) out out_now err err_now (code_of status)
   owes_refused request l whose refusal out out_now err err_now status limits h passes (inl is) told failed = answered request l (Refused whose refusal) refl limits (ap code_of is) h passes (told is)
   owes_refused request l whose refusal out out_now err err_now status limits h passes (inr is) told failed = untold request l whose refusal refl limits (ap code_of is) h passes (failed is)
 
   pub owes_usage : (asked : Option Asked) (error : WordsError) (out : T) (err err_now : D) (status : Status) → (error ≡ words_errors.Usage → asked ≡ None) → (error ≡ words_errors.Usage → (status ≡ the_status.WrongWords) × Reports V err err_now usage_line) → (error ≡ words_errors.Memory → (status ≡ the_status.Fault) × Reports V err err_now (fault_line Memory)) →
-      Owes R gives refuses I W V asked out out err err_now (code_of status)
+      OwesWithHasher R gives refuses none I W V asked out out err err_now (code_of status)
   owes_usage asked words_errors.Usage out err err_now status none told failed = usage (none refl) (ap code_of (told refl).0) (Took-nil W.took W.written out) (λ same. same) (told refl).1
   owes_usage asked words_errors.Memory out err err_now status none told failed = no_memory (ap code_of (failed refl).0) (Took-nil W.took W.written out) (failed refl).1
 
   -- the arguments are words
   pub owes_words : (arguments : Result Arguments Error) (words : List (List ℕ)) (out out_now : T) (err err_now : D) (status : ℕ) → MatchResult arguments (λ all. words ≡ words_of all) (λ why. ⊥) →
-      Owes R gives refuses I W V (asked words) out out_now err err_now status → OwesFor R gives refuses I W V arguments out out_now err err_now status
-  owes_words (Ok all) words out out_now err err_now status are h = subst (λ (x : List (List ℕ)). Owes R gives refuses I W V (asked x) out out_now err err_now status) are h
+      OwesWithHasher R gives refuses none I W V (asked words) out out_now err err_now status → OwesFor R gives refuses none I W V arguments out out_now err err_now status
+  owes_words (Ok all) words out out_now err err_now status are h = subst (λ (x : List (List ℕ)). OwesWithHasher R gives refuses none I W V (asked x) out out_now err err_now status) are h
   owes_words (Err why) words out out_now err err_now status are h = absurd are
 
   owes_without : (error : WordsError) (out : T) (err err_now : D) (status : Status) → (error ≡ words_errors.Usage → (status ≡ the_status.WrongWords) × Reports V err err_now usage_line) → (error ≡ words_errors.Memory → (status ≡ the_status.Fault) × Reports V err err_now (fault_line Memory)) →
-      OwesWithout R gives refuses I W V error out out err err_now (code_of status)
+      OwesWithout R gives refuses none I W V error out out err err_now (code_of status)
   owes_without words_errors.Usage out err err_now status told failed = (ap code_of (told refl).0, Took-nil W.took W.written out, (λ same. same), (told refl).1)
   owes_without words_errors.Memory out err err_now status told failed = (ap code_of (failed refl).0, Took-nil W.took W.written out, (λ same. same), (failed refl).1)
 
   -- there are no words
   pub owes_no_words : (arguments : Result Arguments Error) (error : WordsError) (out : T) (err err_now : D) (status : Status) → MatchResult arguments (λ all. error ≡ words_errors.Memory) (λ why. error ≡ no_words why) →
       (error ≡ words_errors.Usage → (status ≡ the_status.WrongWords) × Reports V err err_now usage_line) → (error ≡ words_errors.Memory → (status ≡ the_status.Fault) × Reports V err err_now (fault_line Memory)) →
-      OwesFor R gives refuses I W V arguments out out err err_now (code_of status)
+      OwesFor R gives refuses none I W V arguments out out err err_now (code_of status)
   owes_no_words (Ok all) error out err err_now status is told failed = no_memory (ap code_of (failed is).0) (Took-nil W.took W.written out) (failed is).1
-  owes_no_words (Err why) error out err err_now status is told failed = subst (λ (x : WordsError). OwesWithout R gives refuses I W V x out out err err_now (code_of status)) is (owes_without error out err err_now status told failed)
+  owes_no_words (Err why) error out err err_now status is told failed = subst (λ (x : WordsError). OwesWithout R gives refuses none I W V x out out err err_now (code_of status)) is (owes_without error out err err_now status told failed)

@@ -113,21 +113,33 @@ module _ {X : Type 0} (R : Inlet X) (gives : Name → X → Type 0) where
     abbrev pub WroteSoFar : Asked → Limits → Type 0
     WroteSoFar asked l = TookFront W.took W.written old new [] ⊎ ((g : the_catalog) × IsCatalog asked.catalog l (Ok g) × WroteFront asked.job g l)
 
+-- only binary takes a hasher; `none` is that none can be had
+abbrev pub LacksHasher : Type 0 → Encoding → Type 0
+LacksHasher none encoding.Text = ⊥
+LacksHasher none encoding.Binary = none
+
+abbrev pub JobLacksHasher : Type 0 → Job → Type 0
+JobLacksHasher none (check file) = ⊥
+JobLacksHasher none (show file) = ⊥
+JobLacksHasher none (convert file to) = LacksHasher none to
+JobLacksHasher none (compare left right) = ⊥
+
 -- and that a name may give none
 module _ {X : Type 0} (R : Inlet X) (gives : Name → X → Type 0) (refuses : Name → Type 0) where
-  -- why a command was stopped that reads documents of these names; `large` is why its output can't be written
-  abbrev pub IsStopped : Limits → List Name → Type 0 → Bool → Fault → Type 0
-  IsStopped l names large failed Memory = ⊤
-  IsStopped l names large failed Read = (name : Name) × Contains names name × (first : X) × (now : X) × gives name first × IsReadCause R l.reads first now Read
-  IsStopped l names large failed Write = failed ≡ true
-  IsStopped l names large failed TooManyReads = (name : Name) × Contains names name × (first : X) × (now : X) × gives name first × IsReadCause R l.reads first now TooManyReads
-  IsStopped l names large failed TooLarge = large
-  IsStopped l names large failed Open = (name : Name) × Contains names name × refuses name
+  -- why a command was stopped that reads documents of these names; `lacking` is that no hasher can be had for its output, and
+  -- `large` why that can't be written
+  abbrev pub IsStopped : Limits → List Name → Type 0 → Type 0 → Bool → Fault → Type 0
+  IsStopped l names lacking large failed Memory = ⊤
+  IsStopped l names lacking large failed Read = ((name : Name) × Contains names name × (first : X) × (now : X) × gives name first × IsReadCause R l.reads first now Read) ⊎ lacking
+  IsStopped l names lacking large failed Write = failed ≡ true
+  IsStopped l names lacking large failed TooManyReads = (name : Name) × Contains names name × (first : X) × (now : X) × gives name first × IsReadCause R l.reads first now TooManyReads
+  IsStopped l names lacking large failed TooLarge = large
+  IsStopped l names lacking large failed Open = (name : Name) × Contains names name × refuses name
 
   -- why what is asked for was stopped: at the catalog; or at the documents, once the catalog was loaded
-  abbrev pub IsStoppedAt : {Y : Type 0} → Items Y → Asked → Limits → Bool → Fault → Type 0
-  IsStoppedAt I asked l failed fault = IsStopped l (names_with asked.catalog []) ⊥ false fault
-      ⊎ ((g : the_catalog) × IsCatalog R gives asked.catalog l (Ok g) × IsStopped l (names_of_job asked.job) (NeedsLarge R gives I asked.job g l) failed fault)
+  abbrev pub IsStoppedAt : {Y : Type 0} → Type 0 → Items Y → Asked → Limits → Bool → Fault → Type 0
+  IsStoppedAt none I asked l failed fault = IsStopped l (names_with asked.catalog []) ⊥ ⊥ false fault
+      ⊎ ((g : the_catalog) × IsCatalog R gives asked.catalog l (Ok g) × IsStopped l (names_of_job asked.job) (JobLacksHasher none asked.job) (NeedsLarge R gives I asked.job g l) failed fault)
 
 -- what is told on the errors where a command ended so: whose refusal it was, or nothing
 abbrev pub TellsErrors : {D : Type 0} → Outlet D → D → D → Ending → Type 0
@@ -135,27 +147,27 @@ TellsErrors V err err_now Accepted = Took V.took V.written err err_now []
 TellsErrors V err err_now Different = Took V.took V.written err err_now []
 TellsErrors V err err_now (Refused whose refusal) = Reports V err err_now (refusal_line whose refusal)
 
-module _ {X Y T D : Type 0} (R : Inlet X) (gives : Name → X → Type 0) (refuses : Name → Type 0) (I : Items Y) (W : Outlet T) (V : Outlet D) where
-  -- What the program owes for words: its status, and what went to the output and to the errors.
-  pub data Owes (asked : Option Asked) (out out_now : T) (err err_now : D) (status : ℕ) : Type 0 where
+module _ {X Y T D : Type 0} (R : Inlet X) (gives : Name → X → Type 0) (refuses : Name → Type 0) (none : Type 0) (I : Items Y) (W : Outlet T) (V : Outlet D) where
+  -- What the program owes for words: its status, and what went to the output and to the errors; `none` is that no hasher can be had.
+  pub data OwesWithHasher (asked : Option Asked) (out out_now : T) (err err_now : D) (status : ℕ) : Type 0 where
     -- they ask for nothing
     usage : asked ≡ None → status ≡ 3 → Took W.took W.written out out_now [] → PassesOn W out out_now
-        → Reports V err err_now usage_line → Owes asked out out_now err err_now status
+        → Reports V err err_now usage_line → OwesWithHasher asked out out_now err err_now status
     -- what they ask for was answered
     answered : (request : Asked) (l : Limits) (ending : Ending) → asked ≡ Some request → AreLimitsOf request l → status ≡ status_of ending
         → IsAnswered R gives W out out_now request l ending → PassesOn W out out_now
-        → TellsErrors V err err_now ending → Owes asked out out_now err err_now status
+        → TellsErrors V err err_now ending → OwesWithHasher asked out out_now err err_now status
     -- a fault stopped it
     stopped : (request : Asked) (l : Limits) (fault : Fault) → asked ≡ Some request → AreLimitsOf request l → status ≡ 4
-        → IsStoppedAt R gives refuses I request l (W.has_failed out_now) fault → WroteSoFar R gives I W out out_now request l
-        → Reports V err err_now (fault_line fault) → Owes asked out out_now err err_now status
+        → IsStoppedAt R gives refuses none I request l (W.has_failed out_now) fault → WroteSoFar R gives I W out out_now request l
+        → Reports V err err_now (fault_line fault) → OwesWithHasher asked out out_now err err_now status
     -- a document was refused, and there was no memory for the line that says so
     untold : (request : Asked) (l : Limits) (whose : Whose) (refusal : the_refusal) → asked ≡ Some request → AreLimitsOf request l → status ≡ 4
         → IsAnswered R gives W out out_now request l (Refused whose refusal) → PassesOn W out out_now
-        → Reports V err err_now (fault_line Memory) → Owes asked out out_now err err_now status
+        → Reports V err err_now (fault_line Memory) → OwesWithHasher asked out out_now err err_now status
     -- there was no memory for the words
     no_memory : status ≡ 4 → Took W.took W.written out out_now [] → Reports V err err_now (fault_line Memory)
-        → Owes asked out out_now err err_now status
+        → OwesWithHasher asked out out_now err err_now status
 
   -- where there are no words: the usage line for an argument that is no text, and a fault for want of memory
   abbrev pub OwesWithout : WordsError → T → T → D → D → ℕ → Type 0
@@ -164,5 +176,9 @@ module _ {X Y T D : Type 0} (R : Inlet X) (gives : Name → X → Type 0) (refus
 
   -- What the program owes for the arguments of the process: what it owes for the words that they are, or for want of words.
   abbrev pub OwesFor : Result Arguments Error → T → T → D → D → ℕ → Type 0
-  OwesFor (Ok arguments) out out_now err err_now status = Owes (asked (words_of arguments)) out out_now err err_now status
+  OwesFor (Ok arguments) out out_now err err_now status = OwesWithHasher (asked (words_of arguments)) out out_now err err_now status
   OwesFor (Err why) out out_now err err_now status = OwesWithout (no_words why) out out_now err err_now status
+
+-- What it owes where a hasher can always be had.
+abbrev pub Owes : {X Y T D : Type 0} → Inlet X → (Name → X → Type 0) → (Name → Type 0) → Items Y → Outlet T → Outlet D → Option Asked → T → T → D → D → ℕ → Type 0
+Owes R gives refuses I W V = OwesWithHasher R gives refuses ⊥ I W V

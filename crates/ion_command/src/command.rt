@@ -15,13 +15,16 @@ ghost use Rattle.ion_words.specs.Asked.{asked, told, names_of, names_of_job, nam
 ghost use Rattle.ion_command.specs.Lines.{fault_line, refusal_line, usage_line, Reports};
 ghost use Rattle.ion_command.specs.Endings.{answer_line, verdict_line, EndsChecked, EndsShown, EndsCompared, PassesOn};
 ghost use Rattle.ion_command.specs.Names.{Keeps};
-ghost use Rattle.ion_command.specs.Owed.{target_of, code_of, IsCatalog, IsStopped, NeedsLarge, IsDone, IsAnswered, IsStoppedAt, WroteFront, WroteSoFar, Owes};
+ghost use Rattle.ion_command.specs.Owed.{target_of, code_of, IsCatalog, IsStopped, NeedsLarge, IsDone, IsAnswered, IsStoppedAt, WroteFront, WroteSoFar, LacksHasher, JobLacksHasher, Owes, OwesWithHasher};
 
+use crate::hashers::{FixedHasher, Hashers};
 use crate::lines::{
     USAGE, Whose, accepted_line, different_line, equivalent_line, fault_line, refusal_line,
 };
 use crate::sources::Sources;
-use ion_docs::{DocReader, Target, Verdict, check, compare, convert, load_catalog, show};
+use ion_docs::{
+    DocReader, Target, Verdict, check, compare, convert, convert_with_hasher, load_catalog, show,
+};
 use ion_model::Refusal;
 use ion_symtab::{Catalog, Fault, Inlet, Items, Limits, Outlet, flushed, write_whole};
 use ion_words::{Encoding, Request, Task, WordsError, parse};
@@ -86,8 +89,25 @@ pub fn run<S: AsStr, N: Sources, O: Outlet, E: Outlet>(
         ⟦<DocReader<'static> as Items>⟧ O.Outlet E.Outlet (asked (map S.text words.now))
         out.old out.new err.old err.new result }
 {
+    run_with_hasher(alloc, words, sources, &FixedHasher, out, err)
+}
+
+/// The same, where a conversion to binary finds the ids of symbols by a hasher that is asked for then. Where
+/// none can be had, that is the fault `Read`.
+pub fn run_with_hasher<S: AsStr, N: Sources, H: Hashers, O: Outlet, E: Outlet>(
+    alloc: Global,
+    words: &[S],
+    sources: &mut N,
+    hashers: &H,
+    out: &mut O,
+    err: &mut E,
+) -> u8
+    ensures owes { OwesWithHasher N.Input.Inlet (N.gives sources.old) (N.refuses sources.old)
+        (H.refuses hashers.now) ⟦<DocReader<'static> as Items>⟧ O.Outlet E.Outlet
+        (asked (map S.text words.now)) out.old out.new err.old err.new result }
+{
     match parse(alloc, words) {
-        Ok(request) => answer(alloc, &request, sources, out, err).code(),
+        Ok(request) => answer(alloc, &request, sources, hashers, out, err).code(),
         Err(error) => refuse_words(error, err).code(),
     }
 }
@@ -138,20 +158,21 @@ fn report<E: Outlet>(err: &mut E, line: &str)
     }
 }
 
-fn answer<N: Sources, O: Outlet, E: Outlet>(
+fn answer<N: Sources, H: Hashers, O: Outlet, E: Outlet>(
     alloc: Global,
     request: &Request<'_>,
     sources: &mut N,
+    hashers: &H,
     out: &mut O,
     err: &mut E,
 ) -> Status
     requires input_once { NamesInputOnce (names_of (told request.now)) }
     requires reads { request.now.limits.reads ≡ 2 ^ 32 }
-    ensures { Owes N.Input.Inlet (N.gives sources.old) (N.refuses sources.old)
-        ⟦<DocReader<'static> as Items>⟧ O.Outlet E.Outlet (Option.Some (told request.now))
-        out.old out.new err.old err.new (code_of result) }
+    ensures { OwesWithHasher N.Input.Inlet (N.gives sources.old) (N.refuses sources.old)
+        (H.refuses hashers.now) ⟦<DocReader<'static> as Items>⟧ O.Outlet E.Outlet
+        (Option.Some (told request.now)) out.old out.new err.old err.new (code_of result) }
 {
-    match carry_out(alloc, request, sources, out) {
+    match carry_out(alloc, request, sources, hashers, out) {
         Ok(Ending::Accepted) => Status::Accepted,
         Ok(Ending::Different) => Status::Different,
         Ok(Ending::Refused(whose, refusal)) => tell_refusal(alloc, whose, refusal, err),
@@ -160,10 +181,11 @@ fn answer<N: Sources, O: Outlet, E: Outlet>(
 }
 
 /// Does what is asked for under the catalog, which is opened and loaded first.
-fn carry_out<N: Sources, O: Outlet>(
+fn carry_out<N: Sources, H: Hashers, O: Outlet>(
     alloc: Global,
     request: &Request<'_>,
     sources: &mut N,
+    hashers: &H,
     out: &mut O,
 ) -> Result<Ending, Fault>
     requires input_once { NamesInputOnce (names_of (told request.now)) }
@@ -174,11 +196,11 @@ fn carry_out<N: Sources, O: Outlet>(
         ⟦<DocReader<'static> as Items>⟧ O.Outlet out.old out.new
         (told request.now) request.now.limits) }
     ensures stopped { IfErr result (IsStoppedAt N.Input.Inlet (N.gives sources.old)
-        (N.refuses sources.old) ⟦<DocReader<'static> as Items>⟧
+        (N.refuses sources.old) (H.refuses hashers.now) ⟦<DocReader<'static> as Items>⟧
         (told request.now) request.now.limits (O.has_failed out.new)) }
 {
     match catalog_of(alloc, request, sources)? {
-        Ok(catalog) => ending_of(alloc, request, sources, out, &catalog),
+        Ok(catalog) => ending_of(alloc, request, sources, hashers, out, &catalog),
         Err(refusal) => Ok(Ending::Refused(Whose::Catalog, refusal)),
     }
 }
@@ -194,7 +216,7 @@ fn catalog_of<N: Sources>(
     ensures kept { Keeps N.gives N.refuses sources.old sources.new (told request.now).catalog }
     ensures stopped { IfErr result (IsStopped N.Input.Inlet (N.gives sources.old)
         (N.refuses sources.old) request.now.limits (names_with (told request.now).catalog [])
-        ⊥ false) }
+        ⊥ ⊥ false) }
 {
     match request.catalog {
         None => Ok(Ok(Catalog::new(alloc))),
@@ -203,10 +225,11 @@ fn catalog_of<N: Sources>(
 }
 
 /// Opens each document, left to right, before one is read, and then does what is asked for.
-fn ending_of<N: Sources, O: Outlet>(
+fn ending_of<N: Sources, H: Hashers, O: Outlet>(
     alloc: Global,
     request: &Request<'_>,
     sources: &mut N,
+    hashers: &H,
     out: &mut O,
     catalog: &Catalog,
 ) -> Result<Ending, Fault>
@@ -219,6 +242,7 @@ fn ending_of<N: Sources, O: Outlet>(
         O.Outlet out.old out.new (told request.now).job catalog.now request.now.limits) }
     ensures stopped { IfErr result (IsStopped N.Input.Inlet (N.gives sources.old)
         (N.refuses sources.old) request.now.limits (names_of_job (told request.now).job)
+        (JobLacksHasher (H.refuses hashers.now) (told request.now).job)
         (NeedsLarge N.Input.Inlet (N.gives sources.old) ⟦<DocReader<'static> as Items>⟧
         (told request.now).job catalog.now request.now.limits) (O.has_failed out.new)) }
 {
@@ -228,23 +252,13 @@ fn ending_of<N: Sources, O: Outlet>(
         Task::Show(name) => shown(alloc, &mut sources.source(name)?, out, catalog, limits),
         Task::Convert(name, encoding) => {
             let mut source = sources.source(name)?;
-            let target = target_of(encoding);
-            converted(alloc, &mut source, out, target, catalog, limits)
+            converted(alloc, hashers, &mut source, out, encoding, catalog, limits)
         }
         Task::Compare(left, right) => {
             let mut left = sources.source(left)?;
             let mut right = sources.source(right)?;
             compared(alloc, &mut left, &mut right, out, catalog, limits)
         }
-    }
-}
-
-fn target_of(encoding: Encoding) -> Target
-    ensures { result ≡ target_of encoding }
-{
-    match encoding {
-        Encoding::Binary => Target::Binary,
-        Encoding::Text => Target::Text,
     }
 }
 
@@ -298,32 +312,67 @@ fn shown<R: Inlet, O: Outlet>(
     }
 }
 
-fn converted<R: Inlet, O: Outlet>(
+fn converted<H: Hashers, R: Inlet, O: Outlet>(
     alloc: Global,
+    hashers: &H,
     reader: &mut R,
     out: &mut O,
-    target: Target,
+    encoding: Encoding,
     catalog: &Catalog,
     limits: Limits,
 ) -> Result<Ending, Fault>
     ensures ending { IfOk result (λ ending. (answer : Result ℕ Refusal)
-        × IsConverted R.Inlet O.Outlet (encoding_of target) (documents catalog.now limits)
-        reader.old reader.new out.old out.new answer
-        × KeepsStream R.Inlet O.Outlet (encoding_of target) catalog.now limits
+        × IsConverted R.Inlet O.Outlet (encoding_of (target_of encoding))
+        (documents catalog.now limits) reader.old reader.new out.old out.new answer
+        × KeepsStream R.Inlet O.Outlet (encoding_of (target_of encoding)) catalog.now limits
         reader.old reader.new out.old out.new answer
         × EndsShown answer ending) }
     ensures passed_on { OnOk result (PassesOn O.Outlet out.old out.new) }
-    ensures so_far { OnErr result (ConvertsSoFar (encoding_of target)
+    ensures so_far { OnErr result (ConvertsSoFar (encoding_of (target_of encoding))
         (ReadSoFar R.Inlet ⟦<DocReader<'static> as Items>⟧ catalog.now limits reader.old reader.new)
         O.Outlet out.old out.new) }
     ensures cause { IfErr result (λ fault. IsReadCause R.Inlet limits.reads reader.old reader.new fault
-        ⊎ IsConvertCause (encoding_of target)
+        ⊎ IsConvertCause (encoding_of (target_of encoding))
         (ReadSoFar R.Inlet ⟦<DocReader<'static> as Items>⟧ catalog.now limits reader.old reader.new)
-        (O.has_failed out.new) fault) }
+        (O.has_failed out.new) fault
+        ⊎ (fault ≡ Fault.Read) × LacksHasher (H.refuses hashers.now) encoding) }
 {
-    match convert(alloc, reader, out, target, catalog, limits)? {
+    match conversion(alloc, hashers, reader, out, encoding, catalog, limits)? {
         Ok(_) => Ok(Ending::Accepted),
         Err(refusal) => Ok(Ending::Refused(Whose::Only, refusal)),
+    }
+}
+
+/// The answer of `convert`. A hasher is asked for where the target is binary.
+fn conversion<H: Hashers, R: Inlet, O: Outlet>(
+    alloc: Global,
+    hashers: &H,
+    reader: &mut R,
+    out: &mut O,
+    encoding: Encoding,
+    catalog: &Catalog,
+    limits: Limits,
+) -> Result<Result<u64, Refusal>, Fault>
+    ensures same { IfOk result (KeepsStream R.Inlet O.Outlet (encoding_of (target_of encoding))
+        catalog.now limits reader.old reader.new out.old out.new) }
+    ensures converted { IfOk result (IsConverted R.Inlet O.Outlet (encoding_of (target_of encoding))
+        (documents catalog.now limits) reader.old reader.new out.old out.new) }
+    ensures passed_on { OnOk result (PassesOn O.Outlet out.old out.new) }
+    ensures so_far { OnErr result (ConvertsSoFar (encoding_of (target_of encoding))
+        (ReadSoFar R.Inlet ⟦<DocReader<'static> as Items>⟧ catalog.now limits reader.old reader.new)
+        O.Outlet out.old out.new) }
+    ensures cause { IfErr result (λ fault. IsReadCause R.Inlet limits.reads reader.old reader.new fault
+        ⊎ IsConvertCause (encoding_of (target_of encoding))
+        (ReadSoFar R.Inlet ⟦<DocReader<'static> as Items>⟧ catalog.now limits reader.old reader.new)
+        (O.has_failed out.new) fault
+        ⊎ (fault ≡ Fault.Read) × LacksHasher (H.refuses hashers.now) encoding) }
+{
+    match encoding {
+        Encoding::Text => convert(alloc, reader, out, Target::Text, catalog, limits),
+        Encoding::Binary => {
+            let hasher = hashers.hasher()?;
+            convert_with_hasher(alloc, hasher, reader, out, Target::Binary, catalog, limits)
+        }
     }
 }
 

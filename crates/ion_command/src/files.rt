@@ -3,12 +3,14 @@ ghost use Rattle.std.specs.Prelude.{◌≡◌, map, drop, string_bytes, MatchRes
 ghost use Rattle.std.specs.Vec.Iter.{into_iter_items};
 ghost use Rattle.ion_command.specs.Arguments.{words_of, no_words};
 
+use crate::hashers::Hashers;
 use crate::sources::Sources;
 use ion_symtab::{Fault, FromRead, Inlet};
 use ion_words::WordsError;
 use std::alloc::{AllocError, Global};
 use std::env::Args;
 use std::fs::File;
+use std::hash::RandomState;
 use std::io;
 use std::io::{ErrorKind, Read};
 use std::rt::Stdin;
@@ -67,6 +69,32 @@ impl Sources for FileSystem<'_> {
             Err(error) if error.kind() == ErrorKind::OutOfMemory => Err(Fault::Memory),
             Err(_) => Err(Fault::Open),
         }
+    }
+}
+
+/// A hasher of a random seed of this process, which no document can have been made for.
+#[derive(Drop)]
+pub struct RandomHasher<'r> {
+    rt: &'r HostRuntime,
+}
+
+impl<'r> RandomHasher<'r> {
+    /// That of this process. The seed is drawn where the hasher is asked for.
+    pub fn new(rt: &'r HostRuntime) -> RandomHasher<'r> {
+        RandomHasher { rt }
+    }
+}
+
+impl Hashers for RandomHasher<'_> {
+    ghost use Rattle.std.specs.Prelude.{⊤};
+
+    type Hasher = RandomState;
+
+    /// It may always have none, since nothing is known of when a seed can be drawn.
+    ghost refuses = { λ _. ⊤ };
+
+    fn hasher(&self) -> Result<RandomState, Fault> {
+        RandomState::new(self.rt).map_err(|_| Fault::Read)
     }
 }
 

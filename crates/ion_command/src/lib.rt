@@ -4,12 +4,14 @@
 
 mod command;
 mod files;
+mod hashers;
 mod lines;
 mod process;
 mod sources;
 
-pub use command::{Status, refuse_words, run};
-pub use files::{FileSystem, Opened, words_given};
+pub use command::{Status, refuse_words, run, run_with_hasher};
+pub use files::{FileSystem, Opened, RandomHasher, words_given};
+pub use hashers::{FixedHasher, Hashers};
 pub use lines::Whose;
 pub use process::carry_out;
 pub use sources::Sources;

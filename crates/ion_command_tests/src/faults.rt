@@ -2,7 +2,7 @@
 //! that take nothing. `M` in a comment stands for the version marker `E0 01 00 EA`.
 use crate::answers::same;
 use ion_devices::{FrailReader, FrailWriter, NEVER};
-use ion_docs::{Target, Verdict, check, compare, convert, show};
+use ion_docs::{Side, Target, Verdict, check, compare, convert, load_catalog, show};
 use ion_model::Refusal;
 use ion_symtab::{Catalog, Fault, FromRead, Inlet, Limits, ToWrite};
 use std::alloc::Global;
@@ -21,19 +21,19 @@ fn in_pieces(octets: &[u8], size: usize, fails_at: u64) -> FromRead<FrailReader<
     })
 }
 
-/// A reader that never ends: the marker, then pads of one octet, one octet a call.
+/// A reader that never ends: these octets, then one again and again, one octet a call.
 #[derive(Drop)]
 struct Endless {
+    front: &'static [u8],
+    then: u8,
     calls: u64,
 }
 
 impl Read for Endless {
     fn read(&mut self, buf: &mut [u8]) -> io::Result<usize> {
-        let octet = match self.calls {
-            0 => 0xE0,
-            1 => 0x01,
-            3 => 0xEA,
-            _ => 0x00,
+        let octet = match self.front.get(self.calls as usize) {
+            Some(octet) => *octet,
+            None => self.then,
         };
         self.calls = self.calls.saturating_add(1);
         match buf.first_mut() {
@@ -51,32 +51,66 @@ fn one_by_one(octets: &[u8], fails_at: u64) -> FromRead<FrailReader<'_>> {
     in_pieces(octets, 1, fails_at)
 }
 
-/// What a check or a showing answers: how many values, or a refusal.
+/// What a call over one document answers: how many values it has, or a refusal.
 type Answer = Result<Result<u64, Refusal>, Fault>;
 
-/// What a check of these octets answers, where the read with this index fails.
-fn checked(
+/// A call over one document.
+#[derive(Clone, Copy, Debug)]
+enum Call {
+    Check,
+    Show,
+    ToText,
+    ToBinary,
+    Load,
+}
+
+/// What a check or a call that writes answers of these octets, where the read with this index fails.
+fn written(
     alloc: Global,
     catalog: &Catalog,
+    call: Call,
+    reader: &mut FromRead<FrailReader<'_>>,
+    limits: Limits,
+) -> Answer {
+    let mut taken = Vec::new(alloc);
+    let mut writer = ToWrite::new(&mut taken);
+    let answer = match call {
+        Call::Show => show(alloc, reader, &mut writer, catalog, limits),
+        Call::ToText => convert(alloc, reader, &mut writer, Target::Text, catalog, limits),
+        Call::ToBinary => convert(alloc, reader, &mut writer, Target::Binary, catalog, limits),
+        _ => check(alloc, reader, catalog, limits),
+    };
+    drop(writer);
+    drop(taken);
+    answer
+}
+
+/// How many tables t 1 these octets bring, or their refusal.
+fn loaded(alloc: Global, reader: &mut FromRead<FrailReader<'_>>, limits: Limits) -> Answer {
+    match load_catalog(alloc, reader, limits)? {
+        Ok(catalog) => {
+            let count = u64::from(catalog.find("t", 1).is_some());
+            drop(catalog);
+            Ok(Ok(count))
+        }
+        Err(refusal) => Ok(Err(refusal)),
+    }
+}
+
+/// What a call answers of these octets, where the read with this index fails.
+fn answered(
+    alloc: Global,
+    catalog: &Catalog,
+    call: Call,
     octets: &[u8],
     fails_at: u64,
     limits: Limits,
 ) -> Answer {
-    check(alloc, &mut one_by_one(octets, fails_at), catalog, limits)
-}
-
-/// What a showing of these octets answers, where the read with this index fails.
-fn shown(alloc: Global, catalog: &Catalog, octets: &[u8], fails_at: u64) -> Answer {
-    let mut lines = Vec::new(alloc);
-    let answer = show(
-        alloc,
-        &mut one_by_one(octets, fails_at),
-        &mut ToWrite::new(&mut lines),
-        catalog,
-        Limits::usual(),
-    );
-    drop(lines);
-    answer
+    let mut reader = one_by_one(octets, fails_at);
+    match call {
+        Call::Load => loaded(alloc, &mut reader, limits),
+        _ => written(alloc, catalog, call, &mut reader, limits),
+    }
 }
 
 /// How many values two documents have, if their streams are equivalent.
@@ -87,113 +121,224 @@ fn values_in(verdict: &Verdict) -> Option<u64> {
     }
 }
 
-/// How many values both readings of these octets have, where of each the read with this index fails.
+/// How many values two documents have whose streams are equivalent, where of each the read with this index fails.
 fn compared(
     alloc: Global,
     catalog: &Catalog,
-    octets: &[u8],
+    documents: [&[u8]; 2],
     fail_at: [u64; 2],
     limits: Limits,
 ) -> Result<Option<u64>, Fault> {
-    let mut left = one_by_one(octets, fail_at[0]);
-    let mut right = one_by_one(octets, fail_at[1]);
+    let mut left = one_by_one(documents[0], fail_at[0]);
+    let mut right = one_by_one(documents[1], fail_at[1]);
     let verdict = compare(alloc, &mut left, &mut right, catalog, limits)?;
     let values = values_in(&verdict);
     drop(verdict);
     Ok(values)
 }
 
-/// M `B3 21 05 11`, of nine reads: the octets and the end.
-const LIST: &[u8] = b"\xE0\x01\x00\xEA\xB3\x21\x05\x11";
+static CALLS: [Call; 5] = [
+    Call::Check,
+    Call::Show,
+    Call::ToText,
+    Call::ToBinary,
+    Call::Load,
+];
+
+/// `$ion_shared_symbol_table::{name:"t",version:1,symbols:["x"]}` in binary, of 19 reads: the octets and the end.
+const TABLE: &[u8] = b"\xE0\x01\x00\xEA\xED\x81\x89\xDA\x84\x81\x74\x85\x21\x01\x87\xB2\x81\x78";
 
 /// Each read in single octets fails, and the one that answers the end.
 #[test]
 fn a_read_fails(rt: HostRuntime) {
     let catalog = Catalog::new(rt.alloc());
-    for fails_at in 0..10 {
-        let wanted = if fails_at < 9 {
+    for fails_at in 0..20 {
+        let wanted = if fails_at < 19 {
             Err(Fault::Read)
         } else {
             Ok(Ok(1))
         };
-        let checked = checked(rt.alloc(), &catalog, LIST, fails_at, Limits::usual());
-        same(&rt, ("check", fails_at), checked, wanted);
-        let shown = shown(rt.alloc(), &catalog, LIST, fails_at);
-        same(&rt, ("show", fails_at), shown, wanted);
+        for call in &CALLS {
+            let limits = Limits::usual();
+            let found = answered(rt.alloc(), &catalog, *call, TABLE, fails_at, limits);
+            same(&rt, (*call, fails_at), found, wanted);
+        }
     }
     drop(catalog);
 }
 
-/// The same of either document.
+/// The same of either of two documents.
 #[test]
 fn a_read_of_two_fails(rt: HostRuntime) {
     let catalog = Catalog::new(rt.alloc());
-    for fails_at in 0..10 {
-        let wanted = if fails_at < 9 {
+    for fails_at in 0..20 {
+        let wanted = if fails_at < 19 {
             Err(Fault::Read)
         } else {
             Ok(Some(1))
         };
+        let (both, limits) = ([TABLE; 2], Limits::usual());
         let found = [
-            compared(
-                rt.alloc(),
-                &catalog,
-                LIST,
-                [fails_at, NEVER],
-                Limits::usual(),
-            ),
-            compared(
-                rt.alloc(),
-                &catalog,
-                LIST,
-                [NEVER, fails_at],
-                Limits::usual(),
-            ),
+            compared(rt.alloc(), &catalog, both, [fails_at, NEVER], limits),
+            compared(rt.alloc(), &catalog, both, [NEVER, fails_at], limits),
         ];
         same(&rt, fails_at, found, [wanted; 2]);
     }
     drop(catalog);
 }
 
-/// A check's answer, and that of a comparison of the document with itself.
-type Both = (Answer, Result<Option<u64>, Fault>);
+/// Three values, which are shown by the octets behind them and by the end.
+const THREE: &[u8] = b"1 2 3";
 
-/// What both answer to M `20 20` in single octets within so many reads.
-fn read_within(alloc: Global, catalog: &Catalog, reads: u64) -> Option<Both> {
-    let octets = b"\xE0\x01\x00\xEA\x20\x20".as_slice();
-    let limits = Limits::usual().with_reads(reads)?;
-    let checked = checked(alloc, catalog, octets, NEVER, limits);
-    let compared = compared(alloc, catalog, octets, [NEVER, NEVER], limits);
-    Some((checked, compared))
+/// Where the left side of a comparison is refused, if it is, or a fault; and how often each side was read.
+type Turns = (Result<Option<u64>, Fault>, [u64; 2]);
+
+/// At which octet the left side is refused, if it is.
+fn left_refused(verdict: &Verdict) -> Option<u64> {
+    match verdict {
+        Verdict::Refused {
+            side: Side::Left,
+            refusal,
+        } => Some(refusal.offset),
+        _ => None,
+    }
 }
 
-/// These are six reads and the one that answers the end.
+/// How these octets are compared with the three values, where of each side the read with this index fails.
+fn turns(alloc: Global, catalog: &Catalog, octets: &[u8], fail_at: [u64; 2]) -> Turns {
+    let mut left = one_by_one(octets, fail_at[0]);
+    let mut right = one_by_one(THREE, fail_at[1]);
+    let answer = match compare(alloc, &mut left, &mut right, catalog, Limits::usual()) {
+        Ok(verdict) => {
+            let refused = left_refused(&verdict);
+            drop(verdict);
+            Ok(refused)
+        }
+        Err(fault) => Err(fault),
+    };
+    (answer, [left.calls(), right.calls()])
+}
+
+/// One value of each side is read in turn, the left one first; where that is refused, the right isn't read.
+#[test]
+fn sides_are_read_in_turn(rt: HostRuntime) {
+    let catalog = Catalog::new(rt.alloc());
+    let found = [
+        turns(rt.alloc(), &catalog, b"]", [NEVER, 0]),
+        turns(rt.alloc(), &catalog, THREE, [NEVER, 0]),
+        turns(rt.alloc(), &catalog, THREE, [2, NEVER]),
+    ];
+    drop(catalog);
+    let wanted = [
+        (Ok(Some(1)), [1, 0]),
+        (Err(Fault::Read), [2, 1]),
+        (Err(Fault::Read), [3, 2]),
+    ];
+    same(&rt, "turns", found, wanted);
+}
+
+/// What a call answers of these octets, one by one, within so many reads.
+fn within(
+    alloc: Global,
+    catalog: &Catalog,
+    call: Call,
+    octets: &[u8],
+    reads: u64,
+) -> Option<Answer> {
+    let limits = Limits::usual().with_reads(reads)?;
+    Some(answered(alloc, catalog, call, octets, NEVER, limits))
+}
+
+/// Octets, so many reads, and what each call answers within them.
+static WITHIN: [(&[u8], u64, Answer); 5] = [
+    (b"1 2", 2, Err(Fault::TooManyReads)),
+    (b"1 2", 3, Err(Fault::TooManyReads)),
+    (b"1 2", 4, Ok(Ok(2))),
+    // M `20 20`
+    (b"\xE0\x01\x00\xEA\x20\x20", 6, Err(Fault::TooManyReads)),
+    (b"\xE0\x01\x00\xEA\x20\x20", 7, Ok(Ok(2))),
+];
+
+/// The octets and the end are a read each.
 #[test]
 fn reads_are_limited(rt: HostRuntime) {
     let catalog = Catalog::new(rt.alloc());
-    let six = read_within(rt.alloc(), &catalog, 6);
-    let seven = read_within(rt.alloc(), &catalog, 7);
+    for (octets, reads, wanted) in &WITHIN {
+        for call in &CALLS[..4] {
+            let found = within(rt.alloc(), &catalog, *call, octets, *reads);
+            same(&rt, (*call, *octets, *reads), found, Some(*wanted));
+        }
+    }
+    let last = Call::Load;
+    let found = [
+        within(rt.alloc(), &catalog, last, TABLE, 18),
+        within(rt.alloc(), &catalog, last, TABLE, 19),
+    ];
     drop(catalog);
-    let fault = Fault::TooManyReads;
-    same(&rt, 6, six, Some((Err(fault), Err(fault))));
-    same(&rt, 7, seven, Some((Ok(Ok(2)), Ok(Some(2)))));
+    let wanted = [Some(Err(Fault::TooManyReads)), Some(Ok(Ok(1)))];
+    same(&rt, last, found, wanted);
+}
+
+/// What a comparison of two documents, octet by octet, answers within so many reads of each.
+fn compared_within(
+    alloc: Global,
+    catalog: &Catalog,
+    documents: [&[u8]; 2],
+    reads: u64,
+) -> Option<Result<Option<u64>, Fault>> {
+    let limits = Limits::usual().with_reads(reads)?;
+    Some(compared(alloc, catalog, documents, [NEVER; 2], limits))
+}
+
+/// Two documents, so many reads of each, and what a comparison answers within them.
+static BOTH_WITHIN: [([&[u8]; 2], u64, Result<Option<u64>, Fault>); 6] = [
+    ([b"1 2", b"1"], 3, Err(Fault::TooManyReads)),
+    ([b"1", b"1 2"], 3, Err(Fault::TooManyReads)),
+    ([b"1 2", b"1"], 4, Ok(None)),
+    ([b"1", b"1 2"], 4, Ok(None)),
+    ([b"1 2", b"1 2"], 3, Err(Fault::TooManyReads)),
+    ([b"1 2", b"1 2"], 4, Ok(Some(2))),
+];
+
+/// Of either side.
+#[test]
+fn reads_of_two_are_limited(rt: HostRuntime) {
+    let catalog = Catalog::new(rt.alloc());
+    for (documents, reads, wanted) in &BOTH_WITHIN {
+        let found = compared_within(rt.alloc(), &catalog, *documents, *reads);
+        same(&rt, (*documents, *reads), found, Some(*wanted));
+    }
+    drop(catalog);
 }
 
 /// What a check within a thousand reads answers of a reader that never ends, and how many there were.
-fn check_endless(alloc: Global, catalog: &Catalog) -> Option<(Answer, u64)> {
+fn check_endless(
+    alloc: Global,
+    catalog: &Catalog,
+    front: &'static [u8],
+    then: u8,
+) -> Option<(Answer, u64)> {
     let limits = Limits::usual().with_reads(1000)?;
-    let mut endless = FromRead::new(Endless { calls: 0 });
+    let mut endless = FromRead::new(Endless {
+        front,
+        then,
+        calls: 0,
+    });
     let checked = check(alloc, &mut endless, catalog, limits);
     Some((checked, endless.calls()))
 }
 
+/// Spaces without an end, and behind the marker pads of one octet.
 #[test]
 fn endless_reads_are_limited(rt: HostRuntime) {
     let catalog = Catalog::new(rt.alloc());
-    let found = check_endless(rt.alloc(), &catalog);
+    let found = [
+        check_endless(rt.alloc(), &catalog, b"", b' '),
+        check_endless(rt.alloc(), &catalog, b"\xE0\x01\x00\xEA", 0),
+    ];
     drop(catalog);
     let wanted = Some((Err(Fault::TooManyReads), 1000));
-    same(&rt, "endless", found, wanted);
+    same(&rt, "endless", found, [wanted; 2]);
 }
 
 /// What a conversion of M `21 01 21 02` answers whose writer takes no octet, and how many it took.

@@ -484,12 +484,15 @@ fn nothing_is_taken(rt: HostRuntime) {
     }
 }
 
-/// The status of a row, and how long the output and the errors are. Takes no memory of its own.
-fn lengths_of(alloc: Global, row: &Row) -> (u8, u64, u64) {
-    let mut out_room = [0u8; 64];
-    let mut err_room = [0u8; 256];
-    let mut out = io::Cursor::new(out_room.as_mut_slice());
-    let mut err = io::Cursor::new(err_room.as_mut_slice());
+/// The status of a row, and how much goes to these places for the output and the errors. Takes no memory of its own.
+fn run_in_place(
+    alloc: Global,
+    row: &Row,
+    out: &mut [u8; 64],
+    err: &mut [u8; 256],
+) -> (u8, u64, u64) {
+    let mut out = io::Cursor::new(out.as_mut_slice());
+    let mut err = io::Cursor::new(err.as_mut_slice());
     let status = run(
         alloc,
         row.words,
@@ -500,21 +503,21 @@ fn lengths_of(alloc: Global, row: &Row) -> (u8, u64, u64) {
     (status, out.position(), err.position())
 }
 
-/// The status of a row, whose lines are as long as they should be where memory sufficed.
+/// The status of a row, whose lines are its own; or those of want of memory, behind a front of its output.
 fn status_of(rt: &impl Abort, alloc: Global, row: &Row) -> u8 {
-    let (status, out, err) = lengths_of(alloc, row);
-    let whole = row.out.len() as u64;
-    if status == row.status {
-        same(rt, row.words, (out, err), (whole, row.err.len() as u64));
+    let mut out_room = [0u8; 64];
+    let mut err_room = [0u8; 256];
+    let (status, out, err) = run_in_place(alloc, row, &mut out_room, &mut err_room);
+    let (out, err) = (out as usize, err as usize);
+    let (whole, wanted) = if status == row.status {
+        (row.out.len(), (row.status, row.err.as_bytes()))
     } else {
-        let found = (status, out <= whole, err);
-        same(
-            rt,
-            row.words,
-            found,
-            (4, true, "fault Memory\n".len() as u64),
-        );
-    }
+        (out, (4, b"fault Memory\n".as_slice()))
+    };
+    let front = row.out.as_bytes().get(..whole);
+    same(rt, row.words, out_room.get(..out), front);
+    let found = (status, err_room.get(..err).unwrap_or(&[]));
+    same(rt, row.words, found, wanted);
     status
 }
 

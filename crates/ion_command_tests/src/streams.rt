@@ -2,8 +2,8 @@
 //! `E0 01 00 EA`; names are those of the system symbols 4 to 9.
 use crate::answers::{same, same_or_starved};
 use ion_devices::{FrailReader, NEVER};
-use ion_docs::{Verdict, compare, load_catalog, path_text, read_all};
-use ion_model::{Kind, Path, Reason, Value};
+use ion_docs::{Verdict, compare, load_catalog, path_text, read_all, read_document};
+use ion_model::{Kind, Path, Reason, Refusal, Value};
 use ion_symtab::{Catalog, Fault, FromRead, Limits, SharedTable};
 use std::alloc::Global;
 use std::io::ErrorKind;
@@ -185,13 +185,20 @@ fn kinds(values: &[Value]) -> (usize, Option<Kind>, Option<Kind>) {
 
 /// The kinds of the values of a document cut behind the first `first` octets, under this catalog.
 fn read(alloc: Global, catalog: &Catalog, octets: &[u8], first: usize) -> Result<Kinds, Fault> {
-    match read_all(alloc, &mut in_two(octets, first), catalog, Limits::usual())? {
+    let limits = Limits::usual();
+    let answer = read_document(alloc, &mut in_two(octets, first), catalog, limits)?;
+    Ok(kinds_or_offset(answer))
+}
+
+/// The kinds, or the offset of a refusal.
+fn kinds_or_offset(answer: Result<Vec<Value>, Refusal>) -> Kinds {
+    match answer {
         Ok(values) => {
             let kinds = kinds(values.as_slice());
             drop(values);
-            Ok(Ok(kinds))
+            Ok(kinds)
         }
-        Err(refusal) => Ok(Err(refusal.offset)),
+        Err(refusal) => Err(refusal.offset),
     }
 }
 
@@ -209,9 +216,11 @@ static READ: [(&[u8], Kinds); 4] = [
     (b"\xE0\x01\x00\xEA\x20\x13", Err(6)),
 ];
 
-/// A document has values of these kinds, at every single cut.
+/// A document has values of these kinds, in memory and at every single cut.
 fn reads_so(rt: &impl Abort, alloc: Global, octets: &[u8], wanted: Kinds) {
     let catalog = Catalog::new(alloc);
+    let found = kinds_or_offset(read_all(alloc, octets, &catalog, Limits::usual()));
+    same(rt, octets, found, wanted);
     for first in 1..=octets.len() + 1 {
         let found = read(alloc, &catalog, octets, first);
         same(rt, (octets, first), found, Ok(wanted));

@@ -57,7 +57,7 @@ static WITH_OPTIONS: [Row; 3] = [
     },
 ];
 
-static REFUSED: [&[&str]; 36] = [
+static REFUSED: [&[&str]; 39] = [
     &["frob"],
     &["a"],
     &[""],
@@ -80,6 +80,9 @@ static REFUSED: [&[&str]; 36] = [
     &["check", "a", "--depth", "18446744073709551617"],
     &["check", "a", "--depth=-3"],
     &["check", "a", "--depth", "3x"],
+    &["check", "a", "--depth", " 3"],
+    &["check", "a", "--depth", "+"],
+    &["check", "a", "--item=3 "],
     &["check", "a", "--item", "0"],
     &["check", "a", "--item", "1073741825"],
     &["compare", "-", "-"],

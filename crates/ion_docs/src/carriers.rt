@@ -10,6 +10,7 @@ use crate::writers::Encoder;
 use ion_binary::{BinaryWriter, Carried};
 use ion_streams::Source;
 use ion_symtab::{Fault, Items, Outlet};
+use std::hash::BuildHasher;
 
 /// A way from a reader to an encoder.
 pub(crate) trait Carrier<I: Items, E: Encoder> {
@@ -46,11 +47,11 @@ impl<I: Items, E: Encoder> Carrier<I, E> for Building {
 /// From binary to binary, octets are written as they are read.
 pub(crate) struct Transcribing;
 
-impl Carrier<DocReader<'_>, BinaryWriter> for Transcribing {
+impl<S: BuildHasher + Drop> Carrier<DocReader<'_>, BinaryWriter<S>> for Transcribing {
     fn carry<W: Outlet>(
         items: &mut DocReader<'_>,
         piece: &[u8],
-        encoder: &mut BinaryWriter,
+        encoder: &mut BinaryWriter<S>,
         out: &mut W,
     ) -> Option<Carried> {
         items.carry(piece, encoder, out)

@@ -1,5 +1,5 @@
 //! Catalogs from documents.
-ghost use Rattle.std.specs.Prelude.{[], IfOk, IfErr};
+ghost use Rattle.std.specs.Prelude.{◌+◌, ◌≤◌, [], IfOk, IfErr};
 ghost use Rattle.ion_symtab.specs.Cause.{IsReadCause};
 ghost use Rattle.ion_docs.specs.Formats.{documents};
 ghost use Rattle.ion_streams.specs.Loaded.{IsLoaded};
@@ -27,6 +27,7 @@ pub fn load_catalog<R: Inlet>(
     limits: Limits,
 ) -> Result<Result<Catalog, Refusal>, Fault>
     ensures loaded { IfOk result (IsLoaded R.Inlet (documents [] limits) reader.old reader.new) }
+    ensures few_calls { R.calls_made reader.new ≤ R.calls_made reader.old + limits.reads }
     ensures cause { IfErr result (IsReadCause R.Inlet limits.reads reader.old reader.new) }
 {
     let none = Catalog::new(alloc);

@@ -15,6 +15,7 @@ use ion_symtab::{Catalog, Items, Limits, Outlet, Passed, Step};
 use ion_text::TextReader;
 use std::alloc::Global;
 use std::fmt::{self, Debug, Formatter};
+use std::hash::BuildHasher;
 use std::mem;
 
 /// The first octet of a binary document, and of no text.
@@ -136,10 +137,10 @@ impl<'a> DocReader<'a> {
 impl<'a> DocReader<'a> {
     /// Takes up the octets of the value at the front of a piece and writes it, without building it, as
     /// `BinaryReader::carry` does. `None`, with all as it was, also where the document isn't binary.
-    pub(crate) fn carry<W: Outlet>(
+    pub(crate) fn carry<S: BuildHasher + Drop, W: Outlet>(
         &mut self,
         piece: &[u8],
-        writer: &mut BinaryWriter,
+        writer: &mut BinaryWriter<S>,
         out: &mut W,
     ) -> Option<Carried>
         requires room { taken_of self.old.format + length piece.now < 2 ^ 63 }

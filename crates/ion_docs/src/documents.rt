@@ -1,5 +1,5 @@
 //! Whole documents of either encoding, under one catalog and limits.
-ghost use Rattle.std.specs.Prelude.{◌≡◌, ◌⊎◌, false, IfOk, IfErr, OnOk, OnErr};
+ghost use Rattle.std.specs.Prelude.{◌≡◌, ◌+◌, ◌≤◌, ◌⊎◌, false, IfOk, IfErr, OnOk, OnErr};
 ghost use Rattle.ion_symtab.specs.Cause.{IsReadCause};
 ghost use Rattle.ion_docs.specs.Encodings.{encoding_of};
 ghost use Rattle.ion_docs.specs.Formats.{documents};
@@ -9,15 +9,17 @@ ghost use Rattle.ion_docs.specs.Conversion.{KeepsStream};
 ghost use Rattle.ion_docs.specs.Converted.{IsConverted, ReadSoFar, ConvertsSoFar, IsConvertCause};
 ghost use Rattle.ion_streams.specs.Listing.{IsShown, IsWriteCause, ShowsSoFar};
 
+use crate::alongside::SideBySide;
 use crate::carriers::Transcribing;
 use crate::conversion::{Target, convert_by, convert_items};
 use crate::doc_reader::DocReader;
 use ion_binary::BinaryWriter;
 use ion_model::Refusal;
-use ion_streams::{Verdict, check_items, compare_items, show_items};
+use ion_streams::{Verdict, check_items, compare_by, show_items};
 use ion_symtab::{Catalog, Fault, Inlet, Items, Limits, Outlet};
 use ion_text::TextWriter;
 use std::alloc::Global;
+use std::hash::{BuildHasher, BuildHasherDefault, FoldHasher};
 
 /// How many values a document has (Ion 1.0, "The Ion Data Model"): the length of the stream that
 /// the octets of `reader` denote, or their refusal, where they are no document within `limits`.
@@ -36,6 +38,7 @@ pub fn check<R: Inlet>(
 ) -> Result<Result<u64, Refusal>, Fault>
     ensures verdict { IfOk result (IsChecked R.Inlet (documents catalog.now limits)
         reader.old reader.new) }
+    ensures few_calls { R.calls_made reader.new ≤ R.calls_made reader.old + limits.reads }
     ensures cause { IfErr result (IsReadCause R.Inlet limits.reads reader.old reader.new) }
 {
     let items = DocReader::new(alloc, catalog, limits).map_err(|_| Fault::Memory)?;
@@ -62,6 +65,7 @@ pub fn show<R: Inlet, W: Outlet>(
     ensures fine { OnOk result (W.has_failed writer.new ≡ false) }
     ensures so_far { OnErr result (ShowsSoFar R.Inlet ⟦<DocReader<'static> as Items>⟧ W.Outlet
         catalog.now limits reader.old reader.new writer.old writer.new) }
+    ensures few_calls { R.calls_made reader.new ≤ R.calls_made reader.old + limits.reads }
     ensures cause { IfErr result (λ fault.
         IsReadCause R.Inlet limits.reads reader.old reader.new fault
         ⊎ IsWriteCause W.Outlet writer.new fault) }
@@ -80,8 +84,40 @@ pub fn show<R: Inlet, W: Outlet>(
 /// is written, which denotes just those. The writer is flushed last, on a refusal too. At a fault some first octets of the
 /// conversion of the values read so far were written. Faults: those of `check`, `Write` where a write or
 /// the flush failed, and `TooLarge` where a symbol in binary would need an id above 2^31-1.
+///
+/// Ids are found by a hash of a fixed seed, which is for documents that are trusted: texts that are chosen to
+/// collide make it slow. `convert_with_hasher` is for other ones.
 pub fn convert<R: Inlet, W: Outlet>(
     alloc: Global,
+    reader: &mut R,
+    writer: &mut W,
+    target: Target,
+    catalog: &Catalog,
+    limits: Limits,
+) -> Result<Result<u64, Refusal>, Fault>
+    ensures same { IfOk result (KeepsStream R.Inlet W.Outlet (encoding_of target) catalog.now limits
+        reader.old reader.new writer.old writer.new) }
+    ensures converted { IfOk result (IsConverted R.Inlet W.Outlet (encoding_of target)
+        (documents catalog.now limits) reader.old reader.new writer.old writer.new) }
+    ensures passed_on { OnOk result (W.passed writer.new ≡ W.written writer.new) }
+    ensures fine { OnOk result (W.has_failed writer.new ≡ false) }
+    ensures so_far { OnErr result (ConvertsSoFar (encoding_of target)
+        (ReadSoFar R.Inlet ⟦<DocReader<'static> as Items>⟧ catalog.now limits reader.old reader.new)
+        W.Outlet writer.old writer.new) }
+    ensures cause { IfErr result (λ fault.
+        IsReadCause R.Inlet limits.reads reader.old reader.new fault
+        ⊎ IsConvertCause (encoding_of target)
+        (ReadSoFar R.Inlet ⟦<DocReader<'static> as Items>⟧ catalog.now limits reader.old reader.new)
+        (W.has_failed writer.new) fault) }
+{
+    let hasher = BuildHasherDefault::<FoldHasher>::new();
+    convert_with_hasher(alloc, hasher, reader, writer, target, catalog, limits)
+}
+
+/// The same, where this hasher finds the ids of symbols in a binary document. What is written is the same.
+pub fn convert_with_hasher<H: BuildHasher + Drop, R: Inlet, W: Outlet>(
+    alloc: Global,
+    hasher: H,
     reader: &mut R,
     writer: &mut W,
     target: Target,
@@ -106,9 +142,9 @@ pub fn convert<R: Inlet, W: Outlet>(
     let items = DocReader::new(alloc, catalog, limits).map_err(|_| Fault::Memory)?;
     match target {
         Target::Binary => {
-            let encoder = BinaryWriter::new(alloc)?;
+            let encoder = BinaryWriter::with_hasher(alloc, hasher)?;
             let reads = limits.reads();
-            convert_by::<Transcribing, BinaryWriter, DocReader<'_>, R, W>(
+            convert_by::<Transcribing, BinaryWriter<H>, DocReader<'_>, R, W>(
                 alloc, encoder, items, reads, reader, writer,
             )
         }
@@ -141,11 +177,21 @@ pub fn compare<L: Inlet, R: Inlet>(
     ensures verdict { IfOk result (IsCompared L.Inlet R.Inlet
         (documents catalog.now limits) (documents catalog.now limits)
         left.old left.new right.old right.new) }
+    ensures few_calls { (L.calls_made left.new ≤ L.calls_made left.old + limits.reads)
+        × (R.calls_made right.new ≤ R.calls_made right.old + limits.reads) }
     ensures cause { IfErr result (λ fault.
         IsReadCause L.Inlet limits.reads left.old left.new fault
         ⊎ IsReadCause R.Inlet limits.reads right.old right.new fault) }
 {
     let left_items = DocReader::new(alloc, catalog, limits).map_err(|_| Fault::Memory)?;
     let right_items = DocReader::new(alloc, catalog, limits).map_err(|_| Fault::Memory)?;
-    compare_items(alloc, limits.reads(), left_items, left, right_items, right)
+    let reads = limits.reads();
+    compare_by::<SideBySide, DocReader<'_>, DocReader<'_>, L, R>(
+        alloc,
+        reads,
+        left_items,
+        left,
+        right_items,
+        right,
+    )
 }

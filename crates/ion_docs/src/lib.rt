@@ -2,6 +2,7 @@
 //! equivalent streams, and the conversion of one.
 #![tactic(auto)]
 
+mod alongside;
 mod carriers;
 mod catalogs;
 mod conversion;
@@ -15,10 +16,10 @@ mod writers;
 pub use catalogs::load_catalog;
 pub use conversion::{Target, convert_items};
 pub use doc_reader::DocReader;
-pub use documents::{check, compare, convert, show};
+pub use documents::{check, compare, convert, convert_with_hasher, show};
 pub use ion_streams::{
-    Side, Verdict, check_items, compare_items, load_items, read_items, show_items,
+    Side, Verdict, check_items, compare_items, load_items, read_items, read_octets, show_items,
 };
 pub use paths::path_text;
-pub use whole::read_all;
+pub use whole::{read_all, read_document};
 pub use writers::Encoder;

@@ -1,23 +1,48 @@
 //! All values of a document.
-ghost use Rattle.std.specs.Prelude.{List, IfOk, IfErr, MatchResult};
+ghost use Rattle.std.specs.Prelude.{◌≡◌, ◌≢◌, ◌+◌, ◌^◌, ◌<◌, ◌≤◌, List, length, IfOk, IfErr, MatchResult};
 ghost use Rattle.ion_model.specs.declared.value.Value.{Value};
+ghost use Rattle.ion_atoms.specs.declared.refusal.Reason.TheVariants as reasons;
 ghost use Rattle.ion_symtab.specs.Cause.{IsReadCause};
+ghost use Rattle.ion_docs.specs.Documents.{Denotes};
 ghost use Rattle.ion_docs.specs.Formats.{documents};
-ghost use Rattle.ion_streams.specs.Outcomes.{ToldDocument, ToldRefused};
+ghost use Rattle.ion_streams.specs.Outcomes.{IsRefused, ToldDocument, ToldRefused};
 
 use crate::doc_reader::DocReader;
 use ion_model::{Refusal, Value};
-use ion_streams::read_items;
+use ion_streams::{read_items, read_octets};
 use ion_symtab::{Catalog, Fault, Inlet, Limits};
 use std::alloc::Global;
 
-/// All values of a document in order: the stream that the octets of `reader` denote (Ion 1.0, "The Ion
-/// Data Model"), or their refusal, where they are no document within `limits`.
+/// All values of a document in order: the stream that the octets denote (Ion 1.0, "The Ion Data Model"), or
+/// their refusal, where they are no document within `limits`.
 ///
-/// Shared symbol tables are ordinary values here, and local ones are none. Refusals and faults are those
-/// of `check`. The answer is right about whatever octets begin with those that `reader` handed over
-/// during the call, and end there where it answered its end.
-pub fn read_all<R: Inlet>(
+/// Shared symbol tables are ordinary values here, and local ones are none. The offset of a refusal counts
+/// octets with which no document begins, or all of them. `Memory`, where a growth was refused, alone says
+/// nothing of the octets.
+pub fn read_all(
+    alloc: Global,
+    octets: &[u8],
+    catalog: &Catalog,
+    limits: Limits,
+) -> Result<Vec<Value>, Refusal>
+    requires few { length octets.now < 2 ^ 63 }
+    ensures stream { IfOk result (λ values. Denotes catalog.now limits octets.now values.items) }
+    ensures refused { IfErr result (λ refusal. refusal.reason ≢ reasons.Memory → (s : List Value)
+        × IsRefused (documents catalog.now limits) octets.now s refusal) }
+    ensures memory { IfErr result (λ refusal. refusal.reason ≡ reasons.Memory →
+        refusal.offset ≤ length octets.now) }
+{
+    match DocReader::new(alloc, catalog, limits) {
+        Ok(items) => read_octets(alloc, items, octets),
+        Err(reason) => Err(Refusal { offset: 0, reason }),
+    }
+}
+
+/// The same of the octets of `reader`.
+///
+/// Refusals and faults are those of `check`. The answer is right about whatever octets begin with those that
+/// `reader` handed over during the call, and end there where it answered its end.
+pub fn read_document<R: Inlet>(
     alloc: Global,
     reader: &mut R,
     catalog: &Catalog,
@@ -26,6 +51,7 @@ pub fn read_all<R: Inlet>(
     ensures stream { let F = documents catalog.now limits in IfOk result (λ answer. MatchResult answer
         (λ values. ToldDocument R.Inlet F reader.old reader.new values.items)
         (λ refusal. (s : List Value) × ToldRefused R.Inlet F reader.old reader.new s refusal)) }
+    ensures few_calls { R.calls_made reader.new ≤ R.calls_made reader.old + limits.reads }
     ensures cause { IfErr result (IsReadCause R.Inlet limits.reads reader.old reader.new) }
 {
     let items = DocReader::new(alloc, catalog, limits).map_err(|_| Fault::Memory)?;

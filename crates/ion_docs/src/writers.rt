@@ -9,6 +9,7 @@ use ion_binary::BinaryWriter;
 use ion_model::Value;
 use ion_symtab::{Fault, Outlet};
 use ion_text::TextWriter;
+use std::hash::BuildHasher;
 
 /// A writer of documents in one encoding, to which the values of a stream come one after another.
 pub trait Encoder {
@@ -57,7 +58,7 @@ pub trait Encoder {
     ghost fronts: { (s : List Value) → IsFrontOf (puts s) (encoding.document s) };
 }
 
-impl Encoder for BinaryWriter {
+impl<S: BuildHasher + Drop> Encoder for BinaryWriter<S> {
     ghost use Rattle.std.specs.Prelude.{None};
     ghost use Rattle.ion_binary.specs.Output.{nothing_yet};
     ghost use Rattle.ion_binary.specs.writer.Puts.{puts as binary_puts, behind};

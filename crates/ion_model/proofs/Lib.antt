@@ -8,3 +8,6 @@ pub mod Options
 pub mod PartingLaws
 pub mod PartingLeast
 pub mod PartingOne
+pub mod NormalSome
+pub mod PathSome
+pub mod PathEnds

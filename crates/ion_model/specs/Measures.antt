@@ -1,5 +1,5 @@
 -- How deep a value goes, and of how many nodes it is made.
-use Rattle.std.specs.Prelude.{ℕ, suc, max, ◌+◌, List, [], ◌∷◌, Option, length, sum}
+use Rattle.std.specs.Prelude.{ℕ, suc, max, ◌+◌, List, [], ◌∷◌, Option, length, map, sum}
 use Rattle.ion_model.specs.declared.value.Value.{Value}
 use Rattle.ion_model.specs.declared.value.Field.{Field}
 use Rattle.ion_model.specs.declared.value.Payload.{Payload}
@@ -39,6 +39,13 @@ depth_step _ = 0
 unfoldable pub depth : Value → ℕ
 depth v = fold-Value ℕ ℕ ℕ depth_step (λ f. f.value) (λ v. v.payload) v
 
+-- the same by one level
+abbrev pub layer_depth : Layer → ℕ
+layer_depth (Payload-F.List vs) = suc (greatest (map depth vs))
+layer_depth (Payload-F.Sexp vs) = suc (greatest (map depth vs))
+layer_depth (Payload-F.Fields fs) = suc (greatest (map (λ f. depth f.value) fs))
+layer_depth _ = 0
+
 -- of one level, in which each value inside is its number of nodes already
 abbrev pub nodes_step : Payload-F ℕ ℕ ℕ → ℕ
 nodes_step (Payload-F.List vs) = suc (sum vs)
@@ -49,3 +56,10 @@ nodes_step _ = 1
 -- how many nodes a value has: one for each value, annotation and field name in it, itself counted
 unfoldable pub nodes : Value → ℕ
 nodes v = fold-Value ℕ ℕ ℕ nodes_step (λ f. suc f.value) (λ v. length v.annotations + v.payload) v
+
+-- the same by one level, but for the annotations
+abbrev pub layer_nodes : Layer → ℕ
+layer_nodes (Payload-F.List vs) = suc (sum (map nodes vs))
+layer_nodes (Payload-F.Sexp vs) = suc (sum (map nodes vs))
+layer_nodes (Payload-F.Fields fs) = suc (sum (map (λ f. suc (nodes f.value)) fs))
+layer_nodes _ = 1

@@ -1,6 +1,6 @@
 -- Where two values that aren't equivalent part: the path from them down to two values that differ in annotations, kind,
 -- nullness or scalar, or to an item that one side lacks, or to a name whose values stand in different numbers.
-use Rattle.std.specs.Prelude.{ℕ, List, [], ◌∷◌, ◌+◌, ◌≡◌, ◌≢◌, take, drop, Bool, true, false, ◌&&◌, Option, Some, None}
+use Rattle.std.specs.Prelude.{ℕ, List, [], ◌∷◌, ◌+◌, ◌-◌, ◌≡◌, ◌≢◌, take, drop, Bool, true, false, ◌&&◌, Option, Some, None}
 use Rattle.std.specs.List.{filter}
 use Rattle.std.specs.Ordering.{is_lt}
 use lib.Pointwise.{pointwise}
@@ -20,6 +20,12 @@ heads_same v w = pointwise symbol_same v.annotations w.annotations && scalar_sam
 -- a field stands in different numbers among these
 abbrev pub IsParted : List Field → List Field → Field → Type 0
 IsParted fs gs f = field_count same fs f ≢ field_count same gs f
+
+-- s is a name with which some value stands in different numbers
+pub record IsPartedName (fs gs : List Field) (s : Option (List ℕ)) : Type 0 where
+  pub field : Field
+  pub named : field.name ≡ s
+  pub parted : IsParted fs gs field
 
 -- s is the least name with which some value stands in different numbers
 pub record LeastParting (fs gs : List Field) (s : Option (List ℕ)) : Type 0 where
@@ -53,6 +59,12 @@ module _ (rest : List Part) (Leads : Value → Value → Type 0) where
   AtFields (Some f) None = rest ≡ []
   AtFields None _ = rest ≡ []
 
+  -- the same, where N holds of the name if it stands otherwise than once in both
+  abbrev pub AtNamed : Type 0 → Option Field → Option Field → Type 0
+  AtNamed N (Some f) (Some g) = Leads f.value g.value
+  AtNamed N (Some f) None = (rest ≡ []) × N
+  AtNamed N None _ = (rest ≡ []) × N
+
   -- the items part first at number n, counted from 1
   pub record ItemsPart (n : ℕ) (vs ws : List Value) : Type 0 where
     pub before : ℕ
@@ -73,6 +85,17 @@ module _ (rest : List Part) (Leads : Value → Value → Type 0) where
 abbrev pub IsPath : List Part → Value → Value → Type 0
 IsPath [] v w = heads_same v w ≡ false
 IsPath (part ∷ rest) v w = (heads_same v w ≡ true) × PartAt rest (IsPath rest) part (out-Payload v.payload) (out-Payload w.payload)
+
+-- what stands at the end of a path truly differs: two values that aren't equivalent, an item that one side lacks, or the
+-- values of one name, of which one stands in different numbers
+abbrev pub EndsApart : List Part → Value → Value → Type 0
+EndsApart [] v w = same v w ≡ false
+EndsApart (parts.Item n ∷ rest) v w =
+    AtItems rest (EndsApart rest) (drop (n - 1) (items (out-Payload v.payload))) (drop (n - 1) (items (out-Payload w.payload)))
+EndsApart (parts.Name s ∷ rest) v w =
+    let fs = fields (out-Payload v.payload) in
+    let gs = fields (out-Payload w.payload) in
+    AtNamed rest (EndsApart rest) (IsPartedName fs gs s) (once_named s fs) (once_named s gs)
 
 -- what the answer of `parting` says
 abbrev pub IsParting : Option (List Part) → Value → Value → Type 0

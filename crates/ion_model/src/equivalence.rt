@@ -1,5 +1,6 @@
 //! Whether two values are equivalent, by normal forms of structs.
-ghost use Rattle.std.specs.Prelude.{◌≡◌, IfOk, MatchResult};
+ghost use Rattle.std.specs.Prelude.{◌≡◌, true, Ok, MatchResult};
+ghost use Rattle.std.specs.declared.cmp.Ordering.TheVariants.{Equal};
 ghost use Rattle.std.specs.Ordering.{is_eq};
 ghost use Rattle.std.specs.Cmp.Lexicographic.{slice_cmp};
 ghost use lib.Pointwise.{pointwise};
@@ -23,7 +24,8 @@ use std::alloc::Global;
 /// their structs; two structs of n fields each are copied, their fields sorted, inner levels first, and
 /// then compared, which costs some n log n comparisons of fields. Calls itself once for each level.
 pub fn equivalent(alloc: Global, a: &Value, b: &Value) -> Result<bool, Reason>
-    ensures { MatchResult result (λ r. r ≡ same a.now b.now) (λ e. e ≡ reasons.Memory) }
+    ensures same { MatchResult result (λ r. r ≡ same a.now b.now) (λ e. e ≡ reasons.Memory) }
+    ensures free { order a.now b.now ≡ Equal → result ≡ Ok true }
 {
     if order(a, b).is_eq() {
         return Ok(true);

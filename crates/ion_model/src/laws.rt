@@ -1,18 +1,20 @@
 //! Laws of equivalence, of the order and of normal forms. Each stands on an empty function: its
 //! contract is the law.
-ghost use Rattle.std.specs.Prelude.{◌≡◌, ◌↔◌, ℕ, List, Option, false, IsTrue, IsPermutation};
+ghost use Rattle.std.specs.Prelude.{◌≡◌, ◌+◌, ◌↔◌, ℕ, List, Option, length, false, IsTrue, IsPermutation};
 ghost use Rattle.std.specs.Cmp.{IsTotalOrder};
 ghost use Rattle.std.specs.declared.cmp.Ordering.TheVariants.{Equal};
 ghost use lib.Pointwise.{pointwise};
-ghost use Rattle.ion_model.specs.Measures.{annotated};
+ghost use Rattle.ion_atoms.specs.Timestamps.{TimestampParts, IsTimestamp, instant, timestamp_same};
+ghost use Rattle.ion_model.specs.Measures.{annotated, depth, nodes, layer_depth, layer_nodes};
 ghost use Rattle.ion_model.specs.Same.{same, value_same, field_same};
 ghost use Rattle.ion_model.specs.Order.{order, value_cmp};
-ghost use Rattle.ion_model.specs.Normal.{IsNormal};
-ghost use Rattle.ion_model.specs.Parting.{IsPath};
+ghost use Rattle.ion_model.specs.Normal.{IsNormal, LayerNormal};
+ghost use Rattle.ion_model.specs.Parting.{IsPath, EndsApart};
 ghost use Rattle.ion_model.specs.declared.path.Part.{Part};
 ghost use Rattle.ion_model.specs.declared.value.Value.{Value};
 ghost use Rattle.ion_model.specs.declared.value.Field.{Field};
 ghost use Rattle.ion_model.specs.declared.value.Payload.TheVariants as payloads;
+ghost use Rattle.ion_model.specs.declared.value.Payload.TheViews.{out-Payload};
 
 /// Two values are equivalent where one level of them says so, with equivalence itself as the test of
 /// the values inside.
@@ -25,6 +27,13 @@ pub fn equivalence()
     ensures reflexive { (v : Value) → IsTrue (same v v) }
     ensures symmetric { (v w : Value) → IsTrue (same v w) → IsTrue (same w v) }
     ensures transitive { (u v w : Value) → IsTrue (same u v) → IsTrue (same v w) → IsTrue (same u w) }
+{}
+
+/// Timestamps are the same just where precision, offset and instant agree (Ion 1.0, "The Ion Data Model",
+/// timestamps).
+pub fn timestamps_by_instant()
+    ensures { (s t : TimestampParts) → IsTimestamp s → IsTimestamp t → IsTrue (timestamp_same s t)
+        ↔ ((s.precision ≡ t.precision) × (s.offset ≡ t.offset) × (instant s ≡ instant t)) }
 {}
 
 /// Replacing parts by equivalent ones gives an equivalent value.
@@ -55,16 +64,32 @@ pub fn total_order()
     ensures apart { (v w : Value) → (order v w ≡ Equal) ↔ (v ≡ w) }
 {}
 
-/// Two normal forms are equivalent just where the order ties them, and then they are equal: to take the
-/// normal form of a normal form changes nothing.
+/// How deep a value goes, and of how many nodes it is, by what one level of it says of the values inside.
+pub fn measures_by_level()
+    ensures depth { (v : Value) → depth v ≡ layer_depth (out-Payload v.payload) }
+    ensures nodes { (v : Value) →
+        nodes v ≡ length v.annotations + layer_nodes (out-Payload v.payload) }
+{}
+
+/// A value is a normal form where the values inside are, and its fields stand in order.
+pub fn normal_by_level()
+    ensures { (v : Value) → IsNormal v ↔ LayerNormal (out-Payload v.payload) }
+{}
+
+/// Each value has a normal form. Two normal forms are equivalent just where the order ties them, and then
+/// they are equal: to take the normal form of a normal form changes nothing.
 pub fn normal_forms()
+    ensures some { (v : Value) → (w : Value) × IsNormal w × IsTrue (same w v) }
     ensures ties { (v w : Value) → IsNormal v → IsNormal w → IsTrue (same v w) ↔ (order v w ≡ Equal) }
     ensures one { (v w : Value) → IsNormal v → IsNormal w → IsTrue (same v w) → v ≡ w }
 {}
 
-/// Two values that have a path aren't equivalent, so that something truly differs at its end; and they
-/// have no other path.
+/// Two values have a path just where they aren't equivalent, and one alone. What stands at its end truly
+/// differs: two values that aren't equivalent, an item that one side lacks, or the values of one name, of
+/// which one stands in different numbers.
 pub fn paths()
+    ensures some { (v w : Value) → same v w ≡ false → (path : List Part) × IsPath path v w }
     ensures differ { (path : List Part) (v w : Value) → IsPath path v w → same v w ≡ false }
+    ensures end { (path : List Part) (v w : Value) → IsPath path v w → EndsApart path v w }
     ensures one { (path other : List Part) (v w : Value) → IsPath path v w → IsPath other v w → path ≡ other }
 {}

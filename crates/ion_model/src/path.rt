@@ -1,7 +1,9 @@
 //! Where two values part.
-ghost use Rattle.std.specs.Prelude.{◌≡◌, [], true, false, option_map, OnOk, IfErr, MatchResult, MatchOption};
+ghost use Rattle.std.specs.Prelude.{◌≡◌, [], true, false, Ok, None, option_map, OnOk, IfErr, MatchResult, MatchOption};
+ghost use Rattle.std.specs.declared.cmp.Ordering.TheVariants.{Equal};
 ghost use lib.Pointwise.{pointwise};
 ghost use Rattle.ion_atoms.specs.declared.refusal.Reason.TheVariants as reasons;
+ghost use Rattle.ion_model.specs.Order.{order};
 ghost use Rattle.ion_model.specs.Same.{same, fields_same};
 ghost use Rattle.ion_model.specs.Parting.{IsPath, IsParting, LeastParting, once_named};
 ghost use Rattle.ion_model.specs.laws.PartingSteps.{Extends, ItemsPath, FieldsPath, AgreeTo, first_untied};
@@ -64,10 +66,11 @@ impl Path {
 /// one of two lists or s-expressions lacks; or by `Part::Name` to the least name, in the order of symbols,
 /// with which some value stands in different numbers in two structs (Ion 1.0, "The Ion Data Model": a
 /// struct is unordered, and a name may repeat). It goes on behind a name only if the name stands once in
-/// both. The only refusal is `Memory`. Each step down costs what `equivalent` does. Calls itself once for
-/// each level.
+/// both. The only refusal is `Memory`. Values that agree part by part, fields as they stand, take no memory.
+/// Each step down costs what `equivalent` does. Calls itself once for each level.
 pub fn parting(alloc: Global, a: &Value, b: &Value) -> Result<Option<Path>, Reason>
-    ensures { MatchResult result (λ path. IsParting path a.now b.now) (λ e. e ≡ reasons.Memory) }
+    ensures path { MatchResult result (λ path. IsParting path a.now b.now) (λ e. e ≡ reasons.Memory) }
+    ensures free { order a.now b.now ≡ Equal → result ≡ Ok None }
 {
     if equivalent(alloc, a, b)? {
         return Ok(None);

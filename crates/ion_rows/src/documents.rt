@@ -64,13 +64,20 @@ pub fn limits(row: Row<'_>, number: usize) -> Result<Limits, Fail> {
     Ok(limits.ok_or("limits")?)
 }
 
-/// The shared table `t` of version 1 of `x`, where a field names it, or none.
+/// The shared table `t` of version 1 of `x`.
+const TABLE: &str = "$ion_shared_symbol_table::{name:\"t\",version:1,symbols:[\"x\"]}";
+
+/// And that of version 3 of `x`, `y` and `z` behind it.
+const TABLES: &str =
+    "$ion_shared_symbol_table::{name:\"t\",version:1,symbols:[\"x\"]} $ion_shared_symbol_table::{name:\"t\",version:3,symbols:[\"x\",\"y\",\"z\"]}";
+
+/// The shared table `t` of version 1, where a field ends in `table t`, that of version 3 as well, where it ends in
+/// `tables t`, or none.
 pub fn catalog(alloc: Global, row: Row<'_>, number: usize) -> Result<Catalog, Fail> {
-    if row.field(number) == "table t" {
-        load(
-            alloc,
-            "$ion_shared_symbol_table::{name:\"t\",version:1,symbols:[\"x\"]}",
-        )
+    if row.field(number).ends_with("tables t") {
+        load(alloc, TABLES)
+    } else if row.field(number).ends_with("table t") {
+        load(alloc, TABLE)
     } else {
         load(alloc, "")
     }

@@ -71,6 +71,7 @@ fn try_text(alloc: Global, row: Row<'_>, octets: &[u8], told: &mut String) -> Re
         "top" | "sexp" | "in sexp" | "struct" => scanning::scans(alloc, row, octets, told),
         "shared" => symbols::are_found(alloc, row, octets, told),
         "binary" | "text" => reading::reads(alloc, row, octets, told),
+        "binary steps" | "text steps" => reading::steps(alloc, row, octets, told),
         _ => try_document(alloc, row, octets, told),
     }
 }

@@ -18,6 +18,8 @@ struct Answers {
     values: Vec<Value>,
     /// The octets used up to where each value comes.
     totals: Vec<u64>,
+    /// The octets that each step used, and whether it gave a value.
+    steps: Vec<(usize, bool)>,
     refusal: Option<Refusal>,
 }
 
@@ -26,6 +28,7 @@ impl Answers {
         Answers {
             values: Vec::new(alloc),
             totals: Vec::new(alloc),
+            steps: Vec::new(alloc),
             refusal: None,
         }
     }
@@ -34,12 +37,27 @@ impl Answers {
     fn clear(&mut self) {
         self.values.clear();
         self.totals.clear();
+        self.steps.clear();
         self.refusal = None;
     }
 
     fn push(&mut self, value: Value, total: u64) -> Result<(), Fail> {
         self.values.push(value)?;
         Ok(self.totals.push(total)?)
+    }
+
+    /// Notes a step that gave a value.
+    fn give(&mut self, value: Value, used: usize, total: u64) -> Result<(), Fail> {
+        self.push(value, total)?;
+        Ok(self.steps.push((used, true))?)
+    }
+
+    /// Notes a step that gave none, unless it was one over no octets.
+    fn go_on(&mut self, used: usize) -> Result<(), Fail> {
+        if used == 0 {
+            return Ok(());
+        }
+        Ok(self.steps.push((used, false))?)
     }
 }
 
@@ -63,8 +81,11 @@ fn take_up<I: Items>(
             Ok(Step { used, value }) => {
                 at += used;
                 match value {
-                    Some(value) => answers.push(value, before + at as u64)?,
-                    None => return Ok(true),
+                    Some(value) => answers.give(value, used, before + at as u64)?,
+                    None => {
+                        answers.go_on(used)?;
+                        return Ok(true);
+                    }
                 }
             }
             Err(refusal) => {
@@ -346,6 +367,70 @@ pub fn reads(alloc: Global, row: Row<'_>, document: &[u8], told: &mut String) ->
         document,
     };
     let tried = reads_each_cut(&reading, &mut answers, told);
+    drop(answers);
+    drop(catalog);
+    tried
+}
+
+/// Tells the octets that each step used, with `!` behind them where it gave a value, and then `end`, with `!` where that
+/// gave one.
+fn tell_steps(answers: &Answers, told: &mut String) -> Result<(), AllocError> {
+    told.clear();
+    let mut given: usize = 0;
+    for (used, gives) in &answers.steps {
+        write!(told, "{used}")?;
+        if *gives {
+            told.push_str("!")?;
+            given = given.saturating_add(1);
+        }
+        told.push_str(" ")?;
+    }
+    told.push_str("end")?;
+    if answers.values.len() > given {
+        told.push_str("!")?;
+    }
+    Ok(())
+}
+
+/// Fails, where the steps of a reader of this encoding over pieces of `size` octets are others.
+fn steps_so(
+    reading: &Reading<'_>,
+    encoding: &str,
+    size: usize,
+    answers: &mut Answers,
+    told: &mut String,
+) -> Result<(), Fail>
+    requires size { 0 < size }
+    requires small { size < 2 ^ 32 }
+{
+    let document = reading.document;
+    let first = size.min(document.len());
+    read_as(reading, encoding, document, first, size, answers)?;
+    tell_steps(answers, told)?;
+    reading.row.wants(3, told.as_str())
+}
+
+/// `binary steps` or `text steps` | a document | the octets of a piece | the octets that each step uses, with `!` behind
+/// them where it gives a value, and then `end`, with `!` where that gives one.
+pub fn steps(alloc: Global, row: Row<'_>, document: &[u8], told: &mut String) -> Result<(), Fail> {
+    let size = row.field(2).parse::<usize>()?;
+    if size == 0 || size > 4096 {
+        return Err("octets of a piece".into());
+    }
+    let encoding = match row.field(0) {
+        "text steps" => "text",
+        _ => "binary",
+    };
+    let catalog = Catalog::new(alloc);
+    let mut answers = Answers::new(alloc);
+    let reading = Reading {
+        alloc,
+        row,
+        catalog: &catalog,
+        limits: Limits::usual(),
+        document,
+    };
+    let tried = steps_so(&reading, encoding, size, &mut answers, told);
     drop(answers);
     drop(catalog);
     tried

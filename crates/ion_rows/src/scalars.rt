@@ -38,8 +38,8 @@ pub fn spells(row: Row<'_>, octets: &[u8], out: &mut Vec<u8>) -> Result<(), Fail
 /// `body`: the token of a timestamp or a decimal | its body as it is written.
 pub fn has_body(alloc: Global, row: Row<'_>, token: &[u8], out: &mut Vec<u8>) -> Result<(), Fail> {
     match number_of(token)? {
-        Number::Timestamp(timestamp) => put_timestamp(timestamp, out)?,
-        Number::Decimal(decimal) => put_decimal(decimal, out)?,
+        Number::Timestamp(timestamp) => put_timestamp(&timestamp, out)?,
+        Number::Decimal(decimal) => put_decimal(&decimal, out)?,
         Number::Int(_) => return Err("an int".into()),
     }
     row.wants_octets(alloc, 2, out.as_slice())

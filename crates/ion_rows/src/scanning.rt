@@ -110,7 +110,7 @@ impl Seen<'_> {
                 self.refusal(refusal)?;
                 Ok((0, false))
             }
-            Ok(Scan { used, token, .. }) => match token {
+            Ok(Scan { used, token }) => match token {
                 None => Ok((used, false)),
                 Some(token) => {
                     self.take(token)?;

@@ -2,21 +2,25 @@
 use crate::row::Row;
 use ion_docs::read_all;
 use ion_model::{
-    Part, Path, Payload, Symbol, Value, equivalent, normalise, order, parting, same_slow,
+    Part, Path, Payload, Refusal, Symbol, Value, equivalent, normalise, order, parting, same_slow,
 };
-use ion_symtab::{Catalog, FromRead, Limits, ToWrite};
+use ion_symtab::{Catalog, Limits, ToWrite};
 use ion_text::{TextWriter, symbol_text};
 use std::alloc::{AllocError, Global};
 use std::cmp::Ordering;
 use std::test::Fail;
 
+/// The values of a document, or its refusal.
+fn read(alloc: Global, octets: &[u8]) -> Result<Vec<Value>, Refusal> {
+    let catalog = Catalog::new(alloc);
+    let answer = read_all(alloc, octets, &catalog, Limits::usual());
+    drop(catalog);
+    answer
+}
+
 /// The values of a document.
 pub fn values(alloc: Global, octets: &[u8]) -> Result<Vec<Value>, Fail> {
-    let mut reader = FromRead::new(octets);
-    let catalog = Catalog::new(alloc);
-    let answer = read_all(alloc, &mut reader, &catalog, Limits::usual());
-    drop(catalog);
-    Ok(answer??)
+    Ok(read(alloc, octets)?)
 }
 
 /// The values of the document that a field spells.

@@ -78,12 +78,12 @@ pub fn put_int(negative: bool, magnitude: u128, out: &mut Vec<u8>) -> Result<(),
 /// a coefficient +0 none behind the exponent, and -0 has the one octet 80.
 /// Answers `Memory`, and leaves `out` as it was, where it has no room and gets none.
 #[tactic(auto, using(crate::specs::binary::laws::Decimal::decimal_again))]
-pub fn put_decimal(decimal: Decimal, out: &mut Vec<u8>) -> Result<(), Reason>
-    ensures ok { OnOk result (out.new.items ≡ out.old.items ++ decimal_octets decimal) }
+pub fn put_decimal(decimal: &Decimal, out: &mut Vec<u8>) -> Result<(), Reason>
+    ensures ok { OnOk result (out.new.items ≡ out.old.items ++ decimal_octets decimal.now) }
     ensures err { OnErr result (out.new.items ≡ out.old.items) }
     ensures memory { IsOkUnless result Memory }
-    ensures full { OnErr result (vec_capacity out.old < vec_len out.old + length (decimal_octets decimal)) }
-    ensures again { decimal_of_body (decimal_octets decimal) ≡ Ok decimal }
+    ensures full { OnErr result (vec_capacity out.old < vec_len out.old + length (decimal_octets decimal.now)) }
+    ensures again { decimal_of_body (decimal_octets decimal.now) ≡ Ok decimal.now }
 {
     let (negative, magnitude) = (decimal.negative(), decimal.magnitude());
     let exponent = decimal.exponent();

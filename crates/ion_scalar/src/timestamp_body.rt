@@ -1,5 +1,6 @@
 //! The bodies of timestamps in binary (Ion 1.0, "Ion Binary Encoding", timestamp).
 ghost use Rattle.std.specs.Prelude.{Result, ◌≡◌, ◌<◌, ◌≤◌, ◌^◌, length, IfOk, IfSome};
+ghost use Rattle.ion_atoms.specs.Calendar.{month_length};
 ghost use Rattle.ion_atoms.specs.Timestamps.{TimestampParts, IsOffset, minutes_ahead};
 ghost use Rattle.ion_scalar.specs.binary.Timestamp.{timestamp_of_body, shown_by, shown, kept_offset, offset_from, local_in, day_known, time_known};
 ghost use Rattle.ion_scalar.specs.binary.Timestamp.{read_offset, read_field, read_fields, read_behind_year, read_behind_month, read_behind_day, read_behind_hour, read_behind_minute, read_behind_second, read_fraction};
@@ -7,7 +8,7 @@ ghost use Rattle.ion_scalar.specs.binary.laws.Timestamp.{IsUtc};
 ghost use Rattle.ion_scalar.specs.binary.TimestampReasons.{ReadsTimestampBody};
 
 use crate::fields::{Signed, int_of, read_var_int, read_var_uint};
-use ion_atoms::calendar::{Date, Minute, days_of_month};
+use ion_atoms::calendar::{Date, Minute, has_day};
 use ion_atoms::{Local, Precision, Reason, Timestamp};
 
 /// A point in time in UTC, as far as it is known.
@@ -176,14 +177,29 @@ fn behind_month(year: u16, month: u8, octets: &[u8]) -> Result<Utc, Reason>
         };
         return Ok(Utc::of_day(Precision::Month, date));
     }
-    let last = u64::from(days_of_month(year, month));
-    let (day, used) = field(1, last, octets)?;
+    let (day, used) = day_field(year, month, octets)?;
     let date = Date {
         year,
         month,
         day: day as u8,
     };
     behind_day(date, &octets[used..])
+}
+
+// The VarUInt at the front, if the month has that day, and how many octets it takes.
+#[inline(always)]
+fn day_field(year: u16, month: u8, octets: &[u8]) -> Result<(u16, usize), Reason>
+    requires year { (1 ≤ year) × (year ≤ 9999) }
+    requires month { (1 ≤ month) × (month ≤ 12) }
+    ensures value { result ≡ read_field 1 (month_length year month) octets.now }
+    ensures range { IfOk result (λ r. (1 ≤ r.0) × (r.0 ≤ month_length year month)) }
+    ensures within { IfOk result (λ r. r.1 ≤ length octets.now) }
+{
+    let (day, used) = field(1, 31, octets)?;
+    if !has_day(year, month, day as u8) {
+        return Err(Reason::Malformed);
+    }
+    Ok((day, used))
 }
 
 #[tactic(auto, unfolding(crate::specs::binary::Timestamp::read_behind_day))]

@@ -3,11 +3,12 @@
 ghost use Rattle.std.specs.Prelude.{◌≡◌, ◌<◌, ◌≤◌, ◌^◌, ℕ, true, Ok, is_ok, IsOkAnd, IfSome, length};
 ghost use Rattle.ion_atoms.specs.declared.calendar.Date.{Date};
 ghost use Rattle.ion_atoms.specs.declared.calendar.Minute.{Minute};
+ghost use Rattle.ion_atoms.specs.Calendar.{month_length};
 ghost use Rattle.ion_scalar.specs.binary.Timestamp.{timestamp_of_body, read_field, read_fields, read_behind_year, read_behind_month, read_behind_day, read_behind_hour, read_behind_minute, read_behind_second};
 
 use crate::fields::int_of;
 use crate::timestamp_body::{field, offset_of, timestamp_of};
-use ion_atoms::calendar::days_of_month;
+use ion_atoms::calendar::has_day;
 
 /// Whether the octets are the body of a timestamp, that is, whether `timestamp_of` answers one. Takes no memory.
 pub fn is_timestamp_body(octets: &[u8]) -> bool
@@ -59,6 +60,20 @@ fn part(least: u8, most: u8, octets: &[u8]) -> Option<u8>
     Some(number)
 }
 
+// The day, where it has one octet, if the month has that day.
+#[inline(always)]
+fn day_part(year: u16, month: u8, octets: &[u8]) -> Option<u8>
+    requires year { (1 ≤ year) × (year ≤ 9999) }
+    requires month { (1 ≤ month) × (month ≤ 12) }
+    ensures some { IfSome result (λ day. 0 < length octets.now) }
+    ensures read { IfSome result (λ day. read_field 1 (month_length year month) octets.now ≡ Ok (day, 1)) }
+{
+    match part(1, 31, octets) {
+        Some(day) if has_day(year, month, day) => Some(day),
+        _ => None,
+    }
+}
+
 #[inline(always)]
 #[tactic(auto, unfolding(crate::specs::binary::Timestamp::read_behind_year))]
 fn usual_month(year: u16, octets: &[u8]) -> bool
@@ -86,7 +101,7 @@ fn usual_day(year: u16, month: u8, octets: &[u8]) -> bool
     if octets.is_empty() {
         return true;
     }
-    match part(1, days_of_month(year, month), octets) {
+    match day_part(year, month, octets) {
         Some(_) => usual_hour(&octets[1..]),
         None => false,
     }

@@ -7,7 +7,7 @@ use Rattle.ion_symtab.specs.declared.inlet.Inlet.{Ghosts as Inlet}
 use Rattle.ion_symtab.specs.declared.items.Items.{Ghosts as Items}
 use Rattle.ion_streams.specs.reading.Alongside.{WentPast, StandingPast}
 use Rattle.ion_streams.specs.reading.Read.{between, left_of, Begins, IsReady, IsWithin}
-use Rattle.ion_streams.specs.reading.Standing.{IfOpen, IsOpen, IfClosed, work_of, Stood}
+use Rattle.ion_streams.specs.reading.Standing.{IfOpen, IsOpen, IfClosed, work_of, reads_of, Stood}
 use Rattle.ion_streams.specs.declared.source.Source.{Source}
 use Rattle.ion_streams.specs.declared.source.Standing.{Standing}
 use Rattle.ion_streams.specs.declared.source.Standing.TheVariants.{Open, Ended, Refused}
@@ -75,6 +75,13 @@ module _ {X : Type 0} (I : Items X) where
   past_less (Open from) (Refused r) v h = absurd h
   past_less Ended after v h = absurd h
   past_less (Refused r) after v h = absurd h
+
+  pub past_reads : (place after : Standing X) (v : Value) → StandingPast I place after v → reads_of after ≡ reads_of place
+  past_reads (Open from) (Open to) v h = h.reads
+  past_reads (Open from) Ended v h = absurd h
+  past_reads (Open from) (Refused r) v h = absurd h
+  past_reads Ended after v h = absurd h
+  past_reads (Refused r) after v h = absurd h
 
   pub past_within : {S : Type 0} (R : Inlet S) (reads : ℕ) (first now : S) (place after : Standing X) (v : Value) → StandingPast I place after v → IfOpen place (IsWithin R reads first now) → IfOpen after (IsWithin R reads first now)
   past_within R reads first now (Open from) (Open to) v h w = let rest = w.rest in record { made = w.made; were = w.were; rest = omega (arith, rest, h.reads) }

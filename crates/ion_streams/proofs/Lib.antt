@@ -1,6 +1,7 @@
 pub mod Pieces
 pub mod Endings
 pub mod Steps
+pub mod Wholes
 pub mod Passes
 pub mod Courses
 pub mod Alongside

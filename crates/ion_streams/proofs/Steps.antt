@@ -14,7 +14,7 @@ use Rattle.ion_symtab.specs.laws.Causes.{WereMade-nil}
 use Rattle.ion_streams.specs.Formats.{format_of}
 use Rattle.ion_streams.specs.reading.Read.{left_of, Begins, IsReady, IsWithin, Went, GaveEach, GaveSoFar, Reads, ReadsEach}
 use Rattle.ion_streams.specs.Outcomes.{EndsWell, EndsRefused, ToldDocument, ToldRefused, ToldEach, ToldRefusedEach}
-use Rattle.ion_streams.specs.reading.Standing.{IfOpen, MatchClosed, work_of, Stood, StoodEach}
+use Rattle.ion_streams.specs.reading.Standing.{IfOpen, MatchClosed, work_of, reads_of, Stood, StoodEach}
 use Rattle.ion_streams.specs.reading.Reached.{Reaches}
 use Rattle.ion_streams.specs.declared.source.Source.{Source}
 use Rattle.ion_streams.specs.declared.source.Reached.TheVariants.{Value as AValue}
@@ -182,6 +182,11 @@ pub closed_work : {X : Type 0} (I : Items X) (place : Standing X) → IfOpen pla
 closed_work I (TheStanding.Open source) closed = absurd closed
 closed_work I TheStanding.Ended closed = refl
 closed_work I (TheStanding.Refused r) closed = refl
+
+pub closed_reads : {X : Type 0} (place : Standing X) → IfOpen place (λ source. ⊥) → reads_of place ≡ 0
+closed_reads (TheStanding.Open source) closed = absurd closed
+closed_reads TheStanding.Ended closed = refl
+closed_reads (TheStanding.Refused r) closed = refl
 
 -- nothing was read yet
 pub each_begun : {S X : Type 0} (R : Inlet S) (I : Items X) (now : S) (source : Source X) (items : X) → I.stands items [] [] → source.items ≡ items → left_of source ≡ [] →

@@ -1,5 +1,5 @@
 //! Catalogs from documents.
-ghost use Rattle.std.specs.Prelude.{◌≡◌, ◌⊎◌, ◌^◌, ◌≤◌, IfOk, IfErr, MatchResult, Ok, Err, option_to_list};
+ghost use Rattle.std.specs.Prelude.{◌≡◌, ◌⊎◌, ◌+◌, ◌^◌, ◌≤◌, IfOk, IfErr, MatchResult, Ok, Err, option_to_list};
 ghost use Rattle.ion_atoms.specs.declared.refusal.Reason.TheVariants as reasons;
 ghost use Rattle.ion_symtab.specs.Cause.{IsReadCause};
 ghost use Rattle.ion_streams.specs.Formats.{format_of};
@@ -24,6 +24,7 @@ pub fn load_items<I: Items + Drop, R: Inlet>(
     requires reads { reads ≤ 2 ^ 32 }
     ensures loaded { IfOk result (IsLoaded R.Inlet
         (format_of I.Items (I.catalog items) (I.limits items)) reader.old reader.new) }
+    ensures few_calls { R.calls_made reader.new ≤ R.calls_made reader.old + reads }
     ensures cause { IfErr result (IsReadCause R.Inlet reads reader.old reader.new) }
 {
     let mut source = Source::new(alloc, items, reads)?;

@@ -5,12 +5,13 @@ ghost use Rattle.ion_symtab.specs.declared.limits.Limits.{Limits};
 ghost use Rattle.ion_symtab.specs.Cause.{IsReadCause};
 ghost use Rattle.ion_streams.specs.reading.Alongside.{GoAlike};
 ghost use Rattle.ion_streams.specs.Formats.{format_of};
-ghost use Rattle.ion_streams.specs.reading.Standing.{IfOpen, IsOpen, work_of, Stood};
+ghost use Rattle.ion_streams.specs.reading.Standing.{IfOpen, IsOpen, work_of, reads_of, Stood};
 ghost use Rattle.ion_streams.specs.reading.Read.{IsFresh, IsReady, IsWithin};
 ghost use Rattle.ion_streams.specs.Compared.{IsCompared};
 ghost use Rattle.ion_streams.specs.reading.Courses.{IsMet, count_of, verdict_of};
 
-use crate::source::{Source, Standing};
+use crate::alike::{Alike, Unseen};
+use crate::source::{Source, Standing, pass_alike};
 use ion_model::{Path, Refusal, Value, parting};
 use ion_symtab::{Fault, Inlet, Items};
 use std::alloc::Global;
@@ -132,22 +133,22 @@ fn ended_first(alloc: Global, index: u64) -> Course
 
 /// Goes past the next value of both documents, where they are open, were the same so far, and have values
 /// there that are seen to be the same where they lie.
-fn go_alike<I: Items + Drop>(
+fn go_alike<A: Alike<I, J>, I: Items, J: Items>(
     course: &mut Course,
     left: &mut Standing<I>,
-    right: &mut Standing<I>,
+    right: &mut Standing<J>,
 ) -> bool
     requires left { IfOpen left.old (IsReady I.Items) }
-    requires right { IfOpen right.old (IsReady I.Items) }
+    requires right { IfOpen right.old (IsReady J.Items) }
     requires room { count_of course.old + 1 < 2 ^ 64 }
     ensures goes { result ≡ true →
-        GoAlike I.Items course.old course.new left.old left.new right.old right.new }
+        GoAlike I.Items J.Items course.old course.new left.old left.new right.old right.new }
     ensures stays { result ≡ false →
         (course.new ≡ course.old) × (left.new ≡ left.old) × (right.new ≡ right.old) }
 {
     match (course, left, right) {
         (Course::Alike { values }, Standing::Open(left), Standing::Open(right)) => {
-            if !left.pass_alike(right) {
+            if !pass_alike::<A, I, J>(left, right) {
                 return false;
             }
             *values += 1;
@@ -158,25 +159,27 @@ fn go_alike<I: Items + Drop>(
 }
 
 /// Reads both documents on to the verdict, one value of each in turn.
-fn compare_places<I: Items + Drop, L: Inlet, R: Inlet>(
+fn compare_places<A: Alike<I, J>, I: Items + Drop, J: Items + Drop, L: Inlet, R: Inlet>(
     alloc: Global,
     course: &mut Course,
     left_place: &mut Standing<I>,
     left: &mut L,
-    right_place: &mut Standing<I>,
+    right_place: &mut Standing<J>,
     right: &mut R,
 ) -> Result<Verdict, Fault>
     requires begun { course.old ≡ Course.Alike 0 }
     requires left { IfOpen left_place.old (IsReady I.Items) }
-    requires right { IfOpen right_place.old (IsReady I.Items) }
+    requires right { IfOpen right_place.old (IsReady J.Items) }
     requires opened { IsOpen left_place.old }
-    requires few { work_of I.Items left_place.old + work_of I.Items right_place.old
+    requires few { work_of I.Items left_place.old + work_of J.Items right_place.old
         ≤ 2 * (8193 * 2 ^ 32 + 1) }
     ensures verdict { IfOk result (λ verdict. (g h : Catalog) (k l : Limits) →
         Stood L.Inlet I.Items g k left.old left.old left_place.old [] →
-        Stood R.Inlet I.Items h l right.old right.old right_place.old [] →
-        IsCompared L.Inlet R.Inlet (format_of I.Items g k) (format_of I.Items h l)
+        Stood R.Inlet J.Items h l right.old right.old right_place.old [] →
+        IsCompared L.Inlet R.Inlet (format_of I.Items g k) (format_of J.Items h l)
         left.old left.new right.old right.new verdict) }
+    ensures few_calls { (L.calls_made left.new ≤ L.calls_made left.old + reads_of left_place.old)
+        × (R.calls_made right.new ≤ R.calls_made right.old + reads_of right_place.old) }
     ensures cause { IfErr result (λ fault. (reads : ℕ) →
         IfOpen left_place.old (IsWithin L.Inlet reads left.old left.old) →
         IfOpen right_place.old (IsWithin R.Inlet reads right.old right.old) →
@@ -184,7 +187,7 @@ fn compare_places<I: Items + Drop, L: Inlet, R: Inlet>(
         ⊎ IsReadCause R.Inlet reads right.old right.new fault) }
 {
     loop {
-        if go_alike(course, left_place, right_place) {
+        if go_alike::<A, I, J>(course, left_place, right_place) {
             continue;
         }
         let left_value = left_place.advance(left)?;
@@ -218,25 +221,51 @@ fn compare_places<I: Items + Drop, L: Inlet, R: Inlet>(
 /// `Equivalent` where both are documents and the streams are equivalent (Ion 1.0, "The Ion Data
 /// Model"), `Different` where both are and the streams part, with the path to where the two values
 /// there part, `Refused` for the left side where that is no document, else for the right one. One
-/// value of each is read in turn; those that the readers see to be the same where they lie aren't built
-/// (`Items::pass_alike`). A refused left side is
-/// answered at once; after the streams parted, or the right side was refused, both are read to the
-/// end, since the left side may still be refused. Faults are `Memory`, `Read` and `TooManyReads`.
-pub fn compare_items<I: Items + Drop, L: Inlet, R: Inlet>(
+/// value of each is read in turn. A refused left side is answered at once; after the streams parted,
+/// or the right side was refused, both are read to the end, since the left side may still be refused.
+/// Faults are `Memory`, `Read` and `TooManyReads`.
+pub fn compare_items<I: Items + Drop, J: Items + Drop, L: Inlet, R: Inlet>(
     alloc: Global,
     reads: u64,
     left_items: I,
     left: &mut L,
-    right_items: I,
+    right_items: J,
     right: &mut R,
 ) -> Result<Verdict, Fault>
     requires left { IsFresh I.Items left_items }
-    requires right { IsFresh I.Items right_items }
+    requires right { IsFresh J.Items right_items }
     requires reads { reads ≤ 2 ^ 32 }
     ensures verdict { IfOk result (IsCompared L.Inlet R.Inlet
         (format_of I.Items (I.catalog left_items) (I.limits left_items))
-        (format_of I.Items (I.catalog right_items) (I.limits right_items))
+        (format_of J.Items (J.catalog right_items) (J.limits right_items))
         left.old left.new right.old right.new) }
+    ensures few_calls { (L.calls_made left.new ≤ L.calls_made left.old + reads)
+        × (R.calls_made right.new ≤ R.calls_made right.old + reads) }
+    ensures cause { IfErr result (λ fault.
+        IsReadCause L.Inlet reads left.old left.new fault
+        ⊎ IsReadCause R.Inlet reads right.old right.new fault) }
+{
+    compare_by::<Unseen, I, J, L, R>(alloc, reads, left_items, left, right_items, right)
+}
+
+/// The same, where values that `A` sees to be the same where they lie aren't built.
+pub fn compare_by<A: Alike<I, J>, I: Items + Drop, J: Items + Drop, L: Inlet, R: Inlet>(
+    alloc: Global,
+    reads: u64,
+    left_items: I,
+    left: &mut L,
+    right_items: J,
+    right: &mut R,
+) -> Result<Verdict, Fault>
+    requires left { IsFresh I.Items left_items }
+    requires right { IsFresh J.Items right_items }
+    requires reads { reads ≤ 2 ^ 32 }
+    ensures verdict { IfOk result (IsCompared L.Inlet R.Inlet
+        (format_of I.Items (I.catalog left_items) (I.limits left_items))
+        (format_of J.Items (J.catalog right_items) (J.limits right_items))
+        left.old left.new right.old right.new) }
+    ensures few_calls { (L.calls_made left.new ≤ L.calls_made left.old + reads)
+        × (R.calls_made right.new ≤ R.calls_made right.old + reads) }
     ensures cause { IfErr result (λ fault.
         IsReadCause L.Inlet reads left.old left.new fault
         ⊎ IsReadCause R.Inlet reads right.old right.new fault) }
@@ -246,7 +275,7 @@ pub fn compare_items<I: Items + Drop, L: Inlet, R: Inlet>(
     let mut left_place = Standing::Open(left_source);
     let mut right_place = Standing::Open(right_source);
     let mut course = Course::Alike { values: 0 };
-    let verdict = compare_places(
+    let verdict = compare_places::<A, I, J, L, R>(
         alloc,
         &mut course,
         &mut left_place,

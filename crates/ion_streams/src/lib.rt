@@ -2,6 +2,7 @@
 //! all of them, the catalog that they describe, and whether two are equivalent.
 #![tactic(auto)]
 
+mod alike;
 mod catalogs;
 mod checking;
 mod comparison;
@@ -9,9 +10,10 @@ mod listing;
 mod source;
 mod whole;
 
+pub use alike::{Alike, Unseen};
 pub use catalogs::load_items;
 pub use checking::check_items;
-pub use comparison::{Side, Verdict, compare_items};
+pub use comparison::{Side, Verdict, compare_by, compare_items};
 pub use listing::show_items;
 pub use source::{Reached, Source, Standing, counted, last, value_of};
-pub use whole::read_items;
+pub use whole::{read_items, read_octets};

@@ -131,6 +131,7 @@ pub fn show_items<I: Items + Drop, R: Inlet, W: Outlet>(
     ensures fine { OnOk result (W.has_failed writer.new ≡ false) }
     ensures so_far { OnErr result (ShowsSoFar R.Inlet I.Items W.Outlet (I.catalog items)
         (I.limits items) reader.old reader.new writer.old writer.new) }
+    ensures few_calls { R.calls_made reader.new ≤ R.calls_made reader.old + reads }
     ensures cause { IfErr result (λ fault.
         IsReadCause R.Inlet reads reader.old reader.new fault
         ⊎ IsWriteCause W.Outlet writer.new fault) }

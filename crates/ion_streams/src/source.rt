@@ -1,5 +1,5 @@
 //! A document on a device: its octets are read in pieces, and a reader takes them up.
-ghost use Rattle.std.specs.Prelude.{◌≡◌, ◌≢◌, ℕ, ◌+◌, ◌-◌, ◌*◌, ◌^◌, ◌<◌, ◌≤◌, true, false, List, [], ◌∷◌, ◌++◌, length, take, drop, IfOk, IfErr, OnErr, IfSome, MatchBool, Option, IsSome, IsNone, option_map, option_to_list};
+ghost use Rattle.std.specs.Prelude.{◌≡◌, ◌≢◌, ℕ, ◌+◌, ◌-◌, ◌*◌, ◌^◌, ◌<◌, ◌≤◌, true, false, List, [], ◌∷◌, ◌++◌, length, take, drop, IfOk, IfErr, OnOk, OnErr, IfSome, MatchBool, Option, IsSome, IsNone, option_map, option_to_list};
 ghost use Rattle.ion_model.specs.declared.value.Value.{Value};
 ghost use Rattle.ion_atoms.specs.declared.refusal.Reason.TheVariants as reasons;
 ghost use Rattle.ion_symtab.specs.declared.catalog.Catalog.{Catalog};
@@ -10,7 +10,7 @@ ghost use Rattle.ion_streams.specs.Formats.{format_of};
 ghost use Rattle.ion_streams.specs.reading.Read.{left_of, IsReady, IsWithin, work, Went, GaveEach, Reads, ReadsEach, GaveSoFar};
 ghost use Rattle.ion_streams.specs.reading.Reached.{IfValue, IfEnd, IsSpent, Reaches};
 ghost use Rattle.ion_streams.specs.Outcomes.{EndsWell, EndsRefused};
-ghost use Rattle.ion_streams.specs.reading.Standing.{IfOpen, IsOpen, IfClosed, MatchClosed, work_of, Stood};
+ghost use Rattle.ion_streams.specs.reading.Standing.{IfOpen, IsOpen, IfClosed, MatchClosed, work_of, reads_of, Stood};
 
 use ion_model::{Reason, Refusal, Value};
 use ion_symtab::{Fault, Inlet, Items, Step};
@@ -20,6 +20,7 @@ use std::mem;
 mod alike;
 mod passing;
 
+pub(crate) use alike::pass_alike;
 pub use passing::counted;
 pub(crate) use passing::pass_all;
 
@@ -119,6 +120,7 @@ impl<I: Items + Drop> Source<I> {
         ensures asked { IfOk result (λ more. more ≡ true → (first : R) (made : ℕ) →
             WereMade R.Inlet made first reader.old → WereMade R.Inlet (made + 1) first reader.new) }
         ensures kept { OnErr result (Heard R.Inlet reader.old reader.new [] false) }
+        ensures few_calls { R.calls_made reader.new ≤ R.calls_made reader.old + 1 }
         ensures cause { IfErr result (λ fault. (fault ≡ Fault.Read) × (R.has_failed reader.new ≡ true)) }
     {
         self.reads -= 1;
@@ -156,6 +158,8 @@ impl<I: Items + Drop> Source<I> {
             ReadsEach R.Inlet I.Items g l first reader.old self.old given →
             GaveEach R.Inlet I.Items g l first reader.new self.new.items (left_of self.new) true given) }
         ensures spent { IfOk result (λ more. more ≡ false → IsSpent I.Items self.new) }
+        ensures few_calls { R.calls_made reader.new + self.new.reads
+            ≤ R.calls_made reader.old + self.old.reads }
         ensures cause { IfErr result (λ fault. (first : R) (reads : ℕ) →
             IsWithin R.Inlet reads first reader.old self.old →
             IsReadCause R.Inlet reads first reader.new fault) }
@@ -188,6 +192,8 @@ impl<I: Items + Drop> Source<I> {
             IsWithin R.Inlet reads first reader.old self.old →
             IsWithin R.Inlet reads first reader.new self.new)) }
         ensures ended { IfOk result (λ reached. IfEnd reached (IsSpent I.Items self.new)) }
+        ensures few_calls { R.calls_made reader.new + self.new.reads
+            ≤ R.calls_made reader.old + self.old.reads }
         ensures cause { IfErr result (λ fault. (first : R) (reads : ℕ) →
             IsWithin R.Inlet reads first reader.old self.old →
             IsReadCause R.Inlet reads first reader.new fault) }
@@ -269,6 +275,9 @@ impl<I: Items + Drop> Standing<I> {
         ensures within { IfOk result (λ value. (first : R) (reads : ℕ) →
             IfOpen self.old (IsWithin R.Inlet reads first reader.old) →
             IfOpen self.new (IsWithin R.Inlet reads first reader.new)) }
+        ensures fewer_calls { OnOk result (R.calls_made reader.new + reads_of self.new
+            ≤ R.calls_made reader.old + reads_of self.old) }
+        ensures few_calls { R.calls_made reader.new ≤ R.calls_made reader.old + reads_of self.old }
         ensures cause { IfErr result (λ fault. (first : R) (reads : ℕ) →
             IfOpen self.old (IsWithin R.Inlet reads first reader.old) →
             IsReadCause R.Inlet reads first reader.new fault) }

@@ -1,13 +1,14 @@
 //! All values of a document.
-ghost use Rattle.std.specs.Prelude.{◌≡◌, ◌^◌, ◌≤◌, ◌++◌, List, IfOk, IfErr, MatchResult, OnOk, option_to_list};
+ghost use Rattle.std.specs.Prelude.{◌≡◌, ◌≢◌, ◌+◌, ◌^◌, ◌<◌, ◌≤◌, ◌++◌, List, length, IfOk, IfErr, MatchResult, OnOk, option_to_list};
 ghost use Rattle.ion_model.specs.declared.value.Value.{Value};
+ghost use Rattle.ion_atoms.specs.declared.refusal.Reason.TheVariants as reasons;
 ghost use Rattle.ion_symtab.specs.Cause.{IsReadCause};
 ghost use Rattle.ion_streams.specs.Formats.{format_of};
 ghost use Rattle.ion_streams.specs.reading.Read.{IsFresh};
-ghost use Rattle.ion_streams.specs.Outcomes.{ToldDocument, ToldRefused};
+ghost use Rattle.ion_streams.specs.Outcomes.{IsRefused, ToldDocument, ToldRefused};
 
 use crate::source::{Reached, Source, Standing, last, value_of};
-use ion_model::{Refusal, Value};
+use ion_model::{Reason, Refusal, Value};
 use ion_symtab::{Fault, Inlet, Items};
 use std::alloc::Global;
 
@@ -27,6 +28,7 @@ pub fn read_items<I: Items + Drop, R: Inlet>(
         IfOk result (λ answer. MatchResult answer
         (λ values. ToldDocument R.Inlet F reader.old reader.new values.items)
         (λ refusal. (s : List Value) × ToldRefused R.Inlet F reader.old reader.new s refusal)) }
+    ensures few_calls { R.calls_made reader.new ≤ R.calls_made reader.old + reads }
     ensures cause { IfErr result (IsReadCause R.Inlet reads reader.old reader.new) }
 {
     let mut source = Source::new(alloc, items, reads)?;
@@ -44,6 +46,56 @@ pub fn read_items<I: Items + Drop, R: Inlet>(
                 return Ok(Ok(values));
             }
         }
+    }
+}
+
+/// All values of a document in order, whose octets are these; or their refusal, where they are no document.
+///
+/// Refusals are those of `items`. `Memory`, where a growth was refused, alone says nothing of the octets.
+pub fn read_octets<I: Items + Drop>(
+    alloc: Global,
+    items: I,
+    octets: &[u8],
+) -> Result<Vec<Value>, Refusal>
+    requires fresh { IsFresh I.Items items }
+    requires few { length octets.now < 2 ^ 63 }
+    ensures stream { IfOk result (λ values.
+        I.denotes (I.catalog items) (I.limits items) octets.now values.items) }
+    ensures refused { IfErr result (λ refusal. refusal.reason ≢ reasons.Memory → (s : List Value)
+        × IsRefused (format_of I.Items (I.catalog items) (I.limits items)) octets.now s refusal) }
+    ensures memory { IfErr result (λ refusal. refusal.reason ≡ reasons.Memory →
+        refusal.offset ≤ length octets.now) }
+{
+    let mut items = items;
+    let mut values = Vec::new(alloc);
+    let mut used: usize = 0;
+    loop {
+        let step = items.step(&octets[used..])?;
+        used += step.used;
+        match step.value {
+            Some(value) => keep_behind(&mut values, Some(value), used)?,
+            None => {
+                let value = items.finish()?;
+                keep_behind(&mut values, value, used)?;
+                return Ok(values);
+            }
+        }
+    }
+}
+
+/// Puts the next value behind the others, if there is one. `Memory` is the only refusal, at the number of
+/// octets used.
+fn keep_behind(values: &mut Vec<Value>, value: Option<Value>, used: usize) -> Result<(), Refusal>
+    ensures more { OnOk result (values.new.items ≡ values.old.items ++ option_to_list value) }
+    ensures memory { IfErr result (λ refusal.
+        (refusal.reason ≡ reasons.Memory) × (refusal.offset ≡ used)) }
+{
+    match keep_next(values, value) {
+        Ok(()) => Ok(()),
+        Err(_) => Err(Refusal {
+            offset: used as u64,
+            reason: Reason::Memory,
+        }),
     }
 }
 

@@ -6,18 +6,10 @@ use Rattle.std.proofs.lemmas.Bool.{and_parts, eqb-true}
 use Rattle.std.proofs.lemmas.Slice.Eq.{bytes_eq-Decides}
 use Rattle.std.proofs.lemmas.Option.{slice_get_within}
 use Rattle.ion_symtab.proofs.Systems.{slice_get-append_left, slice_get-append_right}
-use Rattle.ion_symtab.specs.Tables.{Table, is_named, find, newer, newest, otherwise}
+use Rattle.ion_symtab.specs.Tables.{Table, find, newer, newest, otherwise}
+use Rattle.ion_symtab.specs.laws.Tables.{find_more}
 use Rattle.ion_symtab.specs.kept.Places.{place_of, newest_of, newest_place, Shows, Indexes}
 use Rattle.ion_symtab.specs.declared.places.Places.{Places}
-
-found_else : (b : Bool) (u : Table) (o more : Option Table) → (if b then Some u else otherwise o more) ≡ otherwise (if b then Some u else o) more
-found_else true u o more = refl
-found_else false u o more = refl
-
--- what is found with one table more
-find_more : (ts : List Table) (t : Table) (name : List ℕ) (version : ℕ) → find (ts ++ t ∷ []) name version ≡ otherwise (find ts name version) (if is_named name version t then Some t else None)
-find_more [] t name version = refl
-find_more (u ∷ ts) t name version = rw (find_more ts t name version) (found_else (is_named name version u) u (find ts name version) (if is_named name version t then Some t else None))
 
 newer_if : (b : Bool) (t u : Table) → nat_le u.version t.version ≡ b → newer (Some t) (Some u) ≡ (if b then Some t else Some u)
 newer_if b t u e = rw e refl

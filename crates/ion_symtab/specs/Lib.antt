@@ -11,6 +11,7 @@ pub mod Next
 pub mod Shared
 pub mod Trace
 pub mod Promises
+pub mod Reasons
 pub mod Decided
 pub mod kept
 pub mod laws

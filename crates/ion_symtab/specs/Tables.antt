@@ -1,5 +1,5 @@
 -- Shared symbol tables, and the catalog (Ion 1.0, "Symbols", "Shared Symbol Tables").
-use Rattle.std.specs.Prelude.{◌+◌, if◌then◌else◌, ℕ, List, [], ◌∷◌, Option, None, Some, Bool, ◌&&◌, ◌==◌, nat_le, Result, Ok, Err, length}
+use Rattle.std.specs.Prelude.{◌+◌, ◌≡◌, Contains, if◌then◌else◌, ℕ, List, [], ◌∷◌, Option, None, Some, Bool, ◌&&◌, ◌==◌, nat_le, Result, Ok, Err, length}
 use Rattle.std.specs.Str.{bytes_eq}
 use Rattle.ion_atoms.specs.declared.refusal.Reason.{Reason}
 use Rattle.ion_atoms.specs.declared.refusal.Reason.TheVariants as reasons
@@ -20,6 +20,10 @@ is_named name version table = bytes_eq table.name name && (table.version == vers
 abbrev pub find : List Table → List ℕ → ℕ → Option Table
 find [] name version = None
 find (t ∷ ts) name version = if is_named name version t then Some t else find ts name version
+
+-- no two tables have the same name and version: under its own name and version each is found
+abbrev pub AreApart : List Table → Type 0
+AreApart tables = (t : Table) → Contains tables t → find tables t.name t.version ≡ Some t
 
 -- the one of the greater version; the first where both have one version
 abbrev pub newer : Option Table → Option Table → Option Table

@@ -5,5 +5,6 @@ pub mod Took
 pub mod Causes
 pub mod Promises
 pub mod Tables
+pub mod Reasons
 pub mod Contexts
 pub mod ContextTexts

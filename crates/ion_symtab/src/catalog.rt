@@ -2,7 +2,7 @@
 ghost use Rattle.std.specs.Prelude.{◌≡◌, ◌⊎◌, [], ◌∷◌, ◌++◌, IfErr, OnOk, OnErr, IsSome, is_some, Option, option_copied};
 ghost use Rattle.ion_atoms.specs.declared.refusal.Reason.TheVariants as reasons;
 ghost use Rattle.ion_symtab.specs.laws.ContextTexts.{AreTextTables};
-ghost use Rattle.ion_symtab.specs.Tables.{find, find_best, newest};
+ghost use Rattle.ion_symtab.specs.Tables.{AreApart, find, find_best, newest};
 ghost use Rattle.ion_symtab.specs.kept.Places.{table_at, newest_place};
 
 use crate::places::Places;
@@ -37,12 +37,14 @@ impl Model for Catalog {
     ghost view = { λ c. c.tables.items };
 
     ghost use Rattle.ion_symtab.specs.kept.Places.{Indexes};
+    ghost use Rattle.ion_symtab.specs.Tables.{AreApart};
 
-    ghost invariant = { λ c. Indexes c.tables.items c.places };
+    ghost invariant = { λ c. Indexes c.tables.items c.places × AreApart c.tables.items };
 }
 
 impl Catalog {
     /// A catalog of no tables; takes no memory.
+    #[tactic(auto, using(crate::specs::laws::Tables::none_apart))]
     pub fn new(alloc: Global) -> Catalog
         ensures { result ≡ [] }
     {
@@ -81,9 +83,11 @@ impl Catalog {
         }
     }
 
-    /// What a catalog keeps about itself: its tables' texts are UTF-8. Does nothing.
+    /// What a catalog keeps about itself: its tables' texts are UTF-8, and under the name and version of
+    /// each of its tables that table is found. Does nothing.
     pub fn kept(&self)
-        ensures { AreTextTables self.now }
+        ensures texts { AreTextTables self.now }
+        ensures apart { AreApart self.now }
     {
         for table in &self.tables {
             table.kept();

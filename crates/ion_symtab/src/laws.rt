@@ -1,11 +1,13 @@
 //! Laws of catalogs and contexts. Each stands on an empty function: its contract is the law.
-ghost use Rattle.std.specs.Prelude.{◌≡◌, ◌≤◌, ◌⊎◌, ℕ, List, length, Option, Some, IsSome, Ok, Contains};
+ghost use Rattle.std.specs.Prelude.{◌≡◌, ◌≤◌, ◌⊎◌, ◌++◌, ◌∷◌, [], ℕ, List, length, Option, Some, IsSome, Ok, IfErr, Contains};
 ghost use Rattle.ion_model.specs.declared.value.Value.{Value};
 ghost use Rattle.ion_model.specs.Kept.{IsText, IsKept};
 ghost use Rattle.ion_symtab.specs.Slots.{Slot, greatest_id, system_slots, resolve};
-ghost use Rattle.ion_symtab.specs.Tables.{Table, find, newest};
+ghost use Rattle.ion_symtab.specs.Tables.{Table, find, find_best, newest};
 ghost use Rattle.ion_symtab.specs.laws.Tables.{IsAtLeast};
 ghost use Rattle.ion_symtab.specs.Next.{next};
+ghost use Rattle.ion_symtab.specs.Shared.{shared_table};
+ghost use Rattle.ion_symtab.specs.Reasons.{IsIdReason, IsTableReason, IsSharedReason};
 ghost use Rattle.ion_symtab.specs.laws.Contexts.{Begins};
 ghost use Rattle.ion_symtab.specs.Decided.{Decides};
 ghost use Rattle.ion_symtab.specs.laws.ContextTexts.{AreTextSlots, AreTextTables};
@@ -26,6 +28,18 @@ pub fn greatest()
     ensures there { (g : List Table) (t : Table) → Contains g t → IsAtLeast t.version (newest g t.name) }
 {}
 
+/// A table that is added to a catalog, which has none of its name and version, is found under these; and
+/// under any other name and version what was found before.
+pub fn added()
+    ensures itself { (g : List Table) (t : Table) → find g t.name t.version ≡ Option.None →
+        find (g ++ t ∷ []) t.name t.version ≡ Some t }
+    ensures best { (g : List Table) (t : Table) → find g t.name t.version ≡ Option.None →
+        find_best (g ++ t ∷ []) t.name t.version ≡ Some t }
+    ensures others { (g : List Table) (t : Table) (name : List ℕ) (version : ℕ) →
+        ((t.name ≡ name) × (t.version ≡ version) → ⊥) →
+        find (g ++ t ∷ []) name version ≡ find g name version }
+{}
+
 /// What is behind a local symbol table begins with all slots that were before it or with the system
 /// slots, so the system slots stay first, and its ids are at most 2^31-1.
 pub fn behind_a_table()
@@ -40,6 +54,16 @@ pub fn behind_a_table()
 /// An id keeps its symbol where slots are added.
 pub fn ids_stay()
     ensures { (c d : List Slot) (id : ℕ) → Begins c d → id ≤ length c → resolve d id ≡ resolve c id }
+{}
+
+/// Want of memory aside, an id is refused as above the greatest or as a gap; a local symbol table as null,
+/// for a repeated field, for a missing import, or as too large; and a value that is to describe a shared
+/// one for a repeated field or as none.
+pub fn reasons()
+    ensures ids { (c : List Slot) (id : ℕ) → IfErr (resolve c id) IsIdReason }
+    ensures tables { (c : List Slot) (v : Value) (g : List Table) →
+        IfErr (next c v g) IsTableReason }
+    ensures shared { (v : Value) → IfErr (shared_table v) IsSharedReason }
 {}
 
 /// Ids and local symbol tables are refused only for reasons that octets decide.

@@ -1,10 +1,10 @@
 //! Shared symbol tables.
-ghost use Rattle.std.specs.Prelude.{◌≡◌, MatchResult, map, option_map, option_copied, string_bytes};
+ghost use Rattle.std.specs.Prelude.{◌≡◌, true, MatchResult, map, option_map, option_copied, string_bytes};
 ghost use Rattle.ion_atoms.specs.declared.refusal.Reason.TheVariants as reasons;
 ghost use Rattle.ion_model.specs.Symbols.{AreTexts};
 ghost use Rattle.ion_symtab.specs.Outcome.{Gives};
 ghost use Rattle.ion_symtab.specs.Fields.{payload_of};
-ghost use Rattle.ion_symtab.specs.Tables.{table_of};
+ghost use Rattle.ion_symtab.specs.Tables.{is_usable, table_of};
 ghost use Rattle.ion_symtab.specs.Shared.{is_shared, imports_any, shared_fields, shared_table};
 
 use crate::fields::{elements, is_table_name, is_text, only, symbols_of, table_name, version_of};
@@ -32,6 +32,11 @@ impl Model for SharedTable {
     ghost Value = { Table };
 
     ghost view = { λ t. record { name = t.name; version = t.version; symbols = t.symbols } };
+
+    ghost use Rattle.std.specs.Prelude.{◌≡◌, true};
+    ghost use Rattle.ion_symtab.specs.Tables.{is_usable};
+
+    ghost invariant = { λ t. is_usable t.name t.version t.symbols ≡ true };
 }
 
 impl SharedTable {
@@ -68,9 +73,11 @@ impl SharedTable {
         }
     }
 
-    /// What a table keeps about itself: its symbols' texts are UTF-8. Does nothing.
+    /// What a table keeps about itself: its symbols' texts are UTF-8; its name is neither empty nor `$ion`,
+    /// its version in 1 to 2^31-1, and its symbols are at most 2^31-10. Does nothing.
     pub fn kept(&self)
-        ensures { AreTexts self.now.symbols }
+        ensures texts { AreTexts self.now.symbols }
+        ensures usable { is_usable self.now.name self.now.version self.now.symbols ≡ true }
     {
         self.symbols.kept();
     }

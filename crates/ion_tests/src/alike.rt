@@ -75,10 +75,12 @@ fn taken_up(alloc: Global, catalog: &Catalog, other_limits: Limits, row: &Row) -
     taken
 }
 
-static ROWS: [Row; 22] = [
+static ROWS: [Row; 23] = [
     // nulls, bools and scalars of equal octets
     (&[0x2F], &[0x2F, 0x11], Some((1, 1))),
-    (&[0x2F], &[0x3F], None),
+    (&[0x2F], &[0x4F], None),
+    // both are the null of ints
+    (&[0x2F], &[0x3F], Some((1, 1))),
     (&[0x11], &[0x11], Some((1, 1))),
     (&[0x11], &[0x10], None),
     (&[0x21, 5], &[0x21, 5], Some((2, 2))),
@@ -91,8 +93,8 @@ static ROWS: [Row; 22] = [
     (&[0x71, 0x0A], &[0x71, 0x0A], None),
     (&[0x70], &[0x71, 0], Some((1, 2))),
     (&[0x70], &[0x71, 0x0A], None),
-    // lists with pads at the same places, and of other lengths
-    (&[0xB3, 0, 0x21, 5], &[0xB4, 1, 0xFF, 0x21, 5], Some((4, 5))),
+    // lists with pads, which are built and compared; and of other lengths
+    (&[0xB3, 0, 0x21, 5], &[0xB4, 1, 0xFF, 0x21, 5], None),
     (&[0xB2, 0x21, 5], &[0xB4, 0x21, 5, 0x21, 5], None),
     (&[0xB2, 0x21, 5], &[0xC2, 0x21, 5], None),
     // structs and annotations, by the names

@@ -37,7 +37,7 @@ fn step(scanner: &mut Scanner, piece: &[u8]) -> Option<Result<Stepped, Refusal>>
     }
     match scanner.step(piece, Place::Top) {
         Ok(scan) => {
-            let stepped = (scan.used, told(&scan.token), scan.left);
+            let stepped = (scan.used, told(&scan.token), scanner.left());
             drop(scan);
             Some(Ok(stepped))
         }

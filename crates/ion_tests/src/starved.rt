@@ -137,8 +137,11 @@ fn puts(rt: &impl Abort, alloc: Global, value: &Value) {
 
 #[test]
 fn starved_writers(rt: HostRuntime) {
-    if let Ok(value) = value(rt.alloc(), TEXT) {
-        puts(&rt, rt.alloc(), &value);
-        drop(value);
+    match value(rt.alloc(), TEXT) {
+        Ok(value) => {
+            puts(&rt, rt.alloc(), &value);
+            drop(value);
+        }
+        Err(reason) => same(&rt, "value", reason, Reason::Memory),
     }
 }

@@ -5,11 +5,10 @@ use Rattle.ion_atoms.specs.declared.refusal.Refusal.{Refusal}
 use Rattle.ion_model.specs.declared.value.Value.{Value}
 use Rattle.ion_symtab.specs.declared.limits.Limits.{Limits}
 use Rattle.ion_symtab.specs.declared.catalog.Catalog.{Catalog}
-use Rattle.ion_tokens.specs.declared.token.Scan.{Scan}
 use Rattle.ion_tokens.specs.declared.token.Token.{Token as Found}
 use Rattle.ion_tokens.specs.Bodies.{Content, content}
 use Rattle.ion_tokens.specs.machine.Scanning.{Known, Lexeme, Outcome, Next, Given, Left, Refused}
-use Rattle.ion_tokens.specs.machine.Steps.{Answers, IsToken, GivesToken}
+use Rattle.ion_tokens.specs.machine.Steps.{Stepped, Answers, IsToken, GivesToken}
 use Rattle.ion_tokens.specs.machine.Views.{scanned}
 use Rattle.ion_tokens.proofs.Cutting.{one_body}
 use Rattle.ion_text.specs.declared.reader.TextReader.{TextReader}
@@ -73,13 +72,13 @@ module _ (g : Catalog) (l : Limits) (r : Reading) where
   pub record NoToken (x : Outcome) (now : Known) : Type 0 where
     pub is : x ≡ Next now
 
-  pub no_token : (before : ℕ) (x : Outcome) (scan : Scan) (now : Known) → Answers before x (Ok scan) now → scan.token ≡ None → NoToken x now
+  pub no_token : (before : ℕ) (x : Outcome) (scan : Stepped) (now : Known) → Answers before x (Ok scan) now → scan.token ≡ None → NoToken x now
   no_token before (Next s) scan now a e = record { is = ap Next (sym a.0.known) }
   no_token before (Given x s) scan now a e = absurd (subst (λ t. GivesToken x t) e a.1)
   no_token before (Left x s) scan now a e = absurd (subst (λ t. GivesToken x t) e a.1)
   no_token before (Refused n y) scan now a e = absurd a
 
-  pub next_meets : (before : ℕ) (x : Outcome) (scan : Scan) (now : Known) (new : TextReader) → Answers before x (Ok scan) now → scan.token ≡ None → scanned new.scanner ≡ now → noticed l r now ≡ uses (state_of new) → Meets g l r x met.Uses new
+  pub next_meets : (before : ℕ) (x : Outcome) (scan : Stepped) (now : Known) (new : TextReader) → Answers before x (Ok scan) now → scan.token ≡ None → scanned new.scanner ≡ now → noticed l r now ≡ uses (state_of new) → Meets g l r x met.Uses new
   next_meets before x scan now new a e same did =
       let h = (no_token before x scan now a e).is in
       record {
@@ -88,7 +87,7 @@ module _ (g : Catalog) (l : Limits) (r : Reading) where
         left = ap is_left h;
       }
 
-  pub next_refused : (before : ℕ) (x : Outcome) (scan : Scan) (now : Known) (refusal : Refusal) (reason : Reason) (new : TextReader) → Answers before x (Ok scan) now → scan.token ≡ None → noticed l r now ≡ fails reason
+  pub next_refused : (before : ℕ) (x : Outcome) (scan : Stepped) (now : Known) (refusal : Refusal) (reason : Reason) (new : TextReader) → Answers before x (Ok scan) now → scan.token ≡ None → noticed l r now ≡ fails reason
       → refusal ≡ record { offset = now.used + 0; reason = reason } → MeetsWith g l r x (Err refusal) new
   next_refused before x scan now refusal reason new a e did same =
       let h = (no_token before x scan now a e).is in
@@ -107,19 +106,19 @@ module _ (g : Catalog) (l : Limits) (r : Reading) where
     is : x ≡ Left lexeme now
     token : IsToken lexeme t
 
-  given_token : (before : ℕ) (x : Outcome) (scan : Scan) (t : Found) (now : Known) → Answers before x (Ok scan) now → scan.token ≡ Some t → scan.left ≡ false → GivenToken x t now
+  given_token : (before : ℕ) (x : Outcome) (scan : Stepped) (t : Found) (now : Known) → Answers before x (Ok scan) now → scan.token ≡ Some t → scan.left ≡ false → GivenToken x t now
   given_token before (Next s) scan t now a e f = let n = a.1 in absurd cc
   given_token before (Given x s) scan t now a e f = record { lexeme = x; is = ap (λ k. Given x k) (sym a.0.known); token = subst (λ o. GivesToken x o) e a.1 }
   given_token before (Left x s) scan t now a e f = let n = a.2 in absurd cc
   given_token before (Refused n y) scan t now a e f = absurd a
 
-  left_token : (before : ℕ) (x : Outcome) (scan : Scan) (t : Found) (now : Known) → Answers before x (Ok scan) now → scan.token ≡ Some t → scan.left ≡ true → LeftToken x t now
+  left_token : (before : ℕ) (x : Outcome) (scan : Stepped) (t : Found) (now : Known) → Answers before x (Ok scan) now → scan.token ≡ Some t → scan.left ≡ true → LeftToken x t now
   left_token before (Next s) scan t now a e f = let n = a.1 in absurd cc
   left_token before (Given x s) scan t now a e f = let n = a.2 in absurd cc
   left_token before (Left x s) scan t now a e f = record { lexeme = x; is = ap (λ k. Left x k) (sym a.0.known); token = subst (λ o. GivesToken x o) e a.1 }
   left_token before (Refused n y) scan t now a e f = absurd a
 
-  pub given_meets : (before : ℕ) (x : Outcome) (scan : Scan) (t : Found) (now : Known) (m : Met) (new : TextReader) → Answers before x (Ok scan) now → scan.token ≡ Some t → scan.left ≡ false
+  pub given_meets : (before : ℕ) (x : Outcome) (scan : Stepped) (t : Found) (now : Known) (m : Met) (new : TextReader) → Answers before x (Ok scan) now → scan.token ≡ Some t → scan.left ≡ false
       → scanned new.scanner ≡ now → comes_again m ≡ false → DidMeet (λ _. behind_given l now (turn g l r (token_in t))) (Ok m) new → Meets g l r x m new
   given_meets before x scan t now m new a e f same ends did =
       let h = given_token before x scan t now a e f in
@@ -129,7 +128,7 @@ module _ (g : Catalog) (l : Limits) (r : Reading) where
         left = ap is_left h.is ∙ sym ends;
       }
 
-  pub given_refused : (before : ℕ) (x : Outcome) (scan : Scan) (t : Found) (now : Known) (refusal : Refusal) (reason : Reason) (used : ℕ) (new : TextReader) → Answers before x (Ok scan) now → scan.token ≡ Some t → scan.left ≡ false
+  pub given_refused : (before : ℕ) (x : Outcome) (scan : Stepped) (t : Found) (now : Known) (refusal : Refusal) (reason : Reason) (used : ℕ) (new : TextReader) → Answers before x (Ok scan) now → scan.token ≡ Some t → scan.left ≡ false
       → DidMeet (λ _. behind_given l now (turn g l r (token_in t))) (Err reason) new → used ≡ now.used → refusal ≡ record { offset = used + 0; reason = reason } → MeetsWith g l r x (Err refusal) new
   given_refused before x scan t now refusal reason used new a e f did at same =
       let h = given_token before x scan t now a e f in
@@ -138,7 +137,7 @@ module _ (g : Catalog) (l : Limits) (r : Reading) where
       let cause = ap (λ (q : Refusal). q.reason) same in
       λ other. (here ∙ sym (ap decided h.is), λ again. ap (λ y. on_scan g l again r y) h.is ∙ (on_given again h.lexeme t now now refl h.token ∙ (did (λ m. other (cause ∙ m)) again ∙ ap fails (sym cause))))
 
-  pub left_meets : (before : ℕ) (x : Outcome) (scan : Scan) (t : Found) (now : Known) (m : Met) (new : TextReader) → Answers before x (Ok scan) now → scan.token ≡ Some t → scan.left ≡ true
+  pub left_meets : (before : ℕ) (x : Outcome) (scan : Stepped) (t : Found) (now : Known) (m : Met) (new : TextReader) → Answers before x (Ok scan) now → scan.token ≡ Some t → scan.left ≡ true
       → scanned new.scanner ≡ now → comes_again m ≡ true → DidMeet (λ again. behind_left again now (turn g l r (token_in t))) (Ok m) new → Meets g l r x m new
   left_meets before x scan t now m new a e f same ends did =
       let h = left_token before x scan t now a e f in
@@ -148,7 +147,7 @@ module _ (g : Catalog) (l : Limits) (r : Reading) where
         left = ap is_left h.is ∙ sym ends;
       }
 
-  pub left_refused : (before : ℕ) (x : Outcome) (scan : Scan) (t : Found) (now : Known) (refusal : Refusal) (reason : Reason) (used : ℕ) (new : TextReader) → Answers before x (Ok scan) now → scan.token ≡ Some t → scan.left ≡ true
+  pub left_refused : (before : ℕ) (x : Outcome) (scan : Stepped) (t : Found) (now : Known) (refusal : Refusal) (reason : Reason) (used : ℕ) (new : TextReader) → Answers before x (Ok scan) now → scan.token ≡ Some t → scan.left ≡ true
       → DidMeet (λ again. behind_left again now (turn g l r (token_in t))) (Err reason) new → used ≡ now.used → refusal ≡ record { offset = used + 1; reason = reason } → MeetsWith g l r x (Err refusal) new
   left_refused before x scan t now refusal reason used new a e f did at same =
       let h = left_token before x scan t now a e f in

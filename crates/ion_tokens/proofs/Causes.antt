@@ -18,7 +18,7 @@ use Rattle.ion_tokens.specs.Blobs.{blob_of}
 use Rattle.ion_tokens.specs.machine.Scanning.{Known, Outcome, Next, Given, Left, Refused, go_to, cut, past, blob_ends, acts, feed, follow, run}
 use Rattle.ion_tokens.specs.Bodies.{IsWordBody, IsBody, null_of, kind_named, id_of}
 use Rattle.ion_tokens.specs.machine.Bounds.{is_idle, unkept, debt}
-use Rattle.ion_tokens.specs.machine.Steps.{Answers, is_step_reason}
+use Rattle.ion_tokens.specs.machine.Steps.{answered, Answers, is_step_reason}
 use Rattle.ion_tokens.proofs.Fits.{Fits, is_octet_reason, table_fits}
 
 -- what octets come to is refused for their own sake
@@ -106,11 +106,11 @@ body_reason kinds.Blob octets e h = cc
 body_reason (kinds.Mark m) octets e h = cc
 
 -- a step refuses for one of its reasons
-pub answer_reason : (x : Outcome) (r : Result Scan Refusal) (before : ℕ) (now : Known) → IsFair x → Answers before x r now
+pub answer_reason : (x : Outcome) (r : Result Scan Refusal) (left : Bool) (before : ℕ) (now : Known) → IsFair x → Answers before x (answered r left) now
     → IfErr r (λ refusal. is_step_reason refusal.reason ≡ true)
 unfolding IsFair
-answer_reason (Next s) (Err r) before now f a = unless_memory r.reason (λ n. absurd (a n))
-answer_reason (Given l s) (Err r) before now f a = unless_memory r.reason (λ n. let t = a n in body_reason l.kind l.octets r.reason t.says)
-answer_reason (Left l s) (Err r) before now f a = unless_memory r.reason (λ n. let t = a n in body_reason l.kind l.octets r.reason t.says)
-answer_reason (Refused at e) (Err r) before now f a = unless_memory r.reason (λ n. ap (λ (q : Refusal). is_step_reason q.reason) (a n) ∙ step_reason e f)
-answer_reason x (Ok scan) before now f a = tt
+answer_reason (Next s) (Err r) left before now f a = unless_memory r.reason (λ n. absurd (a n))
+answer_reason (Given l s) (Err r) left before now f a = unless_memory r.reason (λ n. let t = a n in body_reason l.kind l.octets r.reason t.says)
+answer_reason (Left l s) (Err r) left before now f a = unless_memory r.reason (λ n. let t = a n in body_reason l.kind l.octets r.reason t.says)
+answer_reason (Refused at e) (Err r) left before now f a = unless_memory r.reason (λ n. ap (λ (q : Refusal). is_step_reason q.reason) (a n) ∙ step_reason e f)
+answer_reason x (Ok scan) left before now f a = tt

@@ -7,11 +7,10 @@ use Rattle.ion_atoms.specs.declared.refusal.Refusal.{Refusal}
 use Rattle.ion_atoms.specs.declared.refusal.Reason.{Reason}
 use Rattle.ion_atoms.specs.declared.refusal.Reason.TheVariants as reasons
 use Rattle.ion_tokens.specs.declared.mode.Place.{Place}
-use Rattle.ion_tokens.specs.declared.token.Scan.{Scan}
 use Rattle.ion_tokens.specs.declared.token.Token.{Token}
 use Rattle.ion_tokens.specs.machine.Scanning.{Known, Lexeme, Outcome, Next, Given, Left, Refused, follow, run, at_end, initial}
 use Rattle.ion_tokens.specs.Bodies.{IsBody}
-use Rattle.ion_tokens.specs.machine.Steps.{Answers, Ends, IsToken, GivesToken, deciding}
+use Rattle.ion_tokens.specs.machine.Steps.{Stepped, Answers, Ends, IsToken, GivesToken, deciding}
 use Rattle.ion_tokens.specs.Lexed.{Placed, Lexes, LexesTo, BeginsLexed, Stands, Begun, Gave, Leaved, Passes, AllPass, IsNext}
 use Rattle.ion_tokens.specs.machine.Scanned.{Scanned, IsAhead, Continues, AllSay, Tells, GoesWith, NoDocument, EndsSo, NoEnd}
 use Rattle.ion_tokens.proofs.Runs.{next_used}
@@ -108,7 +107,7 @@ module _ (p : Place) (s : Known) (u : List ℕ) (ts : List Placed) (ahead : List
   pub scanned_used : s.used ≡ length u
   scanned_used = let stood = stands_used h.behind h.front ts h.left h.told in omega (arith, stood, since_used, ap length h.cut, length-append h.front h.since)
 
-  gave : (piece : List ℕ) (s' : Known) (l : Lexeme) (scan : Scan) (t : Token) → scan.left ≡ false → Continues piece ahead → run p piece s ≡ Given l s' → s'.used ≡ s.used + scan.used → IsToken l t → Tells p u piece ts scan t s'
+  gave : (piece : List ℕ) (s' : Known) (l : Lexeme) (scan : Stepped) (t : Token) → scan.left ≡ false → Continues piece ahead → run p piece s ≡ Given l s' → s'.used ≡ s.used + scan.used → IsToken l t → Tells p u piece ts scan t s'
   gave piece s' l scan t used_all c e n is = by (given_split p piece s s' l e) where
     by : GivenSplit p piece s s' l → Tells p u piece ts scan t s'
     by x =
@@ -131,7 +130,7 @@ module _ (p : Place) (s : Known) (u : List ℕ) (ts : List Placed) (ahead : List
               (Gave h.behind h.front ts h.left (record { place = p; lexeme = l }) (h.since ++ x.octets) from.0 s' h.told from.1 (behind_since x.octets (Given l s') x.ran) (omega (arith, x.used, since_used, length-append h.since x.octets))) is.passes q);
         }
 
-  left : (piece : List ℕ) (s' : Known) (l : Lexeme) (scan : Scan) (t : Token) → scan.left ≡ true → Continues piece ahead → run p piece s ≡ Left l s' → s'.used ≡ s.used + scan.used → IsToken l t → Tells p u piece ts scan t s'
+  left : (piece : List ℕ) (s' : Known) (l : Lexeme) (scan : Stepped) (t : Token) → scan.left ≡ true → Continues piece ahead → run p piece s ≡ Left l s' → s'.used ≡ s.used + scan.used → IsToken l t → Tells p u piece ts scan t s'
   left piece s' l scan t one_left c e n is = by (left_split p piece s s' l e) where
     by : LeftSplit p piece s s' l → Tells p u piece ts scan t s'
     by x =
@@ -159,7 +158,7 @@ module _ (p : Place) (s : Known) (u : List ℕ) (ts : List Placed) (ahead : List
         }
 
   -- what a step that answers `Ok` says of the octets
-  pub step_goes : (piece : List ℕ) (x : Outcome) (scan : Scan) (now : Known) → Continues piece ahead → run p piece s ≡ x → Answers s.used x (Ok scan) now → GoesWith p u piece ts scan now scan.token
+  pub step_goes : (piece : List ℕ) (x : Outcome) (scan : Stepped) (now : Known) → Continues piece ahead → run p piece s ≡ x → Answers s.used x (Ok scan) now → GoesWith p u piece ts scan now scan.token
   step_goes piece (Next s') scan now c e (uses, none, flag) = subst (λ t. GoesWith p u piece ts scan now t) (sym none) (subst (λ k. Scanned p k (u ++ piece) ts []) (sym uses.known) (goes_on piece s' c e))
   step_goes piece (Given l s') scan now c e (uses, gives, flag) = subst (λ k. GoesWith p u piece ts scan k scan.token) (sym uses.known) (by scan.token gives) where
     by : (t : Option Token) → GivesToken l t → GoesWith p u piece ts scan s' t

@@ -12,7 +12,6 @@ use Rattle.ion_tokens.specs.declared.mode.Mode.TheVariants as modes
 use Rattle.ion_tokens.specs.declared.mode.TokenKind.TheVariants as kinds
 use Rattle.ion_tokens.specs.declared.mode.Action.{Action}
 use Rattle.ion_tokens.specs.declared.mode.Action.TheVariants as actions
-use Rattle.ion_tokens.specs.declared.token.Scan.{Scan}
 use Rattle.ion_tokens.specs.declared.token.Token.{Token}
 use Rattle.ion_tokens.specs.machine.Table.{next}
 use Rattle.ion_tokens.specs.Blobs.{blob_of}
@@ -20,7 +19,7 @@ use Rattle.ion_tokens.specs.machine.Bounds.{is_idle, unkept, debt}
 use Rattle.ion_tokens.specs.machine.Scanning.{Known, Lexeme, Outcome, Next, Given, Left, Refused, initial, cut, past, go_to, blob_ends, acts, feed, follow, run, at_end}
 use Rattle.ion_tokens.specs.Bodies.{Content, content}
 use Rattle.ion_tokens.specs.machine.Said.{said, says}
-use Rattle.ion_tokens.specs.machine.Steps.{deciding, Answers, Ends, IsToken, GivesToken, RefusesToken}
+use Rattle.ion_tokens.specs.machine.Steps.{Stepped, deciding, Answers, Ends, IsToken, GivesToken, RefusesToken}
 use Rattle.ion_tokens.specs.machine.Scanned.{Continues}
 use Rattle.ion_tokens.specs.machine.Traces.{Told, Places, Trail, Leads, Stops, then_by, judged, comes, takes, over, over_pieces, last_judged, end_judged, traced, trace, IsTraced, told_as, told_by, last_of, left_by, AnswersTrace, EndsTrace}
 use Rattle.ion_tokens.proofs.Fits.{Fits, table_fits}
@@ -174,7 +173,7 @@ module _ (p : Place) (s : Known) (piece : List ℕ) where
         ∙ ap (λ t. then_by t (over places rest)) stops)
 
   -- the same by other names
-  same_stand : (places : Places) (u w left : List ℕ) (told us : List Told) (scan : Scan) (now t : Known) → take scan.used piece ≡ w → left_by scan piece ≡ left → told ≡ us → now ≡ t
+  same_stand : (places : Places) (u w left : List ℕ) (told us : List Told) (scan : Stepped) (now t : Known) → take scan.used piece ≡ w → left_by scan piece ≡ left → told ≡ us → now ≡ t
       → IsTraced places t (u ++ w) us left → IsTraced places now (u ++ take scan.used piece) told (left_by scan piece)
   same_stand places u w left told us scan now t a b c d h =
       subst (λ x. IsTraced places x (u ++ take scan.used piece) told (left_by scan piece)) (sym d)
@@ -217,7 +216,7 @@ module _ (p : Place) (s : Known) (piece : List ℕ) where
           ∙ ap (λ y. then_by y (over places more)) once_more
 
   -- A step that answers `Ok` goes on in the trace.
-  pub step_traced : (x : Outcome) (scan : Scan) (now : Known) → run p piece s ≡ x → Answers s.used x (Ok scan) now → AnswersTrace p s piece (Ok scan) now
+  pub step_traced : (x : Outcome) (scan : Stepped) (now : Known) → run p piece s ≡ x → Answers s.used x (Ok scan) now → AnswersTrace p s piece (Ok scan) now
   step_traced (Next t) scan now e (uses, none, flag) = λ places u ts ahead h c place.
       let used = next_used p piece s t (sym e) in
       let same : now.used ≡ t.used = ap (λ (k : Known). k.used) uses.known in

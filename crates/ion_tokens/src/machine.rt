@@ -1,5 +1,5 @@
 //! The scanner's machine: the table, and the octets that are kept of the open token.
-ghost use Rattle.std.specs.Prelude.{◌≡◌, ℕ, ◌+◌, ◌-◌, ◌<◌, ◌^◌, [], length, min, IfOk, IfErr, ◌≢◌};
+ghost use Rattle.std.specs.Prelude.{◌≡◌, ℕ, ◌+◌, ◌-◌, ◌<◌, ◌^◌, [], length, min, IfOk, IfErr, false, ◌≢◌};
 ghost use Rattle.ion_atoms.specs.declared.refusal.Reason.TheVariants.{Memory};
 ghost use Rattle.ion_tokens.specs.machine.Scanning.{feed, run, at_end, kept_after, start_of, left_of, takes_colon, cut, past, go_to, initial, acts, blob_ends, split_at};
 ghost use Rattle.ion_tokens.specs.Blobs.{blob_of};
@@ -49,6 +49,8 @@ pub struct Machine {
     pub used: u64,
     /// How many octets were taken up, each as often as it was.
     pub looked: u64,
+    /// Whether the octet behind those used ended the token that was given last.
+    pub left: bool,
 }
 
 // Adds to the octets that are kept: mostly nothing or one, for which no call is made.
@@ -122,6 +124,7 @@ impl Machine {
     pub fn new(alloc: Global) -> Machine
         ensures known { known result ≡ initial }
         ensures looked { result.looked ≡ 0 }
+        ensures left { result.left ≡ false }
     {
         Machine {
             alloc,
@@ -132,6 +135,7 @@ impl Machine {
             start: 0,
             used: 0,
             looked: 0,
+            left: false,
         }
     }
 

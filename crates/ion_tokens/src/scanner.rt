@@ -1,18 +1,18 @@
 //! The scanner, to which the octets come in pieces.
-ghost use Rattle.std.specs.Prelude.{◌≡◌, ◌≢◌, ◌+◌, ◌-◌, ◌*◌, ◌≤◌, ◌<◌, ◌^◌, length, ◌++◌, [], OnOk, IfOk, IfErr, IfSome, IfNone, IsNone, None, List, ℕ, true, take};
+ghost use Rattle.std.specs.Prelude.{◌≡◌, ◌≢◌, ◌+◌, ◌-◌, ◌*◌, ◌≤◌, ◌<◌, ◌^◌, length, ◌++◌, [], OnOk, IfOk, IfErr, IfSome, IfNone, IsNone, None, List, ℕ, true, false, take};
 ghost use Rattle.ion_atoms.specs.declared.refusal.Reason.TheVariants.{Memory};
 ghost use Rattle.ion_tokens.specs.declared.mode.Place.{Place};
 ghost use Rattle.ion_tokens.specs.machine.Scanning.{Known, Next, run, at_end, initial, cut, acts, feed, start_of};
 ghost use Rattle.ion_tokens.specs.machine.Bounds.{is_idle, IsSteady, StaysSteady};
 ghost use Rattle.ion_tokens.specs.Bodies.{content, IsBody};
-ghost use Rattle.ion_tokens.specs.machine.Views.{known, lexeme_in, scanned, failure, looks, behind, form_of, begun_in, held_in, open_in, foresight};
+ghost use Rattle.ion_tokens.specs.machine.Views.{known, lexeme_in, scanned, failure, left_in, looks, behind, form_of, begun_in, held_in, open_in, foresight};
 ghost use Rattle.ion_tokens.specs.machine.AtOnce.{goes_on};
 ghost use Rattle.ion_tokens.specs.Lexemes.{Each};
 ghost use Rattle.ion_tokens.specs.Lexed.{Placed};
 ghost use Rattle.ion_tokens.specs.machine.Rests.{resting};
 ghost use Rattle.ion_tokens.specs.machine.Scanned.{Scanned, Goes, RefusesAt, EndsWith, NeverEnds, EndsFor, AlwaysShows};
 ghost use Rattle.ion_tokens.specs.machine.Traces.{Places, IsTraced, AnswersTrace, EndsTrace};
-ghost use Rattle.ion_tokens.specs.machine.Steps.{Answers, Ends, IsToken, GivesToken, RefusesToken, IsWithin, deciding, is_step_reason};
+ghost use Rattle.ion_tokens.specs.machine.Steps.{answered, stepped, Answers, Ends, IsToken, GivesToken, RefusesToken, IsWithin, deciding, is_step_reason};
 
 use crate::body::body_of;
 use crate::machine::{Lexeme, Machine, Taken, start_of};
@@ -69,6 +69,7 @@ impl Machine {
             refusal.offset ≡ before) }
         ensures known { known self.new ≡ known self.old }
         ensures looked { self.new.looked ≡ self.old.looked }
+        ensures left { self.new.left ≡ self.old.left }
     {
         let Lexeme { start, end, kind } = lexeme;
         let lent = lent(piece, before, lexeme);
@@ -85,7 +86,7 @@ impl Machine {
         }
     }
 
-    // Judges the token to which a step led, and which an octet ended that was left or not.
+    // Judges the token to which a step led, and which an octet ended that is left or not.
     fn given<'p>(
         &mut self,
         lexeme: Lexeme,
@@ -96,14 +97,16 @@ impl Machine {
         requires before { before ≤ self.old.used }
         requires room { self.old.used < 2 ^ 63 }
         ensures ok { IfOk result (λ scan. GivesToken (lexeme_in lexeme self.old) scan.token ×
-            (self.old.used ≡ before + scan.used) × (scan.left ≡ left)) }
+            (self.old.used ≡ before + scan.used)) }
         ensures err { IfErr result (λ refusal. refusal.reason ≢ Memory →
             RefusesToken (lexeme_in lexeme self.old) (deciding self.old.used left) refusal) }
         ensures memory { IfErr result (λ refusal. refusal.reason ≡ Memory →
             refusal.offset ≡ before) }
         ensures known { known self.new ≡ known self.old }
         ensures looked { self.new.looked ≡ self.old.looked }
+        ensures left { self.new.left ≡ left }
     {
+        self.left = left;
         let used = (self.used - before) as usize;
         if let TokenKind::Mark(mark) = lexeme.kind {
             let token = Token {
@@ -114,7 +117,6 @@ impl Machine {
             return Ok(Scan {
                 used,
                 token: Some(token),
-                left,
             });
         }
         let decided = if left { self.used + 1 } else { self.used };
@@ -122,15 +124,14 @@ impl Machine {
         Ok(Scan {
             used,
             token: Some(token),
-            left,
         })
     }
 
     // Takes up octets of a piece up to the first token, and judges it.
     fn scan<'p>(&mut self, piece: &'p [u8], place: Place) -> Result<Scan<'p>, Refusal>
         requires { self.old.used + length piece.now < 2 ^ 63 }
-        ensures answers { Answers self.old.used (run place piece.now (known self.old)) result
-            (known self.new) }
+        ensures answers { Answers self.old.used (run place piece.now (known self.old))
+            (answered result self.new.left) (known self.new) }
         ensures steady { IfOk result (λ _. IsSteady (known self.old) self.old.looked →
             IsSteady (known self.new) self.new.looked) }
         ensures memory { IfErr result (λ refusal. refusal.reason ≡ Memory →
@@ -142,11 +143,13 @@ impl Machine {
                 offset: before,
                 reason: Reason::Memory,
             }),
-            Ok(Taken::Next) => Ok(Scan {
-                used: piece.len(),
-                token: None,
-                left: false,
-            }),
+            Ok(Taken::Next) => {
+                self.left = false;
+                Ok(Scan {
+                    used: piece.len(),
+                    token: None,
+                })
+            }
             Ok(Taken::Given(lexeme)) => self.given(lexeme, before, false, piece),
             Ok(Taken::Left(lexeme)) => self.given(lexeme, before, true, piece),
             Ok(Taken::Refused(refusal)) => Err(refusal),
@@ -196,6 +199,7 @@ impl Scanner {
         ensures steady { IsSteady (scanned result) (looks result) }
         ensures begins { (place : Place) → Scanned place (scanned result) [] [] [] }
         ensures traced { (places : Places) → IsTraced places (scanned result) [] [] [] }
+        ensures left { left_in result ≡ false }
     {
         Scanner {
             machine: Machine::new(alloc),
@@ -207,7 +211,7 @@ impl Scanner {
     /// token stands, which changes only after a token.
     ///
     /// A token may be given before the octet that showed its end, where that octet isn't part of it: then `used` doesn't
-    /// count the octet, `left` says so, and the next piece has to begin with it.
+    /// count the octet, `left()` says so from then on, and the next piece has to begin with it.
     ///
     /// A refusal's offset counts the octets of the document up to the one that decides. `Malformed`, `TooLarge` and
     /// `Float` come from numbers as in `number_of`, `Malformed` from `null.` without the name of a kind and `Float` from a
@@ -218,8 +222,8 @@ impl Scanner {
     pub fn step<'p>(&mut self, piece: &'p [u8], place: Place) -> Result<Scan<'p>, Refusal>
         requires { (scanned self.old).used + length piece.now < 2 ^ 63 }
         ensures answers { IsNone (failure self.old) →
-            Answers (scanned self.old).used (run place piece.now (scanned self.old)) result
-            (scanned self.new) }
+            Answers (scanned self.old).used (run place piece.now (scanned self.old))
+            (answered result (left_in self.new)) (scanned self.new) }
         ensures used { IfOk result (λ scan. scan.used ≤ length piece.now) }
         ensures all { IfOk result (λ scan. scan.token ≡ None → scan.used ≡ length piece.now) }
         ensures counts { IfOk result (λ scan. (scanned self.new).used
@@ -232,7 +236,8 @@ impl Scanner {
         ensures reasons { IsNone (failure self.old) →
             IfErr result (λ refusal. is_step_reason refusal.reason ≡ true) }
         ensures goes { IsNone (failure self.old) →
-            IfOk result (λ scan. Goes place (scanned self.old) piece.now scan (scanned self.new)) }
+            IfOk result (λ scan. Goes place (scanned self.old) piece.now
+            (stepped scan (left_in self.new)) (scanned self.new)) }
         ensures refuses { IsNone (failure self.old) →
             IfErr result (λ refusal. refusal.reason ≢ Memory →
             RefusesAt place (scanned self.old) piece.now refusal.offset) }
@@ -240,7 +245,8 @@ impl Scanner {
             IfErr result (λ refusal. refusal.reason ≢ Memory →
             IsWithin (scanned self.old).used (length piece.now) refusal) }
         ensures traced { IsNone (failure self.old) →
-            AnswersTrace place (scanned self.old) piece.now result (scanned self.new) }
+            AnswersTrace place (scanned self.old) piece.now
+            (answered result (left_in self.new)) (scanned self.new) }
         ensures fails { IfErr result (λ refusal. failure self.new ≡ Some refusal) }
         ensures goes_on { IfOk result (λ _. failure self.new ≡ None) }
         ensures again { IfSome (failure self.old) (λ refusal. result ≡ Err refusal) }
@@ -360,6 +366,14 @@ impl Scanner {
                 Err(refusal)
             }
         }
+    }
+
+    /// Whether the octet behind those that the last step used ended the token that it gave: the next piece has to
+    /// begin with that octet.
+    pub fn left(&self) -> bool
+        ensures { result ≡ left_in self.now }
+    {
+        self.machine.left
     }
 
     /// How many octets were used, by all steps together.

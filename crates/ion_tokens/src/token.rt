@@ -41,8 +41,6 @@ pub struct Scan<'p> {
     pub used: usize,
     /// The next token, if the octets used, or the one behind them, end it.
     pub token: Option<Token<'p>>,
-    /// Whether the octet behind those used ended it, with which the next piece has to begin.
-    pub left: bool,
 }
 
 /// The token that has begun and not ended.

@@ -1,9 +1,12 @@
 -- What command lines over any names and numbers ask for.
-use Rattle.std.proofs.Common.{◌≡◌, ◌≢◌, ◌∙◌, ◌++◌, ℕ, List, [], ◌∷◌, Option, Some, None, codes, refl, true, false, sym, ap, ap₂, is_some, ne_eqb}
+use Rattle.std.proofs.Common.{Bool, ◌≡◌, ◌≢◌, ◌∙◌, ◌++◌, ℕ, List, [], ◌∷◌, Option, Some, None, codes, refl, true, false, sym, ap, ap₂, is_some, ne_eqb}
 use Rattle.std.specs.Prelude.{◌==◌, ◌&&◌, ◌||◌, ◌^◌, not, if◌then◌else◌, option_map, option_and_then, find, fold, unwrap_or}
 use Rattle.std.specs.Str.{bytes_eq}
 use Rattle.clap.specs.Lexer.{long_of, long_of_rest, short_of, short_of_rest, strip_byte}
+use Rattle.std.specs.Str.Parse.{digits_value, without_leading_plus}
 use Rattle.clap.specs.Kinds.{Kinds, or_else}
+use Rattle.clap.specs.ValueTests.{is_unsigned_in}
+use Rattle.clap.specs.declared.error.ErrorKind.TheVariants as kind
 use Rattle.clap.specs.Walk.{Held, Rule, Step, Waiting, Walk, after_step, answers_to, finished, idle, is_empty, nothing_held, option, plain_word, positional, settled, subcommand_met, walk_from, walked, word_met}
 use Rattle.clap.specs.Faults.{check_fault, defaults_fault, entered_fault, settle_fault, step_fault, walk_fault, word_fault}
 use Rattle.clap.specs.Simple.{Shape, built, entered, label_of, names_of}
@@ -165,18 +168,29 @@ compare_behind left right = refl
 abbrev within : Option (ℕ × ℕ) → Option Asked
 within = option_and_then (λ (limits : ℕ × ℕ). input_once (record { job = check (codes "a"); catalog = None; depth = limits.0; item = limits.1 }))
 
-depth_given : (o : Option ℕ) → within (option_and_then (λ depth. Some (depth, 2 ^ 24)) o) ≡ option_map (λ depth. record (usual (check (codes "a"))) { depth = depth }) o
-depth_given None = refl
-depth_given (Some n) = refl
+-- a fault behind which nothing more is wrong: of an option, of its word, of its command, and of the program
+abbrev alone : Kinds → Kinds
+alone faults = or_else faults []
 
-item_given : (o : Option ℕ) → within (option_map (λ item. (64, item)) o) ≡ option_map (λ item. record (usual (check (codes "a"))) { item = item }) o
-item_given None = refl
-item_given (Some n) = refl
+-- what `check a` asks for within these limits, of which a number fits its range or doesn't
+abbrev judged : Bool → Option (ℕ × ℕ) → Option Asked
+judged fits limits =
+    if is_empty (alone (alone (alone (alone (alone (if fits then [] else kind.ValueValidation ∷ [])))))) then within limits else None
+
+depth_given : (fits : Bool) (n : ℕ) → judged fits (option_and_then (λ depth. Some (depth, 2 ^ 24)) (if fits then Some n else None))
+    ≡ option_map (λ depth. record (usual (check (codes "a"))) { depth = depth }) (if fits then Some n else None)
+depth_given true n = refl
+depth_given false n = refl
+
+item_given : (fits : Bool) (n : ℕ) → judged fits (option_map (λ item. (64, item)) (if fits then Some n else None))
+    ≡ option_map (λ item. record (usual (check (codes "a"))) { item = item }) (if fits then Some n else None)
+item_given true n = refl
+item_given false n = refl
 
 pub depth_is : (text : Text) → asked (codes "check" ∷ codes "a" ∷ (codes "--depth=" ++ text) ∷ []) ≡ option_map (λ depth. record (usual (check (codes "a"))) { depth = depth }) (number_in 128 text)
 unfolding clap_on_literals
-depth_is text = depth_given (number_in 128 text)
+depth_is text = depth_given (is_unsigned_in 1 128 text) (digits_value 10 (without_leading_plus text))
 
 pub item_is : (text : Text) → asked (codes "check" ∷ codes "a" ∷ (codes "--item=" ++ text) ∷ []) ≡ option_map (λ item. record (usual (check (codes "a"))) { item = item }) (number_in (2 ^ 30) text)
 unfolding clap_on_literals
-item_is text = item_given (number_in (2 ^ 30) text)
+item_is text = item_given (is_unsigned_in 1 (2 ^ 30) text) (digits_value 10 (without_leading_plus text))

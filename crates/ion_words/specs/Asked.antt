@@ -5,7 +5,7 @@ use Rattle.std.specs.Str.{bytes_eq}
 use Rattle.std.specs.Str.Parse.{digits_value, without_leading_plus}
 use Rattle.clap.specs.Walk.{is_empty}
 use Rattle.clap.specs.ValueTests.{is_unsigned_in}
-use Rattle.clap.specs.Words.{Row, Text, fault_of, first_of, subcommand_of}
+use Rattle.clap.specs.Words.{Row, Text, fault_of, first_of, one_of, subcommand_of}
 use Rattle.ion_symtab.specs.declared.limits.Limits.{Limits}
 use Rattle.ion_words.specs.declared.request.Encoding.{Encoding}
 use Rattle.ion_words.specs.declared.request.Encoding.TheVariants as encoding
@@ -57,7 +57,7 @@ number_of usual most (Some text) = number_in most text
 -- the depth and the octets of an item that the options give
 abbrev pub limits_of : List Row → Option (ℕ × ℕ)
 limits_of rows = option_and_then (λ depth. option_map (λ item. (depth, item))
-    (number_of (2 ^ 24) (2 ^ 30) (first_of (codes "item") rows))) (number_of 64 128 (first_of (codes "depth") rows))
+    (number_of (2 ^ 24) (2 ^ 30) (one_of (codes "item") rows))) (number_of 64 128 (one_of (codes "depth") rows))
 
 abbrev pub names_of_job : Job → List Text
 names_of_job (check file) = file ∷ []

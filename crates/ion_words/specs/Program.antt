@@ -1,5 +1,6 @@
 -- The command line as data: what its library is told of it.
-use Rattle.std.specs.Prelude.{true, Some, [], codes}
+use Rattle.std.specs.Prelude.{◌^◌, ℕ, true, Some, [], codes}
+use Rattle.clap.specs.declared.builder.value_parser.ValueParser.TheVariants as vp
 use Rattle.clap.specs.Words.{App, Rule, Shape, Text, new_app, new_rule, with_rule, with_subcommand}
 
 -- a name that must be given, by its place
@@ -10,12 +11,17 @@ place id = record (new_rule id) { required = true }
 abbrev pub option : Text → Rule
 option id = record (new_rule id) { long = Some id }
 
+-- `--id N`, a whole number from 1 to `most`
+abbrev pub number_option : ℕ → Text → Rule
+number_option most id = record (option id) { parser = Some (vp.Unsigned 1 most) }
+
 abbrev pub needed_option : Text → Rule
 needed_option id = record (option id) { required = true }
 
 -- `--catalog FILE`, `--depth N` and `--item N`
 abbrev pub with_options : App → App
-with_options app = with_rule (with_rule (with_rule app (option (codes "catalog"))) (option (codes "depth"))) (option (codes "item"))
+with_options app = with_rule (with_rule (with_rule app (option (codes "catalog")))
+    (number_option 128 (codes "depth"))) (number_option (2 ^ 30) (codes "item"))
 
 -- a command over one document
 abbrev pub over_one : Text → App

@@ -1,8 +1,9 @@
 //! The words of the command line, as its library is told of them.
 ghost use Rattle.std.specs.Prelude.{◌≡◌, true, IfOk, IsOkAnd};
 ghost use Rattle.clap.specs.Words.{app_of, with_rule, with_subcommand};
-ghost use Rattle.ion_words.specs.Program.{program, bare, over_one, converting, comparing, place, option, needed_option, with_options};
+ghost use Rattle.ion_words.specs.Program.{program, bare, over_one, converting, comparing, place, option, number_option, needed_option, with_options};
 
+use clap::builder::ValueParser;
 use clap::{Arg, Command};
 use std::alloc::{AllocError, Global};
 
@@ -67,8 +68,8 @@ fn with_options<'a>(alloc: Global, command: Command<'a>) -> Result<Command<'a>, 
     ensures { IfOk result (λ r. app_of r ≡ with_options (app_of command.entry)) }
 {
     let command = with_option(alloc, command, "catalog")?;
-    let command = with_option(alloc, command, "depth")?;
-    with_option(alloc, command, "item")
+    let command = with_number(alloc, command, "depth", 128)?;
+    with_number(alloc, command, "item", 1 << 30)
 }
 
 /// The command with a name that must be given, by its place.
@@ -91,6 +92,20 @@ fn with_option<'a>(
     ensures { IfOk result (λ r. app_of r ≡ with_rule (app_of command.entry) (option id.now)) }
 {
     command.arg(Arg::new(alloc, id).long(id))
+}
+
+/// The command with `--id N`, which may be given, a whole number from 1 to `most`.
+fn with_number<'a>(
+    alloc: Global,
+    command: Command<'a>,
+    id: &'a str,
+    most: u64,
+) -> Result<Command<'a>, AllocError>
+    ensures { IfOk result (λ r.
+        app_of r ≡ with_rule (app_of command.entry) (number_option most id.now)) }
+{
+    let numbers = ValueParser::Unsigned(1, most);
+    command.arg(Arg::new(alloc, id).long(id).value_parser(numbers))
 }
 
 /// The command with `--id VALUE`, which must be given.

@@ -1,6 +1,6 @@
 //! From words to a request.
 ghost use Rattle.std.specs.Prelude.{◌≡◌, ◌↔◌, ◌≤◌, ◌^◌, ℕ, map, MatchResult, IfOk, IfSome, option_map, option_and_then, Some, None};
-ghost use Rattle.clap.specs.Words.{found_of, first_of, rows_of, kind_of, subcommand_rows_of};
+ghost use Rattle.clap.specs.Words.{found_of, first_of, one_of, rows_of, kind_of, subcommand_rows_of};
 ghost use Rattle.clap.specs.declared.error.ErrorKind.TheVariants.{OutOfMemory};
 ghost use Rattle.ion_words.specs.declared.request.WordsError.TheVariants.{Memory};
 ghost use Rattle.ion_words.specs.Asked.{asked, asked_by, told, job, job_of, encoding_named, limits_of, limits_told, number_of, up_to, names_input_once, names_of, NamesInputOnce};
@@ -127,19 +127,20 @@ fn limits_of(matches: &ArgMatches<'_>) -> Option<Limits>
     ensures reads { IfSome result (λ limits. limits.reads ≡ 2 ^ 32) }
 {
     let usual = Limits::usual();
-    let depth = number_of(given(matches, "depth"), u64::from(usual.depth()))?;
-    let item = number_of(given(matches, "item"), usual.item())?;
+    let depth = number_of(matches, "depth", u64::from(usual.depth()))?;
+    let item = number_of(matches, "item", usual.item())?;
     Limits::new(u32::try_from(depth).ok()?, item, usual.reads())
 }
 
-/// The number that the text writes, or the usual one where there is none.
-fn number_of(text: Option<&str>, usual: u64) -> Option<u64>
+/// The number of an option, as the library of command lines reads it, or the usual one where it
+/// isn't given.
+fn number_of(matches: &ArgMatches<'_>, id: &str, usual: u64) -> Option<u64>
     ensures { (most : ℕ) → 1 ≤ usual → usual ≤ most →
-        up_to most result ≡ number_of usual most (option_map (λ s. s.now) text.entry) }
+        up_to most result ≡ number_of usual most (one_of id.now (rows_of (found_of matches.now))) }
 {
-    match text {
-        None => Some(usual),
-        Some(text) => text.parse().ok(),
+    match matches.try_get_one::<u64>(id) {
+        Ok(given) => Some(given.unwrap_or(usual)),
+        Err(_) => None,
     }
 }
 

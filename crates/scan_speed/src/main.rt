@@ -68,7 +68,7 @@ fn count_piece(scanner: &mut Scanner, count: &mut Count, piece: &[u8]) -> Result
             return Err(Fault::TooLong);
         }
         match scanner.step(&piece[at..], count.place) {
-            Ok(Scan { used, token, .. }) => {
+            Ok(Scan { used, token }) => {
                 at += used;
                 if let Some(token) = token {
                     match count.add(token.body) {

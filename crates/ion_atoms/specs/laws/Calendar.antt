@@ -1,8 +1,9 @@
 -- Day numbers are jiff's, counted from another day; so they name the days, in their order.
-use Rattle.std.proofs.Common.{◌≡◌, ℕ, zero, suc, ◌+◌, ◌-◌, ◌≤◌, ℤ, pos, ◌+ℤ◌, ◌-ℤ◌, refl, sym, ap, ◌∙◌, arith}
+use Rattle.std.proofs.Common.{◌≡◌, ℕ, zero, suc, ◌+◌, ◌-◌, ◌≤◌, inl, ℤ, pos, ◌+ℤ◌, ◌-ℤ◌, ◌<ℤ◌, neg_ℤ, refl, sym, ap, subst, ◌∙◌, arith}
+use Rattle.std.proofs.lemmas.Int.{by_lt_z}
 use Rattle.jiff.proofs.SpanFacts.{signed_arith}
-use Rattle.jiff.proofs.Family.{epoch_day_range, epoch_day_injective, days_from_civil-max}
-use Rattle.jiff.specs.Words.{epoch_day}
+use Rattle.jiff.proofs.Family.{epoch_day_range, epoch_day-lt, epoch_day_injective, days_from_civil-max, min-lt-epoch_day}
+use Rattle.jiff.specs.Words.{epoch_day, IsYmd}
 use Rattle.jiff_core.specs.declared.civil.date.Date.{Date as CivilDate}
 use Rattle.jiff_core.specs.Calendar.{days_from_civil, day_count, days_in_year, days_of_years as civil_years, days_of_months as civil_months}
 use Rattle.ion_atoms.specs.declared.calendar.Date.{Date}
@@ -66,7 +67,40 @@ pub no_month : (y : ℕ) → days_of_months y 0 ≡ 0
 unfolding days_of_months
 no_month y = refl
 
+-- the first day of 1970, from which jiff counts
+abbrev pub first_of_1970 : Date
+first_of_1970 = record { year = 1970; month = 1; day = 1 }
+
+no_days : days_from_civil (pos 1970) 1 1 ≡ pos 0
+unfolding days_from_civil
+no_days = omega (arith, signed_arith)
+
+from_1970 : start ≡ neg_ℤ (pos (day_number first_of_1970))
+from_1970 =
+    let none : days_from_civil (pos 1970) 1 1 ≡ pos 0 = no_days in
+    omega (arith, signed_arith, none, days_from_civil-day_number first_of_1970 (omega arith))
+
+-- the day before 0001-01-01 as jiff has it, or an earlier one
+before_all : (c : CivilDate) → c.year <ℤ pos 1 → epoch_day c <ℤ (pos first_day +ℤ start)
+unfolding civil_date
+before_all c h =
+    let one : Date = record { year = 1; month = 1; day = 1 } in
+    let is : IsDate one = record { year = (omega arith, omega arith); month = (omega arith, omega arith); day = (omega arith, omega arith) } in
+    subst (λ z. epoch_day c <ℤ z) (civil_day_number one is) (epoch_day-lt c (civil_date one is) (inl h))
+
 module _ (d : Date) (h : IsDate d) where
+  -- a day of jiff's that is ours
+  pub civil_number : (c : CivilDate) → IsYmd (pos d.year) (pos d.month) (pos d.day) c → epoch_day c ≡ pos (day_number d) +ℤ start
+  civil_number c e =
+      let year : c.year ≡ pos d.year = cc in
+      let month : c.month ≡ d.month = cc in
+      let day : c.day ≡ d.day = cc in
+      rw (year, month, day) (days_from_civil-day_number d h.day.0)
+
+  -- and its number as jiff counts
+  pub number_from_1970 : (c : CivilDate) → IsYmd (pos d.year) (pos d.month) (pos d.day) c → epoch_day c ≡ pos (day_number d) -ℤ pos (day_number first_of_1970)
+  number_from_1970 c e = omega (arith, signed_arith, civil_number c e, from_1970)
+
   -- no day is before the first or behind the last
   pub first-le : first_day ≤ day_number d
   first-le =
@@ -75,6 +109,29 @@ module _ (d : Date) (h : IsDate d) where
 
   pub le-last : day_number d ≤ last_day
   le-last = omega (arith, signed_arith, civil_day_number d h, epoch_day_range (civil_date d h), days_from_civil-max, days_from_civil-day_number (record { year = 9999; month = 12; day = 31 }) (omega arith))
+
+  -- a day of jiff's that follows one before the year 1 is the first
+  pub is_first : (c₀ c : CivilDate) → IsYmd (pos d.year) (pos d.month) (pos d.day) c₀ → epoch_day c ≡ epoch_day c₀ -ℤ pos 1 → c.year <ℤ pos 1 → day_number d ≡ first_day
+  is_first c₀ c i e low = omega (arith, signed_arith, first-le, civil_number c₀ i, before_all c low)
+
+  pub has_before : (c : CivilDate) → IsYmd (pos d.year) (pos d.month) (pos d.day) c → neg_ℤ (pos 4_371_587) <ℤ epoch_day c
+  has_before c i = min-lt-epoch_day c (λ e. absurd (omega (arith, signed_arith, e.0, i.0)))
+
+  pub is_last : (c : CivilDate) → IsYmd (pos d.year) (pos d.month) (pos d.day) c → (epoch_day c <ℤ pos 2_932_896 → ⊥) → day_number d ≡ last_day
+  is_last c i n =
+      by_lt_z (epoch_day c) (pos 2_932_896) (λ lt. absurd (n lt))
+      (λ ge. omega (arith, signed_arith, le-last, civil_number c i, days_from_civil-max, days_from_civil-day_number (record { year = 9999; month = 12; day = 31 }) (omega arith)))
+
+  pub stays : (c₀ c : CivilDate) → IsYmd (pos d.year) (pos d.month) (pos d.day) c₀ → epoch_day c ≡ epoch_day c₀ +ℤ pos 1 → c.year <ℤ pos 1 → ⊥
+  stays c₀ c i e low = omega (arith, signed_arith, first-le, civil_number c₀ i, before_all c low)
+
+-- and days whose jiff numbers differ by one
+module _ (d e : Date) (h : IsDate d) (k : IsDate e) (c b : CivilDate) (i : IsYmd (pos d.year) (pos d.month) (pos d.day) c) (j : IsYmd (pos e.year) (pos e.month) (pos e.day) b) where
+  pub one_less : epoch_day b ≡ epoch_day c -ℤ pos 1 → day_number e + 1 ≡ day_number d
+  one_less n = omega (arith, signed_arith, civil_number d h c i, civil_number e k b j)
+
+  pub one_more : epoch_day b ≡ epoch_day c +ℤ pos 1 → day_number e ≡ day_number d + 1
+  one_more n = omega (arith, signed_arith, civil_number d h c i, civil_number e k b j)
 
 -- a minute's number is one of the years 1 to 9999
 pub minute-in_years : (m : Minute) → IsMinute m → InYears (pos (minute_number m))

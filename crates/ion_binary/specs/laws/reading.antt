@@ -14,3 +14,9 @@ pub mod Promises
 pub mod Standing
 pub mod GivesKept
 pub mod DocumentKept
+pub mod OpenRuns
+pub mod NumberRuns
+pub mod Openings
+pub mod RefusedRows
+pub mod DecidedRows
+pub mod RefusalLaws

@@ -13,6 +13,7 @@ use Rattle.ion_symtab.specs.declared.catalog.Catalog.{Catalog}
 use Rattle.ion_symtab.specs.Slots.{Slot, system_slots, resolve}
 use Rattle.ion_symtab.specs.Next.{next}
 use Rattle.ion_binary.specs.declared.form.Scalar.{Scalar}
+use Rattle.ion_binary.specs.declared.form.Scalar.TheVariants as scalars
 use Rattle.ion_binary.specs.declared.form.Form.{Form}
 use Rattle.ion_binary.specs.declared.form.Form.TheVariants as forms
 use Rattle.ion_binary.specs.declared.form.Opening.{Opening}
@@ -25,9 +26,9 @@ use Rattle.ion_binary.specs.declared.state.Purpose.{Purpose}
 use Rattle.ion_binary.specs.declared.state.Purpose.TheVariants as purposes
 use Rattle.ion_binary.specs.declared.state.Phase.{Phase}
 use Rattle.ion_binary.specs.declared.state.Phase.TheVariants.{InMarker, Ready, InNumber, InBody, InPad}
-use Rattle.ion_binary.specs.Opening.{opening_of}
+use Rattle.ion_binary.specs.Opening.{opening_of, is_pad, is_wrapper}
 use Rattle.ion_binary.specs.Grammar.{listed}
-use Rattle.ion_binary.specs.machine.Judge.{judge}
+use Rattle.ion_binary.specs.Judge.{judge}
 
 -- what stays: the shared tables that a document may import, and how much may come
 pub record Setting : Type 0 where
@@ -125,14 +126,6 @@ proceed setting spot (frames.Named end ms name ∷ fs) =
     else goes (at spot (frames.Fields end ms ∷ fs) (InNumber purposes.FieldName 0))
 proceed setting spot (frames.Annotated end ss ∷ fs) = refuses Malformed
 
-abbrev pub is_pad : Form → Bool
-is_pad forms.Pad = true
-is_pad _ = false
-
-abbrev pub is_wrapper : Form → Bool
-is_wrapper forms.Wrapper = true
-is_wrapper _ = false
-
 abbrev pub unless : Option Reason → Outcome → Outcome
 unless None r = r
 unless (Some e) r = refuses e
@@ -197,7 +190,7 @@ abbrev pub open_struct : Setting → Spot → List Frame → ℕ → Outcome
 open_struct setting spot fs n =
     deeper setting.limits.depth fs (proceed setting spot (frames.Fields (spot.used + n) [] ∷ fs))
 
--- a header has ended, and n octets of body follow
+-- a header has ended, and n octets of body follow, which the form may have
 abbrev pub begin : Setting → Spot → List Frame → Form → ℕ → Outcome
 begin setting spot fs forms.Pad n = if n == 0 then proceed setting spot fs else goes (at spot fs (InPad (n - 1)))
 begin setting spot fs (forms.Scalar t) n =
@@ -205,15 +198,25 @@ begin setting spot fs (forms.Scalar t) n =
 begin setting spot fs (forms.Listing x) n =
     deeper setting.limits.depth fs (proceed setting spot (frames.Items (spot.used + n) x [] ∷ fs))
 begin setting spot fs forms.Struct n = open_struct setting spot fs n
-begin setting spot fs forms.OrderedStruct n = if n == 0 then refuses Malformed else open_struct setting spot fs n
+begin setting spot fs forms.OrderedStruct n = open_struct setting spot fs n
 begin setting spot fs forms.Wrapper n =
-    if n == 0 then refuses Malformed
-    else goes (at spot (frames.Annotated (spot.used + n) [] ∷ fs) (InNumber purposes.AnnotationsLength 0))
+    goes (at spot (frames.Annotated (spot.used + n) [] ∷ fs) (InNumber purposes.AnnotationsLength 0))
+
+-- why a form has no body of so many octets: a negative int, a timestamp, a struct that announces the order of its fields, and a wrapper have some
+abbrev pub hollow : Form → ℕ → Option Reason
+hollow (forms.Scalar scalars.NegativeInt) n = if n == 0 then Some Malformed else None
+hollow (forms.Scalar scalars.Timestamp) n = if n == 0 then Some Malformed else None
+hollow (forms.Scalar _) n = None
+hollow forms.OrderedStruct n = if n == 0 then Some Malformed else None
+hollow forms.Wrapper n = if n == 0 then Some Malformed else None
+hollow forms.Pad n = None
+hollow (forms.Listing x) n = None
+hollow forms.Struct n = None
 
 -- the same, if the body fits
 abbrev pub sized : Setting → Spot → List Frame → Form → ℕ → Outcome
 sized setting spot fs form n =
-    unless (unfit setting.limits.item spot.start fs form (spot.used + n)) (begin setting spot fs form n)
+    unless (hollow form n) (unless (unfit setting.limits.item spot.start fs form (spot.used + n)) (begin setting spot fs form n))
 
 -- a VarUInt goes on
 abbrev pub longer : Setting → Spot → List Frame → Purpose → ℕ → Outcome

@@ -8,7 +8,7 @@ ghost use Rattle.ion_binary.specs.machine.EachOctet.{judged, open_struct, begin,
 ghost use Rattle.ion_binary.specs.machine.Views.{setting_of, spot_of, open_frames, Does, SameSetting};
 
 use super::BinaryReader;
-use crate::form::{Form, Listing, Scalar};
+use crate::form::{Form, Listing, Scalar, hollow};
 use crate::scalar::judge;
 use crate::state::{Effect, Frame, Phase, Purpose};
 use ion_model::{Payload, Reason, Sequence, Value};
@@ -31,7 +31,7 @@ impl BinaryReader<'_> {
         }
     }
 
-    /// Begins a body of this size, behind its header.
+    /// Begins a body of this size, which the form may have, behind its header.
     fn begin(&mut self, form: Form, size: u64) -> Result<Effect, Reason>
         requires used { self.old.used < 2 ^ 63 }
         requires size { size < 2 ^ 63 }
@@ -45,13 +45,7 @@ impl BinaryReader<'_> {
             Form::Pad => self.begin_pad(size),
             Form::Scalar(scalar) => self.begin_scalar(scalar, size),
             Form::Listing(listing) => self.begin_listing(listing, size),
-            Form::Struct => self.begin_struct(size),
-            Form::OrderedStruct => {
-                if size == 0 {
-                    return Err(Reason::Malformed);
-                }
-                self.begin_struct(size)
-            }
+            Form::Struct | Form::OrderedStruct => self.begin_struct(size),
             Form::Wrapper => self.begin_wrapper(size),
         }
     }
@@ -137,9 +131,6 @@ impl BinaryReader<'_> {
         ensures used { self.new.used ≡ self.old.used }
         ensures setting { SameSetting self.old self.new }
     {
-        if size == 0 {
-            return Err(Reason::Malformed);
-        }
         self.frames.push(Frame::Annotated {
             end: self.used + size,
             annotations: Sequence::new(self.alloc),
@@ -158,6 +149,9 @@ impl BinaryReader<'_> {
         ensures used { self.new.used ≡ self.old.used }
         ensures setting { SameSetting self.old self.new }
     {
+        if let Some(reason) = hollow(form, size) {
+            return Err(reason);
+        }
         match self.unfit(form, self.used + size) {
             Some(reason) => Err(reason),
             None => self.begin(form, size),

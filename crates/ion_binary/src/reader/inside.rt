@@ -1,7 +1,7 @@
 //! Octets of a piece that are taken up at once: of a body, a pad or a value, or else one.
 ghost use Rattle.std.specs.Prelude.{◌≡◌, ◌+◌, ◌-◌, ◌≤◌, ◌<◌, ◌^◌, ◌++◌, true, false, length, take, IfOk, IfErr, IfSome, IsNone};
 ghost use Rattle.ion_atoms.specs.declared.refusal.Reason.TheVariants.{Memory};
-ghost use Rattle.ion_binary.specs.machine.Judge.{judge};
+ghost use Rattle.ion_binary.specs.Judge.{judge};
 ghost use Rattle.ion_binary.specs.machine.EachOctet.{moved, judged};
 ghost use Rattle.ion_binary.specs.machine.Pieces.{led};
 ghost use Rattle.ion_binary.specs.machine.Views.{setting_of, spot_of, run_of, machine_of, open_frames, goes_on, is_in_body, Does, Took, SameSetting};

@@ -10,11 +10,13 @@ ghost use Rattle.ion_binary.specs.Carrying.{TookUp, WritesValue};
 use super::BinaryReader;
 use crate::alike::alike_value;
 use crate::form::Form;
-use crate::walk::{Tally, walk_value};
+use crate::measure::Measure;
+use crate::walk::walk_value;
 use crate::whole::extent;
 use crate::writer::BinaryWriter;
 use ion_model::Outline;
 use ion_symtab::{Fault, Outlet};
+use std::hash::BuildHasher;
 
 /// What became of a value that was carried from a reader to a writer.
 #[derive(Clone, Copy, Debug, Drop)]
@@ -49,15 +51,15 @@ impl BinaryReader<'_> {
             return None;
         }
         let depth = self.limits.depth;
-        let mut tally = Tally::new(depth);
-        let count = walk_value(&self.context, piece, depth, &mut tally)?;
+        let mut measure = Measure::new();
+        let count = walk_value(&self.context, piece, depth, &mut measure)?;
         let used = self.used + count as u64;
         if self.unfit(Form::Wrapper, used).is_some() {
             return None;
         }
         self.used = used;
         self.start = used;
-        Some((count, tally.outline(depth)))
+        Some((count, measure.outline()))
     }
 
     /// Takes up the octets of the value at the front of a piece and at the front of another reader's,
@@ -114,10 +116,10 @@ impl BinaryReader<'_> {
     /// `None`, with nothing taken up and nothing written, where a container is open, or the value isn't
     /// whole, may not stand here, has a symbol that the writer didn't write yet, or is in any way
     /// unusual, and where the reader or the writer has failed.
-    pub fn carry<W: Outlet>(
+    pub fn carry<S: BuildHasher + Drop, W: Outlet>(
         &mut self,
         piece: &[u8],
-        writer: &mut BinaryWriter,
+        writer: &mut BinaryWriter<S>,
         out: &mut W,
     ) -> Option<Carried>
         requires room { self.old.used + length piece.now < 2 ^ 63 }

@@ -22,11 +22,12 @@ use super::guesses::Guesses;
 use super::names::Names;
 use ion_model::{Field, Payload, Symbol, Value};
 use ion_symtab::Fault;
+use std::hash::BuildHasher;
 
 /// Appends a value.
 #[cycle(encoding)]
-pub(crate) fn put_value(
-    names: &mut Names,
+pub(crate) fn put_value<S: BuildHasher + Drop>(
+    names: &mut Names<S>,
     guesses: &mut Guesses,
     value: &Value,
     out: &mut Vec<u8>,
@@ -49,8 +50,8 @@ pub(crate) fn put_value(
     Ok(())
 }
 
-fn put_annotations(
-    names: &mut Names,
+fn put_annotations<S: BuildHasher + Drop>(
+    names: &mut Names<S>,
     guesses: &mut Guesses,
     annotations: &[Symbol],
     out: &mut Vec<u8>,
@@ -72,8 +73,8 @@ fn put_annotations(
 }
 
 #[cycle(encoding)]
-fn put_payload(
-    names: &mut Names,
+fn put_payload<S: BuildHasher + Drop>(
+    names: &mut Names<S>,
     guesses: &mut Guesses,
     value: &Value,
     out: &mut Vec<u8>,
@@ -107,8 +108,8 @@ fn put_payload(
 }
 
 #[cycle(encoding)]
-fn put_items(
-    names: &mut Names,
+fn put_items<S: BuildHasher + Drop>(
+    names: &mut Names<S>,
     guesses: &mut Guesses,
     code: u8,
     items: &[Value],
@@ -132,8 +133,8 @@ fn put_items(
 }
 
 #[cycle(encoding)]
-fn put_fields(
-    names: &mut Names,
+fn put_fields<S: BuildHasher + Drop>(
+    names: &mut Names<S>,
     guesses: &mut Guesses,
     fields: &[Field],
     out: &mut Vec<u8>,

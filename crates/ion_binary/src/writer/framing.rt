@@ -154,7 +154,7 @@ pub(crate) fn put_decimal_value(decimal: Decimal, out: &mut Vec<u8>) -> Result<(
 {
     let place = out.len();
     out.push(0)?;
-    put_decimal(decimal, out).map_err(|_| Fault::Memory)?;
+    put_decimal(&decimal, out).map_err(|_| Fault::Memory)?;
     frame(5, place, out)
 }
 
@@ -166,7 +166,7 @@ pub(crate) fn put_timestamp_value(timestamp: Timestamp, out: &mut Vec<u8>) -> Re
 {
     let place = out.len();
     out.push(0)?;
-    put_timestamp(timestamp, out).map_err(|_| Fault::Memory)?;
+    put_timestamp(&timestamp, out).map_err(|_| Fault::Memory)?;
     frame(6, place, out)
 }
 

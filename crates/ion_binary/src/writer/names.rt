@@ -8,41 +8,36 @@ ghost use Rattle.ion_binary.specs.writer.Later.{IsLater};
 ghost use Rattle.ion_binary.specs.machine.Transcribed.{HasId};
 
 use super::guesses::Guesses;
+use indexmap::IndexSet;
 use ion_model::Symbol;
 use ion_symtab::{Fault, GREATEST_ID, SYSTEM_TEXTS};
 use std::alloc::Global;
-use std::collections::BTreeMap;
+use std::hash::BuildHasher;
 use std::marker::Model;
 
-/// Symbols by their ids. The symbol of unknown text has the id 0, and a text has one id. An id is found
-/// in an ordered map, so no choice of texts makes it slow; both share a text's memory.
+/// Symbols by their ids, found by a hash of their texts. The symbol of unknown text has the id 0, and a
+/// text has one id, whatever the hasher.
 #[derive(Drop)]
-pub(crate) struct Names {
-    symbols: Vec<Symbol>,
-    ids: BTreeMap<Symbol, usize>,
+pub(crate) struct Names<S: BuildHasher> {
+    symbols: IndexSet<Symbol, S>,
 }
 
-impl Model for Names {
+impl<S: BuildHasher> Model for Names<S> {
     ghost use Rattle.ion_binary.specs.Output.{Names as SymbolsById};
 
     ghost Value = { SymbolsById };
 
-    ghost view = { λ n. n.symbols.items };
-
-    ghost use Rattle.ion_binary.specs.writer.Ids.{IsIndex};
-
-    ghost invariant = { λ n. IsIndex n.symbols.items n.ids };
+    ghost view = { λ n. n.symbols.keys };
 }
 
-impl Names {
+impl<S: BuildHasher + Drop> Names<S> {
     /// The symbols that every document begins with. The only fault is `Memory`.
     #[tactic(auto, unfolding(crate::specs::Output::system_names, ion_symtab::specs::Slots::system_texts))]
-    pub(crate) fn system(alloc: Global) -> Result<Names, Fault>
+    pub(crate) fn system(alloc: Global, hasher: S) -> Result<Names<S>, Fault>
         ensures { MatchResult result (λ n. n ≡ system_names) (λ f. f ≡ faults.Memory) }
     {
         let mut names = Names {
-            symbols: Vec::new(alloc),
-            ids: BTreeMap::new(alloc),
+            symbols: IndexSet::with_hasher(alloc, hasher),
         };
         let _unknown = names.insert(Symbol::unknown())?;
         names.insert_texts(alloc, &SYSTEM_TEXTS)?;
@@ -108,8 +103,8 @@ impl Names {
         ensures small { IfOk result (λ id. id < 2 ^ 63) }
         ensures cause { IfErr result (IsNumberingFault (with_name self.old symbol.now)) }
     {
-        let key = copy_of(symbol)?;
-        if self.symbols.len() > GREATEST_ID as usize && !self.ids.contains_key(&key) {
+        let key = symbol.copy().map_err(|_| Fault::Memory)?;
+        if self.symbols.len() > GREATEST_ID as usize && !self.symbols.contains(&key) {
             return Err(Fault::TooLarge);
         }
         self.insert(key)
@@ -121,16 +116,10 @@ impl Names {
         ensures id { IfOk result (λ id. id ≡ id_of self.new key) }
         ensures small { IfOk result (λ id. id < 2 ^ 63) }
     {
-        let next = self.symbols.len();
-        if let Some(id) = self.ids.get(&key) {
-            return Ok(*id);
-        }
-        let symbol = copy_of(&key)?;
-        // Behind the map's growth nothing may fail.
-        self.symbols.reserve(1)?;
-        self.ids.insert(key, next)?;
-        self.symbols.push(symbol)?;
-        Ok(next)
+        let (id, _) = self.symbols.insert_full(key)?;
+        // Its contract alone says that there are fewer than 2^63.
+        let _count = self.symbols.len();
+        Ok(id)
     }
 
     /// The id of a symbol, if it has one.
@@ -138,7 +127,8 @@ impl Names {
     pub(crate) fn known_id(&self, symbol: &Symbol) -> Option<usize>
         ensures { IfSome result (λ id. HasId self.now symbol.now id) }
     {
-        self.ids.get(symbol).copied()
+        let _count = self.symbols.len();
+        self.symbols.get_index_of(symbol)
     }
 
     /// The id of a text, or how many symbols there are, where it has none. The only fault is `Memory`.
@@ -149,7 +139,7 @@ impl Names {
     {
         let key = Symbol::known(alloc, text).map_err(|_| Fault::Memory)?;
         let count = self.len();
-        Ok(self.ids.get(&key).copied().unwrap_or(count) as u64)
+        Ok(self.symbols.get_index_of(&key).unwrap_or(count) as u64)
     }
 
     /// The symbols from an id on, in the order of their ids.
@@ -159,13 +149,6 @@ impl Names {
     {
         &self.symbols.as_slice()[id..]
     }
-}
-
-// A symbol that shares the text of this one.
-fn copy_of(symbol: &Symbol) -> Result<Symbol, Fault>
-    ensures { MatchResult result (λ s. s ≡ symbol.now) (λ f. f ≡ faults.Memory) }
-{
-    symbol.copy().map_err(|_| Fault::Memory)
 }
 
 // `Symbol::same`, without a call.

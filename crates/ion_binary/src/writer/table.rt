@@ -11,12 +11,13 @@ use super::names::Names;
 use ion_model::Symbol;
 use ion_symtab::Fault;
 use std::alloc::Global;
+use std::hash::BuildHasher;
 
 /// Appends the local symbol table that gives the texts from an id on.
 #[inline(never)]
-pub(crate) fn put_table(
+pub(crate) fn put_table<S: BuildHasher + Drop>(
     alloc: Global,
-    names: &Names,
+    names: &Names<S>,
     first: usize,
     out: &mut Vec<u8>,
 ) -> Result<(), Fault>
@@ -45,9 +46,9 @@ fn put_counted(id: u64, out: &mut Vec<u8>) -> Result<(), Fault>
 }
 
 // The imports, which are the context so far, and the symbols.
-fn put_table_fields(
+fn put_table_fields<S: BuildHasher + Drop>(
     alloc: Global,
-    names: &Names,
+    names: &Names<S>,
     base: u64,
     first: usize,
     out: &mut Vec<u8>,

@@ -3,6 +3,7 @@ use Rattle.std.proofs.Common.{sum, length, get_or, ◌≡◌, ℕ, ◌+◌, ◌�
 use Rattle.std.specs.List.{sum_by}
 use Rattle.std.proofs.lemmas.List.Sums.{sum-map, sum_by-append, sum_by-cons}
 use Rattle.ion_model.specs.Measures.{depth, depth_step, nodes, nodes_step, greatest, bare, Layer}
+pub use Rattle.ion_model.specs.Measures.{layer_depth, layer_nodes}
 use Rattle.ion_atoms.specs.declared.kind.Kind.{Kind}
 use Rattle.ion_model.specs.declared.value.Value.{Value}
 use Rattle.ion_model.specs.declared.value.Field.{Field}
@@ -22,13 +23,6 @@ field_depths : (fs : List Field) → map field_depth fs ≡ map (λ f. depth f.v
 unfolding depth
 field_depths [] = refl
 field_depths (f ∷ fs) = rw (fold_out-Field ℕ ℕ ℕ depth_step (λ f. f.value) (λ v. v.payload) f, field_depths fs)
-
--- the depth of one level
-abbrev pub layer_depth : Layer → ℕ
-layer_depth (Payload-F.List vs) = suc (greatest (map depth vs))
-layer_depth (Payload-F.Sexp vs) = suc (greatest (map depth vs))
-layer_depth (Payload-F.Fields fs) = suc (greatest (map (λ f. depth f.value) fs))
-layer_depth _ = 0
 
 depth_step-layer : (d : Layer) → depth_step (map-Payload Payload Field Value ℕ ℕ ℕ payload_depth field_depth depth d) ≡ layer_depth d
 depth_step-layer (Payload-F.Fields fs) = ap (λ ns. suc (greatest ns)) (field_depths fs)
@@ -88,13 +82,6 @@ fields_nodes : (fs : List Field) → map field_nodes fs ≡ map (λ f. suc (node
 unfolding nodes
 fields_nodes [] = refl
 fields_nodes (f ∷ fs) = rw (fold_out-Field ℕ ℕ ℕ nodes_step (λ f. suc f.value) (λ v. length v.annotations + v.payload) f, fields_nodes fs)
-
--- the nodes of one level
-abbrev pub layer_nodes : Layer → ℕ
-layer_nodes (Payload-F.List vs) = suc (sum (map nodes vs))
-layer_nodes (Payload-F.Sexp vs) = suc (sum (map nodes vs))
-layer_nodes (Payload-F.Fields fs) = suc (sum (map (λ f. suc (nodes f.value)) fs))
-layer_nodes _ = 1
 
 nodes_step-layer : (d : Layer) → nodes_step (map-Payload Payload Field Value ℕ ℕ ℕ payload_nodes field_nodes nodes d) ≡ layer_nodes d
 nodes_step-layer (Payload-F.Fields fs) = ap (λ ns. suc (sum ns)) (fields_nodes fs)

@@ -14,3 +14,4 @@ pub mod TimestampSpellings
 pub mod Descriptor
 pub mod BodyReasons
 pub mod Usual
+pub mod Days

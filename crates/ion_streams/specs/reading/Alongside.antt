@@ -27,8 +27,8 @@ StandingPast I Ended after v = ⊥
 StandingPast I (Refused refusal) after v = ⊥
 
 -- both gave one value, which the course took for the same
-pub record GoAlike {X : Type 0} (I : Items X) (course after : Course) (left left_now right right_now : Standing X) : Type 0 where
+pub record GoAlike {X Y : Type 0} (I : Items X) (J : Items Y) (course after : Course) (left left_now : Standing X) (right right_now : Standing Y) : Type 0 where
   pub value : Value
   pub left_past : StandingPast I left left_now value
-  pub right_past : StandingPast I right right_now value
+  pub right_past : StandingPast J right right_now value
   pub met : IsMet course (Some value) (Some value) after

@@ -39,6 +39,12 @@ work_of I (Open source) = work I source + 1
 work_of I Ended = 0
 work_of I (Refused refusal) = 0
 
+-- how often the device may still be asked
+abbrev pub reads_of : {X : Type 0} → Standing X → ℕ
+reads_of (Open source) = source.reads
+reads_of Ended = 0
+reads_of (Refused refusal) = 0
+
 -- From first to now the document gave s: it is read so far, it was one, or it is none.
 abbrev pub Stood : {S X : Type 0} → Inlet S → Items X → Catalog → Limits → S → S → Standing X → List Value → Type 0
 Stood R I g l first now (Open source) s = Reads R I g l first now source s

@@ -5,29 +5,31 @@ ghost use Rattle.ion_streams.specs.reading.Alongside.{WentPast};
 ghost use Rattle.ion_streams.specs.reading.Read.{IsReady};
 
 use super::Source;
+use crate::alike::Alike;
 use ion_symtab::Items;
 
-impl<I: Items + Drop> Source<I> {
-    /// Goes past the next value of both documents, where it lies whole in both pieces and is seen to be
-    /// the same; else both stay as they are.
-    pub(crate) fn pass_alike(&mut self, other: &mut Source<I>) -> bool
-        requires ready { IsReady I.Items self.old }
-        requires other_ready { IsReady I.Items other.old }
-        ensures past { result ≡ true → (v : Value)
-            × WentPast I.Items self.old self.new v × WentPast I.Items other.old other.new v }
-        ensures stays { result ≡ false → (self.new ≡ self.old) × (other.new ≡ other.old) }
-    {
-        let piece = &self.piece[self.at..self.end];
-        let beside = &other.piece[other.at..other.end];
-        match self.items.pass_alike(piece, &mut other.items, beside) {
-            None => false,
-            Some((used, other_used)) => {
-                self.at += used;
-                self.used += used as u64;
-                other.at += other_used;
-                other.used += other_used as u64;
-                true
-            }
+/// Goes past the next value of both documents, where it lies whole in both pieces and is seen to be
+/// the same; else both stay as they are.
+pub(crate) fn pass_alike<A: Alike<I, J>, I: Items, J: Items>(
+    left: &mut Source<I>,
+    right: &mut Source<J>,
+) -> bool
+    requires left { IsReady I.Items left.old }
+    requires right { IsReady J.Items right.old }
+    ensures past { result ≡ true → (v : Value)
+        × WentPast I.Items left.old left.new v × WentPast J.Items right.old right.new v }
+    ensures stays { result ≡ false → (left.new ≡ left.old) × (right.new ≡ right.old) }
+{
+    let piece = &left.piece[left.at..left.end];
+    let beside = &right.piece[right.at..right.end];
+    match A::pass(&mut left.items, piece, &mut right.items, beside) {
+        None => false,
+        Some((used, right_used)) => {
+            left.at += used;
+            left.used += used as u64;
+            right.at += right_used;
+            right.used += right_used as u64;
+            true
         }
     }
 }

@@ -63,6 +63,8 @@ impl<I: Items + Drop> Source<I> {
             IsWithin R.Inlet reads first reader.old self.old →
             IsWithin R.Inlet reads first reader.new self.new)) }
         ensures ended { IfOk result (λ reached. IfEnd reached (IsSpent I.Items self.new)) }
+        ensures few_calls { R.calls_made reader.new + self.new.reads
+            ≤ R.calls_made reader.old + self.old.reads }
         ensures cause { IfErr result (λ fault. (first : R) (reads : ℕ) →
             IsWithin R.Inlet reads first reader.old self.old →
             IsReadCause R.Inlet reads first reader.new fault) }
@@ -101,6 +103,7 @@ pub(crate) fn pass_all<I: Items + Drop, R: Inlet>(
     ensures verdict { IfOk result (λ verdict. (g : Catalog) (l : Limits) (first : R) →
         ReadsEach R.Inlet I.Items g l first reader.old source [] →
         IsChecked R.Inlet (format_of I.Items g l) first reader.new verdict) }
+    ensures few_calls { R.calls_made reader.new ≤ R.calls_made reader.old + source.reads }
     ensures cause { IfErr result (λ fault. (first : R) (reads : ℕ) →
         IsWithin R.Inlet reads first reader.old source →
         IsReadCause R.Inlet reads first reader.new fault) }

@@ -1,12 +1,12 @@
 -- What the definitions of a catalog's finds come to.
-use Rattle.std.proofs.Common.{if◌then◌else◌, ◌≡◌, ℕ, zero, suc, ◌<◌, ◌≤◌, List, [], ◌∷◌, length, get_or, Option, Some, None, MatchOption, IsSome, Bool, true, false, refl, ap, sym, subst, ◌⊎◌, inl, inr, arith}
+use Rattle.std.proofs.Common.{if◌then◌else◌, ◌≡◌, ℕ, zero, suc, ◌<◌, ◌≤◌, List, [], ◌∷◌, length, get_or, Option, Some, None, MatchOption, IsSome, Bool, true, false, refl, ap, sym, subst, ◌⊎◌, inl, inr, arith, ◌++◌, ◌∙◌}
 use Rattle.std.specs.List.{Contains}
 use Rattle.std.specs.Str.{bytes_eq}
 use Rattle.std.specs.Prelude.{nat_le}
 use Rattle.std.proofs.lemmas.Bool.{and_parts, and_from, eqb-true, eq-eqb}
 use Rattle.std.proofs.lemmas.Slice.Eq.{bytes_eq-Decides}
-use Rattle.std.proofs.lemmas.List.Elements.{Contains-append_right}
-use Rattle.ion_symtab.specs.Tables.{Table, is_named, find, newer, newest}
+use Rattle.std.proofs.lemmas.List.Elements.{Contains-append_right, Contains-append_cases}
+use Rattle.ion_symtab.specs.Tables.{Table, is_named, find, find_best, newer, newest, otherwise, AreApart}
 
 contains_first : (t : Table) (ts : List Table) → Contains (t ∷ ts) t
 contains_first t ts = (0, omega arith, refl)
@@ -112,3 +112,52 @@ newest_first u ts name t false n rest e = of_name_later u ts name t (rest e)
 pub newest_is : (ts : List Table) (name : List ℕ) (t : Table) → newest ts name ≡ Some t → IsOfName ts name t
 newest_is [] name t e = absurd (cc)
 newest_is (u ∷ ts) name t e = newest_first u ts name t (bytes_eq u.name name) refl (newest_is ts name t) e
+
+-- ---- one table more
+
+found_else : (b : Bool) (u : Table) (o more : Option Table) → (if b then Some u else otherwise o more) ≡ otherwise (if b then Some u else o) more
+found_else true u o more = refl
+found_else false u o more = refl
+
+-- what is found with one table more
+pub find_more : (ts : List Table) (t : Table) (name : List ℕ) (version : ℕ) → find (ts ++ t ∷ []) name version ≡ otherwise (find ts name version) (if is_named name version t then Some t else None)
+find_more [] t name version = refl
+find_more (u ∷ ts) t name version = rw (find_more ts t name version) (found_else (is_named name version u) u (find ts name version) (if is_named name version t then Some t else None))
+
+-- a table that is added is found
+pub find_added : (ts : List Table) (t : Table) → find ts t.name t.version ≡ None → find (ts ++ t ∷ []) t.name t.version ≡ Some t
+find_added ts t absent = find_more ts t t.name t.version ∙ rw (absent, is_named_by t.name t.version t refl refl) refl
+
+-- and what was found before still is
+pub find_stays : (ts : List Table) (t u : Table) (name : List ℕ) (version : ℕ) → find ts name version ≡ Some u → find (ts ++ t ∷ []) name version ≡ Some u
+find_stays ts t u name version there = find_more ts t name version ∙ rw there refl
+
+none_else : (o : Option Table) → otherwise o None ≡ o
+none_else None = refl
+none_else (Some t) = refl
+
+not_named : (b : Bool) (name : List ℕ) (version : ℕ) (t : Table) → is_named name version t ≡ b → ((t.name ≡ name) × (t.version ≡ version) → ⊥) → b ≡ false
+not_named true name version t is other = absurd (other (named name version t is))
+not_named false name version t is other = refl
+
+-- under another name or version nothing more is found
+pub find_others : (ts : List Table) (t : Table) (name : List ℕ) (version : ℕ) → ((t.name ≡ name) × (t.version ≡ version) → ⊥) → find (ts ++ t ∷ []) name version ≡ find ts name version
+find_others ts t name version other =
+    find_more ts t name version ∙ rw (not_named (is_named name version t) name version t refl other) (none_else (find ts name version))
+
+pub best_added : (ts : List Table) (t : Table) → find ts t.name t.version ≡ None → find_best (ts ++ t ∷ []) t.name t.version ≡ Some t
+best_added ts t absent = ap (λ o. otherwise o (newest (ts ++ t ∷ []) t.name)) (find_added ts t absent)
+
+one_is : (t u : Table) → Contains (t ∷ []) u → t ≡ u
+one_is t u (zero, h, e) = e
+one_is t u (suc k, h, e) = absurd (omega arith)
+
+-- tables stay apart with one more that isn't found yet
+pub apart_more : (ts : List Table) (t : Table) → AreApart ts → find ts t.name t.version ≡ None → AreApart (ts ++ t ∷ [])
+apart_more ts t apart absent u c = elim (Contains-append_cases ts (t ∷ []) u c) [
+  | inl old ↦ find_stays ts t u u.name u.version (apart u old)
+  | inr new ↦ subst (λ (x : Table). find (ts ++ t ∷ []) x.name x.version ≡ Some x) (one_is t u new) (find_added ts t absent)
+]
+
+pub none_apart : AreApart []
+none_apart t c = let k = c.1 in absurd (omega arith)

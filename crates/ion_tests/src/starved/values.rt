@@ -11,8 +11,8 @@ use std::process::Abort;
 /// Appends a number as text, or a decimal or timestamp as its binary body.
 fn put(number: &Number, as_text: bool, out: &mut Vec<u8>) -> Result<(), Reason> {
     match number {
-        Number::Decimal(decimal) if !as_text => put_decimal(*decimal, out),
-        Number::Timestamp(timestamp) if !as_text => put_timestamp(*timestamp, out),
+        Number::Decimal(decimal) if !as_text => put_decimal(decimal, out),
+        Number::Timestamp(timestamp) if !as_text => put_timestamp(timestamp, out),
         _ => put_number(number, out),
     }
 }

@@ -195,12 +195,12 @@ impl TextReader<'_> {
     {
         match self.scanner.step(piece, place) {
             Err(refusal) => Err(refusal),
-            Ok(Scan { used, token, left }) => match token {
+            Ok(Scan { used, token }) => match token {
                 None => match self.notice() {
                     Ok(()) => Ok((used, Met::Uses)),
                     Err(reason) => Err(self.refused(0, reason)),
                 },
-                Some(token) if left => match self.left(token) {
+                Some(token) if self.scanner.left() => match self.left(token) {
                     Ok(met) => Ok((used, met)),
                     Err(reason) => Err(self.refused(1, reason)),
                 },

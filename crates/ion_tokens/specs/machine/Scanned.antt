@@ -7,12 +7,11 @@ use Rattle.ion_tokens.specs.declared.mode.TokenKind.TheVariants as kinds
 use Rattle.ion_tokens.specs.declared.token.Begun.{Begun}
 use Rattle.ion_tokens.specs.declared.token.Form.{Form}
 use Rattle.ion_tokens.specs.declared.token.Form.TheVariants as forms
-use Rattle.ion_tokens.specs.declared.token.Scan.{Scan}
 use Rattle.ion_tokens.specs.declared.token.Token.{Token}
 use Rattle.ion_tokens.specs.Blanks.{IsBlank}
 use Rattle.ion_tokens.specs.machine.Scanning.{Known, Lexeme, Next, run}
 use Rattle.ion_tokens.specs.Bodies.{Content, IsBody}
-use Rattle.ion_tokens.specs.machine.Steps.{IsToken, deciding, is_end_reason}
+use Rattle.ion_tokens.specs.machine.Steps.{Stepped, IsToken, deciding, is_end_reason}
 use Rattle.ion_tokens.specs.Lexed.{Placed, Lexes, LexesTo, Stands, AllPass, LooksIn, IsNext}
 
 -- what must come next: what was left, until octets since begin with it
@@ -45,7 +44,7 @@ AllSay ts = AllByRecursion (λ (t : Placed). (c : Content) × IsBody t.lexeme.ki
 -- Behind these octets a step over a piece gave a token: it is the next one of each document that has the tokens told before and
 -- begins with the octets that decide it, those used and one that was left, however it goes on; and the scanner, for which that one must
 -- come next, looks for the next token in any place.
-pub record Tells (p : Place) (u piece : List ℕ) (ts : List Placed) (scan : Scan) (t : Token) (now : Known) : Type 0 where
+pub record Tells (p : Place) (u piece : List ℕ) (ts : List Placed) (scan : Stepped) (t : Token) (now : Known) : Type 0 where
   pub lexeme : Lexeme
   pub is : IsToken lexeme t
   pub longest : (rest : List ℕ) (others : List Placed) → LooksIn p others → Lexes false 0 ((u ++ take (deciding scan.used scan.left) piece) ++ rest) (ts ++ others) → IsNext lexeme others
@@ -55,12 +54,12 @@ pub record Tells (p : Place) (u piece : List ℕ) (ts : List Placed) (scan : Sca
   pub scanned : (q : Place) → Scanned q now (u ++ take scan.used piece) (ts ++ record { place = p; lexeme = lexeme } ∷ []) ahead
 
 -- what a step did that answered with this token, or with none: then the piece is used
-abbrev pub GoesWith : Place → List ℕ → List ℕ → List Placed → Scan → Known → Option Token → Type 0
+abbrev pub GoesWith : Place → List ℕ → List ℕ → List Placed → Stepped → Known → Option Token → Type 0
 GoesWith p u piece ts scan now None = Scanned p now (u ++ piece) ts []
 GoesWith p u piece ts scan now (Some t) = Tells p u piece ts scan t now
 
 -- what a step did that went from one state of knowledge to the other, behind all octets and tokens told that led to the first
-abbrev pub Goes : Place → Known → List ℕ → Scan → Known → Type 0
+abbrev pub Goes : Place → Known → List ℕ → Stepped → Known → Type 0
 Goes p s piece scan now = (u : List ℕ) (ts : List Placed) (ahead : List ℕ) → Scanned p s u ts ahead → Continues piece ahead → GoesWith p u piece ts scan now scan.token
 
 -- No document begins with these octets and these tokens and goes on with one that is looked for in this place.

@@ -9,6 +9,21 @@ use Rattle.ion_tokens.specs.machine.Scanning.{Known, Lexeme, Outcome, Next, Give
 use Rattle.ion_tokens.specs.Bodies.{content, IsBody}
 use Rattle.ion_tokens.specs.Lexed.{Passes}
 
+-- what a step did: how many octets of its piece it used, which token it gave, and whether the octet behind them ended that token
+-- and was left
+pub record Stepped : Type 0 where
+  pub used : ℕ
+  pub token : Option Token
+  pub left : Bool
+
+-- the same of what it answered and what the scanner says of it then
+abbrev pub stepped : Scan → Bool → Stepped
+stepped scan left = record { used = scan.used; token = scan.token; left = left }
+
+abbrev pub answered : Result Scan Refusal → Bool → Result Stepped Refusal
+answered (Ok scan) left = Ok (stepped scan left)
+answered (Err r) left = Err r
+
 -- a token in memory is this one, judged
 pub record IsToken (l : Lexeme) (t : Token) : Type 0 where
   pub start : t.start ≡ l.start
@@ -37,7 +52,7 @@ deciding used false = used
 
 -- Behind `before` octets, a step over a piece from which this comes answered so, and left the scanner knowing this.
 -- Memory may run out whatever comes.
-abbrev pub Answers : ℕ → Outcome → Result Scan Refusal → Known → Type 0
+abbrev pub Answers : ℕ → Outcome → Result Stepped Refusal → Known → Type 0
 Answers before (Next s) (Ok scan) now = Uses before scan.used s now × (scan.token ≡ None) × (scan.left ≡ false)
 Answers before (Given l s) (Ok scan) now = Uses before scan.used s now × GivesToken l scan.token × (scan.left ≡ false)
 Answers before (Left l s) (Ok scan) now = Uses before scan.used s now × GivesToken l scan.token × (scan.left ≡ true)

@@ -4,12 +4,11 @@ use Rattle.ion_atoms.specs.declared.refusal.Refusal.{Refusal}
 use Rattle.ion_atoms.specs.declared.refusal.Reason.{Reason}
 use Rattle.ion_atoms.specs.declared.refusal.Reason.TheVariants.{Memory}
 use Rattle.ion_tokens.specs.declared.mode.Place.{Place}
-use Rattle.ion_tokens.specs.declared.token.Scan.{Scan}
 use Rattle.ion_tokens.specs.declared.token.Token.{Token}
 use Rattle.ion_tokens.specs.machine.Scanning.{Known, Lexeme, Outcome, Next, Given, Left, Refused, initial, feed, at_end}
 use Rattle.ion_tokens.specs.Bodies.{Content, content}
 use Rattle.ion_tokens.specs.machine.Said.{said}
-use Rattle.ion_tokens.specs.machine.Steps.{deciding}
+use Rattle.ion_tokens.specs.machine.Steps.{Stepped, deciding}
 use Rattle.ion_tokens.specs.machine.Scanned.{Continues}
 
 -- a token: its span, what it says, and how many octets were used when it came
@@ -102,12 +101,12 @@ told_by None total = []
 told_by (Some t) total = told_as t total ∷ []
 
 -- the octet that a step left, which must come next
-abbrev pub left_by : Scan → List ℕ → List ℕ
+abbrev pub left_by : Stepped → List ℕ → List ℕ
 left_by scan piece = take (deciding 0 scan.left) (drop scan.used piece)
 
 -- A step answered what the trace says of the octets before, in whatever trace the scanner stood: it goes on in it with the token told, or
 -- refuses as the trace does with the octets up to the offset, whatever follows. Memory may run out.
-abbrev pub AnswersTrace : Place → Known → List ℕ → Result Scan Refusal → Known → Type 0
+abbrev pub AnswersTrace : Place → Known → List ℕ → Result Stepped Refusal → Known → Type 0
 AnswersTrace p s piece (Ok scan) now =
     (places : Places) (u : List ℕ) (ts : List Told) (ahead : List ℕ) → IsTraced places s u ts ahead → Continues piece ahead → places ts ≡ p
     → IsTraced places now (u ++ take scan.used piece) (ts ++ told_by scan.token now.used) (left_by scan piece)

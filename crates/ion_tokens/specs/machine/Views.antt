@@ -1,5 +1,5 @@
 -- What a scanner in memory stands for.
-use Rattle.std.specs.Prelude.{ℕ, ◌-◌, length, Option, Some, None, if◌then◌else◌, List}
+use Rattle.std.specs.Prelude.{ℕ, Bool, ◌-◌, length, Option, Some, None, if◌then◌else◌, List}
 use Rattle.ion_tokens.specs.declared.machine.Machine.{Machine}
 use Rattle.ion_tokens.specs.declared.machine.Lexeme.{Lexeme as Found}
 use Rattle.ion_tokens.specs.declared.machine.Taken.{Taken}
@@ -50,6 +50,10 @@ scanned s = known s.machine
 -- the refusal that it answers from now on
 abbrev pub failure : Scanner → Option Refusal
 failure s = s.failed
+
+-- whether the octet behind those that its last step used ended the token that this gave, and was left
+abbrev pub left_in : Scanner → Bool
+left_in s = s.machine.left
 
 -- how many octets it took up, each as often as it did
 abbrev pub looks : Scanner → ℕ

@@ -5,7 +5,7 @@ use Rattle.std.specs.Vec.{vec_len}
 use Rattle.ion_model.specs.Measures.{depth, bare, field_of}
 use Rattle.ion_model.specs.declared.value.Payload.TheVariants as payloads
 use Rattle.ion_binary.specs.declared.form.Form.TheVariants as forms
-use Rattle.ion_binary.specs.laws.reading.Stands.{depths, field_depths}
+use Rattle.ion_binary.specs.Depths.{depths, field_depths}
 use Rattle.ion_binary.specs.Grammar.{Plain, Binary, Ids, listed, Sequence, nothing, Fields, no_fields}
 use Rattle.ion_binary.specs.laws.reading.Judged.{scalar_flat}
 use Rattle.ion_binary.proofs.Leading.{whole_rest}

@@ -1,6 +1,6 @@
 use Rattle.std.proofs.Common.{◌+◌, ◌*◌, ◌-◌, ◌≤◌, length, take}
 use Rattle.ion_binary.specs.Grammar.{Sequence, Fields}
-use Rattle.ion_binary.specs.laws.reading.Stands.{depths, field_depths}
+use Rattle.ion_binary.specs.Depths.{depths, field_depths}
 use Rattle.ion_binary.proofs.whole.+whole.Given as goal
 
 abbrev pub decreases-whole_value : goal.decreases-whole_value

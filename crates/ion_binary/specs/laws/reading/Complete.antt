@@ -17,6 +17,7 @@ use Rattle.ion_binary.specs.declared.form.Form.TheVariants as forms
 use Rattle.ion_binary.specs.declared.form.Listing.{Listing}
 use Rattle.ion_binary.specs.declared.form.Listing.TheVariants as listings
 use Rattle.ion_binary.specs.declared.form.Scalar.{Scalar}
+use Rattle.ion_binary.specs.declared.form.Scalar.TheVariants as scalars
 use Rattle.ion_binary.specs.declared.state.Frame.{Frame}
 use Rattle.ion_binary.specs.declared.state.Frame.TheVariants as frames
 use Rattle.ion_binary.specs.declared.state.Purpose.{Purpose}
@@ -25,13 +26,15 @@ use Rattle.ion_binary.specs.declared.state.Phase.TheVariants.{Ready, InNumber, I
 use Rattle.ion_scalar.specs.binary.Fields.{positional, Digits, none, more, VarUInt}
 use Rattle.ion_scalar.specs.Positional.{positional_push}
 use Rattle.ion_scalar.specs.binary.Descriptor.{descriptor_of}
-use Rattle.ion_binary.specs.Opening.{opening_of}
+use Rattle.ion_binary.specs.Opening.{opening_of, is_pad, is_wrapper}
 use Rattle.ion_binary.specs.Grammar.{Header, short, long, IsPad, skipped, Ids, no_ids, one_id, listed, Plain, is_null, is_truth, is_scalar, is_listing, is_struct, is_ordered, Binary, unannotated, wrapped, Sequence, nothing, one_more, padded, Fields, no_fields, one_field, padded_field, the_marker}
-use Rattle.ion_binary.specs.machine.Judge.{judge}
+use Rattle.ion_scalar.specs.binary.Timestamp.{timestamp_of_body, read_offset}
+use Rattle.ion_binary.specs.Judge.{judge}
 use Rattle.ion_binary.specs.laws.reading.Judged.{judge_scalar}
-use Rattle.ion_binary.specs.machine.EachOctet.{Spot, under, spot_at, moved, anew, Outcome, at, in_body, end_of, levels, deliver, proceed, is_pad, is_wrapper, unless, or_else, too_long, misfits, stray, nameless, unending, outside, past, unfit, judged, open_struct, begin, sized, longer, unsized, one_octet, on_descriptor, count_came, annotation_came, number_came, on_body, on_pad, feed}
+use Rattle.ion_binary.specs.machine.EachOctet.{Spot, under, spot_at, moved, anew, Outcome, at, in_body, end_of, levels, deliver, proceed, unless, or_else, too_long, misfits, stray, nameless, unending, outside, past, unfit, judged, open_struct, begin, sized, longer, unsized, one_octet, on_descriptor, count_came, annotation_came, number_came, on_body, on_pad, feed, hollow}
 use Rattle.ion_binary.specs.machine.Run.{Run, run, run_on}
-use Rattle.ion_binary.specs.laws.reading.Stands.{TopRoom, Room, Ends, InRoom, NumberRoom, depths, field_depths}
+use Rattle.ion_binary.specs.Depths.{depths, field_depths}
+use Rattle.ion_binary.specs.laws.reading.Stands.{TopRoom, Room, Ends, InRoom, NumberRoom}
 use Rattle.ion_binary.specs.machine.Pieces.{run-append, run_via, run_step, then_run, then_after, on_outcome, led, after, length-one}
 
 -- depths
@@ -57,7 +60,7 @@ top_none : (b : Bool) (item start to : ℕ) → (b ≡ false → to ≤ start + 
 top_none true item start to h = refl
 top_none false item start to h = cond-true _ _ _ (le-leb to (start + item) (h refl))
 
-too_long_none : (item start : ℕ) (form : Form) (to : ℕ) → TopRoom item start form to → too_long item start form to ≡ None
+pub too_long_none : (item start : ℕ) (form : Form) (to : ℕ) → TopRoom item start form to → too_long item start form to ≡ None
 too_long_none item start form to h = top_none (is_pad form) item start to h
 
 top_less : (item start : ℕ) (form : Form) (a b : ℕ) → a ≤ b → TopRoom item start form b → TopRoom item start form a
@@ -147,6 +150,20 @@ unfit_none l start fs form to a h =
 
 -- numbers
 
+-- a scalar's body has the octets that its form asks for
+pub hollow_scalar : (c : List Slot) (t : Scalar) (body : List ℕ) (p : Payload) → judge c t body ≡ Ok p → hollow (forms.Scalar t) (length body) ≡ None
+unfolding judge timestamp_of_body read_offset
+hollow_scalar c scalars.NegativeInt [] p h = absurd cc
+hollow_scalar c scalars.NegativeInt (b ∷ bs) p h = cond-false _ _ _ (ne_eqb (suc (length bs)) 0 (λ e. omega arith))
+hollow_scalar c scalars.Timestamp [] p h = absurd cc
+hollow_scalar c scalars.Timestamp (b ∷ bs) p h = cond-false _ _ _ (ne_eqb (suc (length bs)) 0 (λ e. omega arith))
+hollow_scalar c scalars.Int body p h = refl
+hollow_scalar c scalars.Decimal body p h = refl
+hollow_scalar c scalars.Symbol body p h = refl
+hollow_scalar c scalars.Str body p h = refl
+hollow_scalar c scalars.Clob body p h = refl
+hollow_scalar c scalars.Blob body p h = refl
+
 -- a number with one more digit at its end
 pub digits_more : (ds : List ℕ) (d : ℕ) → positional 128 (ds ++ d ∷ []) ≡ 128 * positional 128 ds + d
 digits_more ds d = let i = positional_push 128 ds d in omega arith
@@ -178,8 +195,8 @@ pad_some _ (skipped h body d) = joined_some h body (header_some _ _ h d)
 
 module _ (g : Catalog) (l : Limits) where
   -- where there is room, the header's end begins the body
-  sized_begins : (spot : Spot) (fs : List Frame) (form : Form) (n : ℕ) → Admits fs form → Ends l spot.start fs form (spot.used + n) → sized (under g l) spot fs form n ≡ begin (under g l) spot fs form n
-  sized_begins spot fs form n a r = ap (λ o. unless o (begin (under g l) spot fs form n)) (unfit_none l spot.start fs form (spot.used + n) a r)
+  sized_begins : (spot : Spot) (fs : List Frame) (form : Form) (n : ℕ) → hollow form n ≡ None → Admits fs form → Ends l spot.start fs form (spot.used + n) → sized (under g l) spot fs form n ≡ begin (under g l) spot fs form n
+  sized_begins spot fs form n hol a r = ap (λ o. unless o (unless (unfit l.item spot.start fs form (spot.used + n)) (begin (under g l) spot fs form n))) hol ∙ ap (λ o. unless o (begin (under g l) spot fs form n)) (unfit_none l spot.start fs form (spot.used + n) a r)
 
   unsized_goes : (spot : Spot) (fs : List Frame) (form : Form) → Admits fs form → Room l spot.start fs form (spot.used + 1) → unsized (under g l) spot fs form ≡ Outcome.goes (at spot fs (InNumber (purposes.Length form) 0))
   unsized_goes spot fs form a r =
@@ -208,13 +225,13 @@ module _ (g : Catalog) (l : Limits) where
       (ap (after (mid + 1)) (digit_step (moved spot mid) fs p (positional 128 ds) d to _ q i h (omega arith) r))
 
   -- the last octet of a number
-  last_step : (spot : Spot) (fs : List Frame) (p : Purpose) (a b to n : ℕ) → 128 ≤ b → n ≡ 128 * a + (b - 128) → n < 2 ^ 63 → to ≡ spot.used + 1
+  pub last_step : (spot : Spot) (fs : List Frame) (p : Purpose) (a b to n : ℕ) → 128 ≤ b → n ≡ 128 * a + (b - 128) → n < 2 ^ 63 → to ≡ spot.used + 1
       → feed (under g l) (at spot fs (InNumber p a)) b ≡ number_came (under g l) (moved spot to) fs p n
   last_step spot fs p a b to n h e k i =
       rw i (cond-false _ _ _ (le-ltb b 128 h) ∙ rw (← e) (cond-true _ _ _ (lt-ltb n (2 ^ 63) k)))
 
   -- a whole VarUInt
-  number_run : (spot : Spot) (fs : List Frame) (p : Purpose) (w : List ℕ) (n to : ℕ) → VarUInt w n → to ≡ spot.used + length w → NumberRoom l spot.start fs p to
+  pub number_run : (spot : Spot) (fs : List Frame) (p : Purpose) (w : List ℕ) (n to : ℕ) → VarUInt w n → to ≡ spot.used + length w → NumberRoom l spot.start fs p to
       → run g l spot.used (at spot fs (InNumber p 0)) w ≡ after to (number_came (under g l) (moved spot to) fs p n)
   number_run spot fs p w n to v e r =
       let i = positional_push 128 v.digits v.last in
@@ -228,15 +245,15 @@ module _ (g : Catalog) (l : Limits) where
       (ap (after (mid + 1)) (last_step (moved spot mid) fs p (positional 128 v.digits) (128 + v.last) to n (omega arith) (omega arith) vb (omega arith)) ∙ ap (λ x. after x (number_came (under g l) (moved spot to) fs p n)) j))
 
   -- a header, where its body may end
-  header_run : (spot : Spot) (fs : List Frame) (form : Form) (h : List ℕ) (n to : ℕ) → Header form n h → Admits fs form → to ≡ spot.used + length h → Ends l spot.start fs form (to + n)
+  pub header_run : (spot : Spot) (fs : List Frame) (form : Form) (h : List ℕ) (n to : ℕ) → Header form n h → hollow form n ≡ None → Admits fs form → to ≡ spot.used + length h → Ends l spot.start fs form (to + n)
       → run g l spot.used (at spot fs Ready) h ≡ after to (begin (under g l) (moved spot to) fs form n)
-  header_run spot fs form _ n to (short b d) a e r =
-      rw e (ap (λ x. after (spot.used + 1) (on_descriptor (under g l) (moved spot (spot.used + 1)) fs x)) d ∙ ap (after (spot.used + 1)) (sized_begins (moved spot (spot.used + 1)) fs form n a (rw e at r)))
-  header_run spot fs form _ n to (long b h d v) a e r =
+  header_run spot fs form _ n to (short b d) hol a e r =
+      rw e (ap (λ x. after (spot.used + 1) (on_descriptor (under g l) (moved spot (spot.used + 1)) fs x)) d ∙ ap (after (spot.used + 1)) (sized_begins (moved spot (spot.used + 1)) fs form n hol a (rw e at r)))
+  header_run spot fs form _ n to (long b h d v) hol a e r =
       let k = length_VarUInt h n v in
       run_via g l spot.used (spot.used + 1) (at spot fs Ready) (at (moved spot (spot.used + 1)) fs (InNumber (purposes.Length form) 0)) _ (b ∷ []) h refl
       (ap (λ x. after (spot.used + 1) (on_descriptor (under g l) (moved spot (spot.used + 1)) fs x)) d ∙ ap (after (spot.used + 1)) (unsized_goes (moved spot (spot.used + 1)) fs form a (ends_room l spot.start fs form _ _ (omega arith) r)))
-      (number_run (moved spot (spot.used + 1)) fs (purposes.Length form) h n to v (omega arith) (ends_room l spot.start fs form _ _ (omega arith) r) ∙ ap (after to) (sized_begins (moved spot to) fs form n a r))
+      (number_run (moved spot (spot.used + 1)) fs (purposes.Length form) h n to v (omega arith) (ends_room l spot.start fs form _ _ (omega arith) r) ∙ ap (after to) (sized_begins (moved spot to) fs form n hol a r))
 
   -- bodies
 
@@ -253,11 +270,11 @@ module _ (g : Catalog) (l : Limits) where
   pub begin_pad : (spot : Spot) (fs : List Frame) (n : ℕ) → begin (under g l) spot fs forms.Pad (suc n) ≡ Outcome.goes (at spot fs (InPad n))
   begin_pad spot fs n = pad_more spot fs n
 
-  pub begin_ordered : (spot : Spot) (fs : List Frame) (n : ℕ) → 0 < n → begin (under g l) spot fs forms.OrderedStruct n ≡ open_struct (under g l) spot fs n
-  begin_ordered spot fs n h = cond-false _ _ _ (ne_eqb n 0 (λ e. omega arith))
+  pub begin_ordered : (spot : Spot) (fs : List Frame) (n : ℕ) → begin (under g l) spot fs forms.OrderedStruct n ≡ open_struct (under g l) spot fs n
+  begin_ordered spot fs n = refl
 
-  pub begin_wrapper : (spot : Spot) (fs : List Frame) (n : ℕ) → 0 < n → begin (under g l) spot fs forms.Wrapper n ≡ Outcome.goes (at spot (frames.Annotated (spot.used + n) [] ∷ fs) (InNumber purposes.AnnotationsLength 0))
-  begin_wrapper spot fs n h = cond-false _ _ _ (ne_eqb n 0 (λ e. omega arith))
+  pub begin_wrapper : (spot : Spot) (fs : List Frame) (n : ℕ) → begin (under g l) spot fs forms.Wrapper n ≡ Outcome.goes (at spot (frames.Annotated (spot.used + n) [] ∷ fs) (InNumber purposes.AnnotationsLength 0))
+  begin_wrapper spot fs n = refl
 
   -- the octets of a body, behind those that have come
   pub body_run : (spot : Spot) (fs : List Frame) (t : Scalar) (n : ℕ) (came body : List ℕ) (to : ℕ) → length body ≡ suc n → to ≡ spot.used + length body
@@ -278,12 +295,12 @@ module _ (g : Catalog) (l : Limits) where
   pad_run spot fs (suc n) (b ∷ bs) to h e = ap (run_on (spot.used + 1) (λ m. run g l (spot.used + 1) m bs)) (pad_more (moved spot (spot.used + 1)) fs n) ∙ pad_run (moved spot (spot.used + 1)) fs n bs to (omega arith) (omega arith)
 
   -- a run from a header on
-  from_header : (spot : Spot) (fs : List Frame) (form : Form) (h body : List ℕ) (mid : ℕ) (r : Run) → Header form (length body) h → Admits fs form → mid ≡ spot.used + length h → Ends l spot.start fs form (mid + length body)
+  from_header : (spot : Spot) (fs : List Frame) (form : Form) (h body : List ℕ) (mid : ℕ) (r : Run) → Header form (length body) h → hollow form (length body) ≡ None → Admits fs form → mid ≡ spot.used + length h → Ends l spot.start fs form (mid + length body)
       → run_on mid (λ n. run g l mid n body) (begin (under g l) (moved spot mid) fs form (length body)) ≡ r
       → run g l spot.used (at spot fs Ready) (h ++ body) ≡ r
-  from_header spot fs form h body mid r d a e room k =
+  from_header spot fs form h body mid r d hol a e room k =
       run-append g l spot.used mid h body e (at spot fs Ready)
-      ∙ (ap (λ x. then_run x (λ n. run g l mid n body)) (header_run spot fs form h (length body) mid d a e room)
+      ∙ (ap (λ x. then_run x (λ n. run g l mid n body)) (header_run spot fs form h (length body) mid d hol a e room)
       ∙ (then_after mid (begin (under g l) (moved spot mid) fs form (length body)) (λ n. run g l mid n body) ∙ k))
 
   scalar_begins : (spot : Spot) (fs : List Frame) (t : Scalar) (body : List ℕ) (p : Payload) (to : ℕ) → judge spot.context t body ≡ Ok p → to ≡ spot.used + length body
@@ -303,24 +320,24 @@ module _ (g : Catalog) (l : Limits) where
   skip_run spot fs _ to (skipped h body d) a e r =
       let k = length-append h body in
       let m : to ≡ spot.used + length h + length body = omega arith in
-      from_header spot fs forms.Pad h body (spot.used + length h) _ d a refl (subst (Ends l spot.start fs forms.Pad) m r) (pad_begins (moved spot (spot.used + length h)) fs body to m)
+      from_header spot fs forms.Pad h body (spot.used + length h) _ d refl a refl (subst (Ends l spot.start fs forms.Pad) m r) (pad_begins (moved spot (spot.used + length h)) fs body to m)
 
   -- where a container goes on, it waits for what comes next
-  items_go : (spot : Spot) (fs : List Frame) (end : ℕ) (x : Listing) (vs : List Value) → spot.used < end → proceed (under g l) spot (frames.Items end x vs ∷ fs) ≡ Outcome.goes (at spot (frames.Items end x vs ∷ fs) Ready)
+  pub items_go : (spot : Spot) (fs : List Frame) (end : ℕ) (x : Listing) (vs : List Value) → spot.used < end → proceed (under g l) spot (frames.Items end x vs ∷ fs) ≡ Outcome.goes (at spot (frames.Items end x vs ∷ fs) Ready)
   items_go spot fs end x vs h = cond-false _ _ _ (ne_eqb spot.used end (λ e. omega arith))
 
-  fields_go : (spot : Spot) (fs : List Frame) (end : ℕ) (ms : List Field) → spot.used < end → proceed (under g l) spot (frames.Fields end ms ∷ fs) ≡ Outcome.goes (at spot (frames.Fields end ms ∷ fs) (InNumber purposes.FieldName 0))
+  pub fields_go : (spot : Spot) (fs : List Frame) (end : ℕ) (ms : List Field) → spot.used < end → proceed (under g l) spot (frames.Fields end ms ∷ fs) ≡ Outcome.goes (at spot (frames.Fields end ms ∷ fs) (InNumber purposes.FieldName 0))
   fields_go spot fs end ms h = cond-false _ _ _ (ne_eqb spot.used end (λ e. omega arith))
 
   -- a field name, where a value or a pad follows
-  name_run : (spot : Spot) (fs : List Frame) (end : ℕ) (ms : List Field) (id : List ℕ) (k to : ℕ) (r : Result (Option (List ℕ)) Reason) → VarUInt id k → resolve spot.context k ≡ r → to ≡ spot.used + length id → to < end
+  pub name_run : (spot : Spot) (fs : List Frame) (end : ℕ) (ms : List Field) (id : List ℕ) (k to : ℕ) (r : Result (Option (List ℕ)) Reason) → VarUInt id k → resolve spot.context k ≡ r → to ≡ spot.used + length id → to < end
       → run g l spot.used (at spot (frames.Fields end ms ∷ fs) (InNumber purposes.FieldName 0)) id ≡ led (at (moved spot to) (frames.Named end ms r ∷ fs) Ready)
   name_run spot fs end ms id k to r v i h e =
       number_run spot (frames.Fields end ms ∷ fs) purposes.FieldName id k to v h (omega arith)
       ∙ (ap (after to) (cond-true _ _ _ (lt-ltb to end e)) ∙ ap (λ n. led (at (moved spot to) (frames.Named end ms n ∷ fs) Ready)) i)
 
   -- the annotations
-  ids_run : (spot : Spot) (fs : List Frame) (end stop : ℕ) (us : List ℕ) (ss : List (Option (List ℕ))) (to : ℕ) → Ids spot.context us ss → spot.used < stop → to ≡ spot.used + length us → to ≤ stop
+  pub ids_run : (spot : Spot) (fs : List Frame) (end stop : ℕ) (us : List ℕ) (ss : List (Option (List ℕ))) (to : ℕ) → Ids spot.context us ss → spot.used < stop → to ≡ spot.used + length us → to ≤ stop
       → run g l spot.used (at spot (frames.Annotated end [] ∷ fs) (InNumber (purposes.Annotation stop) 0)) us ≡ led (at (moved spot to) (frames.Annotated end ss ∷ fs) (cond (to == stop) Ready (InNumber (purposes.Annotation stop) 0)))
   ids_run spot fs end stop _ _ to no_ids h i j =
       let n : to ≡ spot.used = omega arith in
@@ -333,7 +350,7 @@ module _ (g : Catalog) (l : Limits) where
       (ids_run spot fs end stop us ss mid b h refl (omega arith) ∙ ap (λ ph. led (at (moved spot mid) (frames.Annotated end ss ∷ fs) ph)) (cond-false _ _ _ (ne_eqb mid stop (λ k. omega arith))))
       (number_run (moved spot mid) (frames.Annotated end ss ∷ fs) (purposes.Annotation stop) w k to v (omega arith) j ∙ ap (λ x. after to (annotation_came (moved spot to) (frames.Annotated end ss ∷ fs) stop x)) r)
 
-  count_goes : (spot : Spot) (fs : List Frame) (end n : ℕ) (ss : List (Option (List ℕ))) → 0 < n → spot.used + n < end
+  pub count_goes : (spot : Spot) (fs : List Frame) (end n : ℕ) (ss : List (Option (List ℕ))) → 0 < n → spot.used + n < end
       → count_came spot (frames.Annotated end ss ∷ fs) n ≡ Outcome.goes (at spot (frames.Annotated end ss ∷ fs) (InNumber (purposes.Annotation (spot.used + n)) 0))
   count_goes spot fs end n ss h r = cond-false _ _ _ (ne_eqb n 0 (λ k. omega arith)) ∙ cond-true _ _ _ (lt-ltb (spot.used + n) end r)
 
@@ -349,8 +366,8 @@ module _ (g : Catalog) (l : Limits) where
       let mid2 = mid + length count in
       let mid3 = mid2 + length ids in
       let is_end : end ≡ mid + length (count ++ (ids ++ w)) = omega arith in
-      from_header spot fs forms.Wrapper h (count ++ (ids ++ w)) mid r d a refl (subst (Ends l spot.start fs forms.Wrapper) is_end x)
-      (ap (run_on mid (λ n. run g l mid n (count ++ (ids ++ w)))) (begin_wrapper (moved spot mid) fs (length (count ++ (ids ++ w))) (omega arith))
+      from_header spot fs forms.Wrapper h (count ++ (ids ++ w)) mid r d (cond-false _ _ _ (ne_eqb (length (count ++ (ids ++ w))) 0 (λ e. omega arith))) a refl (subst (Ends l spot.start fs forms.Wrapper) is_end x)
+      (ap (run_on mid (λ n. run g l mid n (count ++ (ids ++ w)))) (begin_wrapper (moved spot mid) fs (length (count ++ (ids ++ w))))
       ∙ rw (← is_end) (run_via g l mid mid2 (at (moved spot mid) (frames.Annotated end [] ∷ fs) (InNumber purposes.AnnotationsLength 0)) (at (moved spot mid2) (frames.Annotated end [] ∷ fs) (InNumber (purposes.Annotation mid3) 0)) r count (ids ++ w) refl
       (number_run (moved spot mid) (frames.Annotated end [] ∷ fs) purposes.AnnotationsLength count (length ids) mid2 v refl (omega arith) ∙ ap (after mid2) (count_goes (moved spot mid2) fs end (length ids) [] n (omega arith)))
       (run_via g l mid2 mid3 _ (at (moved spot mid3) (frames.Annotated end ss ∷ fs) Ready) r ids w refl
@@ -395,13 +412,13 @@ module _ (g : Catalog) (l : Limits) where
     plain_run used start c fs to _ _ (is_scalar h body t p d i) a e r q =
         let k = length-append h body in
         let m : to ≡ used + length h + length body = omega arith in
-        from_header (spot_at used start c) fs (forms.Scalar t) h body (used + length h) _ d (admits_plain fs (forms.Scalar t) refl refl a) refl (ends_as l start fs (forms.Scalar t) _ (subst (Ends l start fs forms.Struct) m r)) (scalar_begins (spot_at (used + length h) start c) fs t body p to (judge_scalar c body t p i) m)
+        from_header (spot_at used start c) fs (forms.Scalar t) h body (used + length h) _ d (hollow_scalar c t body p (judge_scalar c body t p i)) (admits_plain fs (forms.Scalar t) refl refl a) refl (ends_as l start fs (forms.Scalar t) _ (subst (Ends l start fs forms.Struct) m r)) (scalar_begins (spot_at (used + length h) start c) fs t body p to (judge_scalar c body t p i) m)
     plain_run used start c fs to _ _ (is_listing h body x vs d b) a e r q =
         let k = length-append h body in
         let mid = used + length h in
         let dv = depth-listed x vs in
         let m : to ≡ mid + length body = omega arith in
-        from_header (spot_at used start c) fs (forms.Listing x) h body mid _ d (admits_plain fs (forms.Listing x) refl refl a) refl (ends_as l start fs (forms.Listing x) _ (subst (Ends l start fs forms.Struct) m r))
+        from_header (spot_at used start c) fs (forms.Listing x) h body mid _ d refl (admits_plain fs (forms.Listing x) refl refl a) refl (ends_as l start fs (forms.Listing x) _ (subst (Ends l start fs forms.Struct) m r))
         (ap (run_on mid (λ n. run g l mid n body)) (cond-true _ _ _ (lt-ltb (levels fs) l.depth (omega arith)))
         ∙ (items_run mid start c fs (mid + length body) x to body vs b m (omega arith) (omega arith)
         ∙ ap (after to) (cond-true _ _ _ (eq-eqb to (mid + length body) m))))
@@ -410,15 +427,15 @@ module _ (g : Catalog) (l : Limits) where
         let mid = used + length h in
         let dv = depth-fields ms in
         let m : to ≡ mid + length body = omega arith in
-        from_header (spot_at used start c) fs forms.Struct h body mid _ d (admits_plain fs forms.Struct refl refl a) refl (subst (Ends l start fs forms.Struct) m r)
+        from_header (spot_at used start c) fs forms.Struct h body mid _ d refl (admits_plain fs forms.Struct refl refl a) refl (subst (Ends l start fs forms.Struct) m r)
         (struct_run (spot_at mid start c) fs to body ms m (omega arith) (fields_run mid start c fs (mid + length body) to body ms b m (omega arith) (omega arith)))
     plain_run used start c fs to _ _ (is_ordered h body ms d n b) a e r q =
         let k = length-append h body in
         let mid = used + length h in
         let dv = depth-fields ms in
         let m : to ≡ mid + length body = omega arith in
-        from_header (spot_at used start c) fs forms.OrderedStruct h body mid _ d (admits_plain fs forms.OrderedStruct refl refl a) refl (ends_as l start fs forms.OrderedStruct _ (subst (Ends l start fs forms.Struct) m r))
-        (ap (run_on mid (λ n. run g l mid n body)) (begin_ordered (spot_at mid start c) fs (length body) n) ∙ struct_run (spot_at mid start c) fs to body ms m (omega arith) (fields_run mid start c fs (mid + length body) to body ms b m (omega arith) (omega arith)))
+        from_header (spot_at used start c) fs forms.OrderedStruct h body mid _ d (cond-false _ _ _ (ne_eqb (length body) 0 (λ e. omega arith))) (admits_plain fs forms.OrderedStruct refl refl a) refl (ends_as l start fs forms.OrderedStruct _ (subst (Ends l start fs forms.Struct) m r))
+        (ap (run_on mid (λ n. run g l mid n body)) (begin_ordered (spot_at mid start c) fs (length body)) ∙ struct_run (spot_at mid start c) fs to body ms m (omega arith) (fields_run mid start c fs (mid + length body) to body ms b m (omega arith) (omega arith)))
 
     -- a value, where there is room for it
     value_run : (used start : ℕ) (c : List Slot) (fs : List Frame) (to : ℕ) (w : List ℕ) (v : Value) → Binary c w v → Admits fs forms.Wrapper → to ≡ used + length w → Ends l start fs forms.Struct to → depth v + levels fs ≤ l.depth
@@ -433,7 +450,7 @@ module _ (g : Catalog) (l : Limits) where
         (plain_run (used + length h + length count + length ids) start c (frames.Annotated to ss ∷ fs) to w p b refl (omega arith) refl (omega arith))
 
     -- the items of a list or s-expression that ends at `end`
-    items_run : (used start : ℕ) (c : List Slot) (fs : List Frame) (end : ℕ) (x : Listing) (to : ℕ) (w : List ℕ) (vs : List Value) → Sequence c w vs → to ≡ used + length w → to ≤ end → depths vs + suc (levels fs) ≤ l.depth
+    pub items_run : (used start : ℕ) (c : List Slot) (fs : List Frame) (end : ℕ) (x : Listing) (to : ℕ) (w : List ℕ) (vs : List Value) → Sequence c w vs → to ≡ used + length w → to ≤ end → depths vs + suc (levels fs) ≤ l.depth
         → run_on used (λ n. run g l used n w) (proceed (under g l) (spot_at used start c) (frames.Items end x [] ∷ fs)) ≡ after to (proceed (under g l) (spot_at to start c) (frames.Items end x vs ∷ fs))
     items_run used start c fs end x to _ _ nothing e r q = ap (λ n. after n (proceed (under g l) (spot_at n start c) (frames.Items end x [] ∷ fs))) (let j : used ≡ to = omega arith in j)
     items_run used start c fs end x to _ _ (one_more us w vs v b d) e r q =
@@ -453,7 +470,7 @@ module _ (g : Catalog) (l : Limits) where
         ∙ skip_run (spot_at mid start c) (frames.Items end x vs ∷ fs) w to d (record { fitting = refl; named = refl }) (omega arith) r)
 
     -- the fields of a struct that ends at `end`
-    fields_run : (used start : ℕ) (c : List Slot) (fs : List Frame) (end to : ℕ) (w : List ℕ) (ms : List Field) → Fields c w ms → to ≡ used + length w → to ≤ end → field_depths ms + suc (levels fs) ≤ l.depth
+    pub fields_run : (used start : ℕ) (c : List Slot) (fs : List Frame) (end to : ℕ) (w : List ℕ) (ms : List Field) → Fields c w ms → to ≡ used + length w → to ≤ end → field_depths ms + suc (levels fs) ≤ l.depth
         → run_on used (λ n. run g l used n w) (proceed (under g l) (spot_at used start c) (frames.Fields end [] ∷ fs)) ≡ after to (proceed (under g l) (spot_at to start c) (frames.Fields end ms ∷ fs))
     fields_run used start c fs end to _ _ no_fields e r q = ap (λ n. after n (proceed (under g l) (spot_at n start c) (frames.Fields end [] ∷ fs))) (let j : used ≡ to = omega arith in j)
     fields_run used start c fs end to _ _ (one_field us id w ms k s v b n y d) e r q =

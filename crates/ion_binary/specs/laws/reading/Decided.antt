@@ -14,7 +14,7 @@ use Rattle.ion_binary.specs.declared.form.Scalar.TheVariants as scalars
 use Rattle.ion_scalar.specs.binary.Decimal.{decimal_of_body}
 use Rattle.ion_scalar.specs.binary.Timestamp.{timestamp_of_body}
 use Rattle.ion_scalar.specs.binary.laws.BodyReasons.{IsBodyReason, JudgesBody, decimal_judges, timestamp_judges}
-use Rattle.ion_binary.specs.machine.Judge.{judge, int_of, symbol_of, as_symbol, as_decimal, as_timestamp}
+use Rattle.ion_binary.specs.Judge.{judge, int_of, symbol_of, as_symbol, as_decimal, as_timestamp}
 
 body_decides : (e : Reason) → IsBodyReason e → IsDecided e
 body_decides TooLarge h = tt

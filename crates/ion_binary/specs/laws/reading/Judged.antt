@@ -22,7 +22,7 @@ use Rattle.ion_scalar.specs.binary.laws.Decimal.{decimal_read, decimal_answers}
 use Rattle.ion_scalar.specs.binary.Timestamp.{timestamp_of_body}
 use Rattle.ion_scalar.specs.binary.laws.Shown.{timestamp_read, timestamp_told}
 use Rattle.ion_binary.specs.Grammar.{IsScalar, is_int, is_negative, is_decimal, is_timestamp, is_symbol, is_string, is_clob, is_blob}
-use Rattle.ion_binary.specs.machine.Judge.{judge, int_of, symbol_of, as_symbol, as_decimal, as_timestamp}
+use Rattle.ion_binary.specs.Judge.{judge, int_of, symbol_of, as_symbol, as_decimal, as_timestamp}
 
 -- a scalar's body is judged to be it
 pub judge_scalar : (c : List Slot) (body : List ℕ) (t : Scalar) (p : Payload) → IsScalar c body t p → judge c t body ≡ Ok p

@@ -20,7 +20,8 @@ use Rattle.ion_binary.specs.declared.state.Phase.TheVariants.{InMarker, Ready, I
 use Rattle.ion_binary.specs.Grammar.{Whole, no_piece, document, OpenRest, of_marker, of_item, of_pad_length, of_pad}
 use Rattle.ion_scalar.specs.declared.descriptor.Size.TheVariants.{Follows}
 use Rattle.ion_binary.specs.declared.form.Opening.TheVariants.{Sized}
-use Rattle.ion_binary.specs.machine.EachOctet.{end_of, is_pad}
+use Rattle.ion_binary.specs.Opening.{is_pad}
+use Rattle.ion_binary.specs.machine.EachOctet.{end_of}
 use Rattle.ion_binary.specs.laws.reading.Stands.{Ends, Box, IsStruct, InStruct, Opened, Front, MarkerStands, LengthStands, NumberStands, BodyStands, Standing, marker_place}
 use Rattle.ion_binary.specs.laws.reading.Steady.{FineFrames}
 

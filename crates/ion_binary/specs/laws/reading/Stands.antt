@@ -1,5 +1,5 @@
 -- What octets and a machine have to do with one another.
-use Rattle.std.specs.Prelude.{◌≡◌, ℕ, suc, ◌+◌, ◌^◌, ◌<◌, ◌≤◌, ◌⊎◌, Bool, true, false, List, [], ◌∷◌, ◌++◌, length, map, Option}
+use Rattle.std.specs.Prelude.{◌≡◌, ℕ, suc, ◌+◌, ◌^◌, ◌<◌, ◌≤◌, ◌⊎◌, Bool, true, false, ◌&&◌, ◌==◌, List, [], ◌∷◌, ◌++◌, length, map, Option, None}
 use Rattle.ion_model.specs.declared.value.Value.{Value}
 use Rattle.ion_model.specs.declared.value.Field.{Field}
 use Rattle.ion_model.specs.Measures.{depth, greatest}
@@ -19,16 +19,10 @@ use Rattle.ion_binary.specs.declared.state.Purpose.{Purpose}
 use Rattle.ion_binary.specs.declared.state.Purpose.TheVariants as purposes
 use Rattle.ion_binary.specs.declared.state.Phase.{Phase}
 use Rattle.ion_binary.specs.declared.state.Phase.TheVariants.{InMarker, Ready, InNumber, InBody, InPad}
-use Rattle.ion_binary.specs.Opening.{opening_of}
+use Rattle.ion_binary.specs.Opening.{opening_of, is_pad}
+use Rattle.ion_binary.specs.Depths.{depths, field_depths}
 use Rattle.ion_binary.specs.Grammar.{Header, Ids, Sequence, Fields, Pieces}
-use Rattle.ion_binary.specs.machine.EachOctet.{Machine, end_of, levels, is_pad}
-
--- how deep the deepest goes
-abbrev pub depths : List Value → ℕ
-depths vs = greatest (map depth vs)
-
-abbrev pub field_depths : List Field → ℕ
-field_depths ms = greatest (map (λ f. depth f.value) ms)
+use Rattle.ion_binary.specs.machine.EachOctet.{Machine, end_of, levels, stray, nameless}
 
 -- an item of the top level may reach up to `to`; a pad may reach anywhere
 abbrev pub TopRoom : ℕ → ℕ → Form → ℕ → Type 0
@@ -59,6 +53,22 @@ NumberRoom l start fs purposes.FieldName to = InRoom fs to
 NumberRoom l start fs purposes.AnnotationsLength to = InRoom fs to
 NumberRoom l start fs (purposes.Annotation stop) to = to ≤ stop
 
+-- a descriptor may come
+abbrev pub Receives : List Frame → Type 0
+Receives (frames.Fields end ms ∷ fs) = ⊥
+Receives _ = Unit {0}
+
+-- so many octets end inside of the innermost container
+abbrev pub Inside : List Frame → ℕ → Type 0
+Inside [] n = Unit {0}
+Inside (f ∷ fs) n = n < end_of f
+
+-- a form may stand here
+pub record Fitting (fs : List Frame) (form : Form) : Type 0 where
+  pub receives : Receives fs
+  pub fitting : stray fs form ≡ None
+  pub named : nameless fs form ≡ None
+
 -- a header of an open container, behind octets that Outer describes
 pub record Box (l : Limits) (start : ℕ) (Outer : List ℕ → Type 0) (fs : List Frame) (form : Form) (end : ℕ) (u : List ℕ) : Type 0 where
   pub before : List ℕ
@@ -69,6 +79,7 @@ pub record Box (l : Limits) (start : ℕ) (Outer : List ℕ → Type 0) (fs : Li
   pub head : Header form n header
   pub ends : end ≡ length u + n
   pub room : Ends l start fs form end
+  pub admits : Fitting fs form
 
 -- the form is that of a struct of n octets
 abbrev pub IsStruct : Form → ℕ → Type 0
@@ -132,11 +143,6 @@ Opened g l start c s (frames.Annotated end ss ∷ fs) u =
       within : length u < end;
     }
 
--- a descriptor may come
-abbrev pub Receives : List Frame → Type 0
-Receives (frames.Fields end ms ∷ fs) = ⊥
-Receives _ = Unit {0}
-
 -- what a form asks of the frames in which it stands
 abbrev pub Accepts : Form → List Frame → Type 0
 Accepts forms.Pad fs = Receives fs × IsBare fs
@@ -147,6 +153,7 @@ Accepts _ fs = Unit {0}
 pub record Before (g : Catalog) (l : Limits) (start : ℕ) (c : List Slot) (s : List Value) (fs : List Frame) (u : List ℕ) : Type 0 where
   pub opened : Opened g l start c s fs u
   pub receives : Receives fs
+  pub more : Inside fs (length u)
 
 abbrev pub marker_front : Mark → List ℕ
 marker_front First = []
@@ -164,6 +171,17 @@ marker_place Second = 1
 marker_place Third = 2
 marker_place Fourth = 3
 
+-- the octets of a marker that came, and whether they are good
+abbrev pub MarkCame : Mark → Bool → List ℕ → Type 0
+MarkCame First good w = (w ≡ []) × (good ≡ true)
+MarkCame Second good w = (w ≡ 224 ∷ []) × (good ≡ true)
+MarkCame Third good w = (x : ℕ) × (w ≡ 224 ∷ x ∷ []) × (good ≡ (true && (x == 1)))
+MarkCame Fourth good w = (x y : ℕ) × (w ≡ 224 ∷ x ∷ y ∷ []) × (good ≡ ((true && (x == 1)) && (y == 0)))
+
+abbrev pub AtFirst : Mark → List ℕ → Type 0
+AtFirst First before = before ≡ []
+AtFirst _ before = Unit {0}
+
 -- nothing is known of a marker that is bad already
 abbrev pub IfGood : Bool → Type 0 → Type 0
 IfGood true P = P
@@ -177,6 +195,8 @@ pub record MarkerStands (g : Catalog) (l : Limits) (start : ℕ) (c : List Slot)
   pub fits : IfGood good (came ≡ marker_front m)
   pub front : Front g l start c s before
   pub top : fs ≡ []
+  pub octets : MarkCame m good came
+  pub first : AtFirst m before
 
 -- a header may go on behind `used` octets
 abbrev pub Going : Limits → ℕ → List Frame → Form → ℕ → Type 0
@@ -191,6 +211,8 @@ pub record LengthStands (g : Catalog) (l : Limits) (start : ℕ) (c : List Slot)
   pub whole : u ≡ before ++ (b ∷ digits)
   pub outer : Opened g l start c s fs before
   pub accepts : Accepts form fs
+  pub admits : Fitting fs form
+  pub more : Inside fs (length before)
   pub head : opening_of b ≡ Sized form Follows
   pub small : Digits digits
   pub value : a ≡ positional 128 digits
@@ -205,6 +227,7 @@ pub record NameStands (g : Catalog) (l : Limits) (start : ℕ) (c : List Slot) (
   pub inside : InStruct l start c (Opened g l start c s fs) fs end ms front
   pub small : Digits digits
   pub value : a ≡ positional 128 digits
+  pub bound : a < 2 ^ 63
   pub going : length u < end
 
 -- in the number of the octets of annotations
@@ -217,6 +240,7 @@ pub record CountStands (g : Catalog) (l : Limits) (start : ℕ) (c : List Slot) 
   pub none_yet : ss ≡ []
   pub small : Digits digits
   pub value : a ≡ positional 128 digits
+  pub bound : a < 2 ^ 63
   pub going : length u < end
 
 -- in the id of an annotation
@@ -235,6 +259,7 @@ pub record AnnotationStands (g : Catalog) (l : Limits) (start : ℕ) (c : List S
   pub symbols : Ids c ids ss
   pub small : Digits digits
   pub value : a ≡ positional 128 digits
+  pub bound : a < 2 ^ 63
   pub room : stop < end
   pub going : length u < stop
 
@@ -252,6 +277,7 @@ pub record BodyStands (g : Catalog) (l : Limits) (start : ℕ) (c : List Slot) (
   pub whole : u ≡ before ++ (header ++ came)
   pub outer : Opened g l start c s fs before
   pub accepts : Accepts form fs
+  pub admits : Fitting fs form
   pub size : ℕ
   pub sizes : size ≡ length came + suc n
   pub end : ℕ

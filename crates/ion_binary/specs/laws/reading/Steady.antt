@@ -28,11 +28,11 @@ use Rattle.ion_binary.specs.declared.state.Purpose.{Purpose}
 use Rattle.ion_binary.specs.declared.state.Purpose.TheVariants as purposes
 use Rattle.ion_binary.specs.declared.state.Phase.{Phase}
 use Rattle.ion_binary.specs.declared.state.Phase.TheVariants.{InMarker, Ready, InNumber, InBody, InPad}
-use Rattle.ion_binary.specs.Opening.{opening_of, opens, body_of, with_octets}
+use Rattle.ion_binary.specs.Opening.{opening_of, opens, body_of, with_octets, is_pad, is_wrapper}
 use Rattle.ion_binary.specs.Grammar.{listed}
-use Rattle.ion_binary.specs.machine.Judge.{judge}
+use Rattle.ion_binary.specs.Judge.{judge}
 use Rattle.ion_binary.specs.laws.reading.Decided.{judge_decides}
-use Rattle.ion_binary.specs.machine.EachOctet.{Setting, Spot, Machine, Outcome, goes, gives, refuses, end_of, levels, turned, deliver, proceed, is_pad, is_wrapper, unless, or_else, too_long, misfits, stray, nameless, unending, outside, past, unfit, judged, deeper, open_struct, begin, sized, longer, unsized, one_octet, on_descriptor, name_came, count_came, annotation_came, number_came, on_marker, on_phase, counted, feed}
+use Rattle.ion_binary.specs.machine.EachOctet.{Setting, Spot, Machine, Outcome, goes, gives, refuses, end_of, levels, turned, deliver, proceed, unless, or_else, too_long, misfits, stray, nameless, unending, outside, past, unfit, judged, deeper, open_struct, begin, sized, longer, unsized, one_octet, on_descriptor, name_came, count_came, annotation_came, number_came, on_marker, on_phase, counted, feed, hollow}
 
 -- the open piece begins at `start` or behind it
 pub record Onward (start : ℕ) (m : Machine) : Type 0 where
@@ -100,6 +100,21 @@ proceed_steady setting spot (frames.Annotated end ss ∷ fs) h = λ p. tt
 long_fine : (item start : ℕ) (form : Form) (to : ℕ) → Fine (too_long item start form to)
 long_fine item start form to = either Fine (is_pad form || nat_le to (start + item)) _ _ tt tt
 
+hollow_fine : (form : Form) (n : ℕ) → Fine (hollow form n)
+hollow_fine (forms.Scalar scalars.NegativeInt) n = either Fine (n == 0) _ _ tt tt
+hollow_fine (forms.Scalar scalars.Timestamp) n = either Fine (n == 0) _ _ tt tt
+hollow_fine (forms.Scalar scalars.Int) n = tt
+hollow_fine (forms.Scalar scalars.Decimal) n = tt
+hollow_fine (forms.Scalar scalars.Symbol) n = tt
+hollow_fine (forms.Scalar scalars.Str) n = tt
+hollow_fine (forms.Scalar scalars.Clob) n = tt
+hollow_fine (forms.Scalar scalars.Blob) n = tt
+hollow_fine forms.OrderedStruct n = either Fine (n == 0) _ _ tt tt
+hollow_fine forms.Wrapper n = either Fine (n == 0) _ _ tt tt
+hollow_fine forms.Pad n = tt
+hollow_fine (forms.Listing x) n = tt
+hollow_fine forms.Struct n = tt
+
 misfits_fine : (item start : ℕ) (fs : List Frame) (form : Form) (to : ℕ) → Fine (misfits item start fs form to)
 misfits_fine item start [] form to = long_fine item start form to
 misfits_fine item start (frames.Annotated end ss ∷ fs) form to = either Fine (to == end) _ _ tt tt
@@ -161,12 +176,13 @@ begin_steady setting spot fs (forms.Scalar t) n h = either (Steady spot.start (F
 begin_steady setting spot fs (forms.Listing x) n h =
     deeper_steady setting.limits.depth spot.start fs _ (weaken spot.start (FineFrames fs) (FineFrames (frames.Items (spot.used + n) x [] ∷ fs)) (proceed setting spot (frames.Items (spot.used + n) x [] ∷ fs)) (λ p. (tt, p)) (proceed_steady setting spot (frames.Items (spot.used + n) x [] ∷ fs) h))
 begin_steady setting spot fs forms.Struct n h = struct_steady setting spot fs n h
-begin_steady setting spot fs forms.OrderedStruct n h = either (Steady spot.start (FineFrames fs)) (n == 0) _ _ (λ p. tt) (struct_steady setting spot fs n h)
-begin_steady setting spot fs forms.Wrapper n h = either (Steady spot.start (FineFrames fs)) (n == 0) _ _ (λ p. tt) (record { from = omega arith; to = h })
+begin_steady setting spot fs forms.OrderedStruct n h = struct_steady setting spot fs n h
+begin_steady setting spot fs forms.Wrapper n h = record { from = omega arith; to = h }
 
 sized_steady : (setting : Setting) (spot : Spot) (fs : List Frame) (form : Form) (n : ℕ) → spot.start ≤ spot.used → Steady spot.start (FineFrames fs) (sized setting spot fs form n)
 sized_steady setting spot fs form n h =
-    steady_unless spot.start (FineFrames fs) (unfit setting.limits.item spot.start fs form (spot.used + n)) _ (unfit_fine setting.limits.item spot.start fs form (spot.used + n)) (begin_steady setting spot fs form n h)
+    steady_unless spot.start (FineFrames fs) (hollow form n) _ (λ i. hollow_fine form n)
+    (steady_unless spot.start (FineFrames fs) (unfit setting.limits.item spot.start fs form (spot.used + n)) _ (unfit_fine setting.limits.item spot.start fs form (spot.used + n)) (begin_steady setting spot fs form n h))
 
 longer_steady : (setting : Setting) (spot : Spot) (fs : List Frame) (p : Purpose) (a : ℕ) → spot.start ≤ spot.used → Steady spot.start (FineFrames fs) (longer setting spot fs p a)
 longer_steady setting spot fs p a h = steady_unless spot.start (FineFrames fs) (past setting.limits.item spot.start fs p spot.used) _ (λ i. past_fine setting.limits.item spot.start fs p spot.used) (record { from = omega arith; to = h })

@@ -15,7 +15,7 @@ returns-in-Ok-clause-answered g c =
 pub returns-in-Ok-clause-stopped : goal.returns-in-Ok-clause-stopped
 returns-in-Ok-clause-stopped g c =
     let catalog = rw c.in-Ok.is at c.in_ok-catalog.ensures.catalog in
-    IfErr-weaker c.ending_of.result _ _ (λ fault why. stopped_behind g.N.Input.Inlet g.N.Sources.gives g.N.Sources.refuses _ (told c.args.request.now) c.args.request.now.limits c.args.sources.now c.catalog_of.new.sources
+    IfErr-weaker c.ending_of.result _ _ (λ fault why. stopped_behind g.N.Input.Inlet g.N.Sources.gives g.N.Sources.refuses _ _ (told c.args.request.now) c.args.request.now.limits c.args.sources.now c.catalog_of.new.sources
     c.in_ok-catalog.ensures.kept c.requires.input_once c.in-Ok.catalog catalog (g.O.Outlet.has_failed c.ending_of.new.out) fault why) c.ending_of.ensures.stopped
 
 pub returns-in-Err-clause-answered : goal.returns-in-Err-clause-answered

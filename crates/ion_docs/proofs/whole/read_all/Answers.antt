@@ -1,8 +1,14 @@
 use Rattle.std.proofs.Common.{rules, ◌≡◌}
 use Rattle.ion_docs.proofs.whole.read_all.Goals as goal
 
-pub returns-clause-stream : goal.returns-clause-stream
-returns-clause-stream g c =
-    let under : c.in_ok-items.items.catalog.now ≡ c.args.catalog.now = search rules in
-    let within : c.in_ok-items.items.limits ≡ c.args.limits = search rules in
-    rw (← under, ← within) c.read_items.ensures.stream
+pub returns-in-Ok-clause-stream : goal.returns-in-Ok-clause-stream
+returns-in-Ok-clause-stream c =
+    let under : c.in-Ok.items.catalog.now ≡ c.args.catalog.now = search rules in
+    let within : c.in-Ok.items.limits ≡ c.args.limits = search rules in
+    rw (under, within) at c.read_octets.ensures.stream
+
+pub returns-in-Ok-clause-refused : goal.returns-in-Ok-clause-refused
+returns-in-Ok-clause-refused c =
+    let under : c.in-Ok.items.catalog.now ≡ c.args.catalog.now = search rules in
+    let within : c.in-Ok.items.limits ≡ c.args.limits = search rules in
+    rw (under, within) at c.read_octets.ensures.refused

@@ -15,6 +15,7 @@ loop-catalog-init g c =
     let fresh = c.requires.fresh in
     record {
       ready = ready_begun g.I.Items source c.args.items (g.met.I.Items.counted c.args.items [] [] fresh.stood) fresh.awaited new.items new.nothing new.piece (omega (arith, new.reads));
+      asked = omega (arith, new.reads);
       within = within_begun g.R.Inlet c.args.reader.now source c.args.reads new.reads;
       reads = (
         [],
@@ -33,12 +34,14 @@ pub loop-catalog-preserved : goal.loop-catalog-preserved
 loop-catalog-preserved g c =
     let i = c.loop-catalog.invariant in
     let r = i.reads in
+    let asked = i.asked in
     let next = c.in_ok-value.ensures in
     let source = c.read_on.new.self in
     let found : List (Value × ℕ) = (c.in-Value.value, source.used) ∷ [] in
     let more : catalog_of c.loop-catalog.catalog found ≡ Ok c.add_found.new.catalog = rw (c.offset.ensures, c.in_default.is) at c.in_ok-refusal-in-Value.ensures in
     record {
       ready = rw c.in-Value.is at next.ready;
+      asked = omega (arith, asked, next.few_calls);
       within = (rw c.in-Value.is at next.within) c.args.reader.now c.args.reads i.within;
       reads = (
         r.0 ++ found,

@@ -2,8 +2,8 @@ use Rattle.std.proofs.Common.{rules, ◌⊎◌, ◌++◌, [], ◌∷◌, Some, i
 use Rattle.ion_streams.specs.declared.source.Standing.{Standing}
 use Rattle.ion_streams.specs.reading.Courses.{count_of}
 use Rattle.ion_streams.specs.reading.Read.{IsWithin}
-use Rattle.ion_streams.specs.reading.Standing.{IfOpen, IsOpen, work_of, Stood}
-use Rattle.ion_streams.proofs.Alongside.{past_open, past_closed, past_ready, past_less, past_within, past_stood}
+use Rattle.ion_streams.specs.reading.Standing.{IfOpen, IsOpen, work_of, reads_of, Stood}
+use Rattle.ion_streams.proofs.Alongside.{past_open, past_closed, past_ready, past_less, past_reads, past_within, past_stood}
 use Rattle.ion_streams.proofs.Courses.{Meets, meets_begun, meets_more, left_refused, closed_verdict, count_met, works_less, true_case, false_case}
 use Rattle.ion_streams.proofs.comparison.compare_places.Goals.{else-not-is_open-via-then-not-is_open+else-not-is_open-2, else-not-is_open-via-else-not-is_open}
 use Rattle.ion_streams.proofs.comparison.compare_places.Goals as goal
@@ -17,6 +17,8 @@ loop-left_place-init g c =
       right_ready = c.requires.right;
       left_within = λ reads h. h;
       right_within = λ reads h. h;
+      left_asked = omega arith;
+      right_asked = omega arith;
       bound = omega (arith, few, none);
       open_still = inl c.requires.opened;
       stood = λ left_catalog right_catalog left_limits right_limits a b. ([], [], a, b, subst (λ x. Meets x c.args.left_place.now c.args.right_place.now [] []) (sym c.requires.begun) (meets_begun _ _));
@@ -28,8 +30,8 @@ returns-in-Refused-clause-verdict g c =
     let i = c.loop-left_place.invariant.stood left_catalog right_catalog left_limits right_limits a b in
     let stays = c.go_alike.ensures.stays (search rules) in
     let left_stood : Stood g.L.Inlet g.I.Items left_catalog left_limits c.args.left.now c.loop-left_place.left c.go_alike.new.left i.0 = rw stays.1 i.2 in
-    let right_stood : Stood g.R.Inlet g.I.Items right_catalog right_limits c.args.right.now c.loop-left_place.right c.go_alike.new.right i.1 = rw stays.2 i.3 in
-    left_refused g.L.Inlet g.I.Items g.R.Inlet g.I.Items
+    let right_stood : Stood g.R.Inlet g.J.Items right_catalog right_limits c.args.right.now c.loop-left_place.right c.go_alike.new.right i.1 = rw stays.2 i.3 in
+    left_refused g.L.Inlet g.I.Items g.R.Inlet g.J.Items
     left_catalog right_catalog left_limits right_limits
     c.args.left.now c.advance.new.reader c.args.right.now c.loop-left_place.right c.go_alike.new.right (i.0 ++ option_to_list c.in_ok-left_value.left_value) i.1 c.in-Refused.refusal
     (rw c.in-Refused.is at (c.in_ok-left_value.ensures.gives _ _ _ i.0 left_stood)) right_stood
@@ -40,11 +42,11 @@ returns-then-not-is_open-2-clause-verdict g c =
     let i = c.loop-left_place.invariant.stood left_catalog right_catalog left_limits right_limits a b in
     let stays = c.go_alike.ensures.stays (search rules) in
     let left_stood : Stood g.L.Inlet g.I.Items left_catalog left_limits c.args.left.now c.loop-left_place.left c.go_alike.new.left i.0 = rw stays.1 i.2 in
-    let right_stood : Stood g.R.Inlet g.I.Items right_catalog right_limits c.args.right.now c.loop-left_place.right c.go_alike.new.right i.1 = rw stays.2 i.3 in
+    let right_stood : Stood g.R.Inlet g.J.Items right_catalog right_limits c.args.right.now c.loop-left_place.right c.go_alike.new.right i.1 = rw stays.2 i.3 in
     let meets : Meets c.go_alike.new.course c.go_alike.new.left c.go_alike.new.right i.0 i.1 = rw (stays.0, stays.1, stays.2) i.4 in
     let l = c.in_ok-left_value.ensures in
     let r = c.in-Ok.ensures in
-    let verdict = closed_verdict g.L.Inlet g.I.Items g.R.Inlet g.I.Items
+    let verdict = closed_verdict g.L.Inlet g.I.Items g.R.Inlet g.J.Items
     left_catalog right_catalog left_limits right_limits
     c.args.left.now c.advance.new.reader c.args.right.now c.advance-in-loop-left_place.new.reader c.advance.new.self c.advance-in-loop-left_place.new.self c.meet-met.new.self
     (i.0 ++ option_to_list c.in_ok-left_value.left_value) (i.1 ++ option_to_list c.in-Ok.value)
@@ -64,13 +66,15 @@ loop-left_place-preserved-then-go_alike g c =
     let right_now = c.go_alike.new.right in
     let bound = i.bound in
     let left_less = past_less g.I.Items left left_now both.value both.left_past in
-    let right_less = past_less g.I.Items right right_now both.value both.right_past in
+    let right_less = past_less g.J.Items right right_now both.value both.right_past in
     let count = count_met c.loop-left_place.course c.go_alike.new.course (Some both.value) (Some both.value) both.met in
     record {
       left_ready = past_ready g.I.Items left left_now both.value both.left_past;
-      right_ready = past_ready g.I.Items right right_now both.value both.right_past;
+      right_ready = past_ready g.J.Items right right_now both.value both.right_past;
       left_within = λ reads h. past_within g.I.Items g.L.Inlet reads c.args.left.now c.loop-left_place.left left left_now both.value both.left_past (i.left_within reads h);
-      right_within = λ reads h. past_within g.I.Items g.R.Inlet reads c.args.right.now c.loop-left_place.right right right_now both.value both.right_past (i.right_within reads h);
+      right_within = λ reads h. past_within g.J.Items g.R.Inlet reads c.args.right.now c.loop-left_place.right right right_now both.value both.right_past (i.right_within reads h);
+      left_asked = let asked = i.left_asked in omega (arith, asked, past_reads g.I.Items left left_now both.value both.left_past);
+      right_asked = let asked = i.right_asked in omega (arith, asked, past_reads g.J.Items right right_now both.value both.right_past);
       bound = omega (arith, bound, left_less, right_less, count);
       open_still = inl (past_open g.I.Items left left_now both.value both.left_past);
       stood = λ left_catalog right_catalog left_limits right_limits a b.
@@ -78,9 +82,9 @@ loop-left_place-preserved-then-go_alike g c =
             w.0 ++ both.value ∷ [],
             w.1 ++ both.value ∷ [],
             past_stood g.I.Items g.L.Inlet _ _ c.args.left.now c.loop-left_place.left left left_now both.value w.0 both.left_past w.2,
-            past_stood g.I.Items g.R.Inlet _ _ c.args.right.now c.loop-left_place.right right right_now both.value w.1 both.right_past w.3,
+            past_stood g.J.Items g.R.Inlet _ _ c.args.right.now c.loop-left_place.right right right_now both.value w.1 both.right_past w.3,
             meets_more c.loop-left_place.course c.go_alike.new.course left left_now right right_now w.0 w.1 (Some both.value) (Some both.value) both.met w.4
-                (past_closed g.I.Items left left_now both.value _ both.left_past) (past_closed g.I.Items right right_now both.value _ both.right_past) (λ none. absurd cc) (λ none. absurd cc),
+                (past_closed g.I.Items left left_now both.value _ both.left_past) (past_closed g.J.Items right right_now both.value _ both.right_past) (λ none. absurd cc) (λ none. absurd cc),
           );
     }
 
@@ -92,9 +96,11 @@ loop-left_place-preserved g c =
     let l = c.in_ok-left_value.ensures in
     let r = c.in-Ok.ensures in
     let bound = i.bound in
-    let less = works_less g.I.Items g.I.Items c.go_alike.new.left c.advance.new.self c.go_alike.new.right c.advance-in-loop-left_place.new.self _ _ open_still l.less l.closed r.less r.closed in
+    let less = works_less g.I.Items g.J.Items c.go_alike.new.left c.advance.new.self c.go_alike.new.right c.advance-in-loop-left_place.new.self _ _ open_still l.less l.closed r.less r.closed in
     let left_work = ap (λ (x : Standing _). work_of g.I.Items x) stays.1 in
-    let right_work = ap (λ (x : Standing _). work_of g.I.Items x) stays.2 in
+    let right_work = ap (λ (x : Standing _). work_of g.J.Items x) stays.2 in
+    let left_reads = ap (λ (x : Standing _). reads_of x) stays.1 in
+    let right_reads = ap (λ (x : Standing _). reads_of x) stays.2 in
     let counted = ap count_of stays.0 in
     let count = count_met c.go_alike.new.course c.meet-met.new.self c.in_ok-left_value.left_value c.in-Ok.value c.in_ok-met.ensures in
     record {
@@ -106,6 +112,8 @@ loop-left_place-preserved g c =
       right_within = λ reads h.
           let within : IfOpen c.go_alike.new.right (IsWithin g.R.Inlet reads c.args.right.now c.loop-left_place.right) = rw stays.2 (i.right_within reads h) in
           r.within c.args.right.now reads within;
+      left_asked = let asked = i.left_asked in omega (arith, asked, l.fewer_calls, left_reads);
+      right_asked = let asked = i.right_asked in omega (arith, asked, r.fewer_calls, right_reads);
       bound = omega (arith, bound, less, count, left_work, right_work, counted);
       open_still = elim c.else-not-is_open.branch [
         | else-not-is_open-via-then-not-is_open+else-not-is_open-2 w ↦ inr (true_case w.is_open-then-not-is_open.result _ _ w.is_open-then-not-is_open.ensures (search rules))
@@ -114,7 +122,7 @@ loop-left_place-preserved g c =
       stood = λ left_catalog right_catalog left_limits right_limits a b.
           let w = i.stood left_catalog right_catalog left_limits right_limits a b in
           let left_stood : Stood g.L.Inlet g.I.Items left_catalog left_limits c.args.left.now c.loop-left_place.left c.go_alike.new.left w.0 = rw stays.1 w.2 in
-          let right_stood : Stood g.R.Inlet g.I.Items right_catalog right_limits c.args.right.now c.loop-left_place.right c.go_alike.new.right w.1 = rw stays.2 w.3 in
+          let right_stood : Stood g.R.Inlet g.J.Items right_catalog right_limits c.args.right.now c.loop-left_place.right c.go_alike.new.right w.1 = rw stays.2 w.3 in
           let meets : Meets c.go_alike.new.course c.go_alike.new.left c.go_alike.new.right w.0 w.1 = rw (stays.0, stays.1, stays.2) w.4 in (
             w.0 ++ option_to_list c.in_ok-left_value.left_value,
             w.1 ++ option_to_list c.in-Ok.value,

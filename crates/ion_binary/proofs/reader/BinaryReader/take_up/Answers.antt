@@ -1,7 +1,7 @@
 use Rattle.std.proofs.Common.{◌≡◌, ℕ, ◌+◌, ◌++◌, ◌∙◌, [], length, take, Ok, Err, ap, sym, subst, arith}
 use Rattle.std.proofs.lemmas.List.{length-take-le}
 use Rattle.std.proofs.lemmas.Result.{err_from_is_err_and}
-use Rattle.ion_binary.specs.machine.Judge.{judge}
+use Rattle.ion_binary.specs.Judge.{judge}
 use Rattle.ion_binary.specs.machine.EachOctet.{moved, judged}
 use Rattle.ion_binary.specs.machine.Run.{run}
 use Rattle.ion_binary.specs.machine.Pieces.{after}

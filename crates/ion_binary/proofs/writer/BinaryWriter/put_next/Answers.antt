@@ -1,7 +1,12 @@
 use Rattle.std.proofs.Common.{rules, ◌≡◌, ◌++◌}
-use Rattle.ion_binary.specs.Output.{opening, names_after, table_octets, value_octets}
+use Rattle.ion_symtab.specs.laws.Took.{Front-none}
+use Rattle.ion_binary.specs.Output.{opening, adds, names_after, table_octets, value_octets}
 use Rattle.ion_binary.proofs.Fronts.{on_err, front_first, front_later}
 use Rattle.ion_binary.proofs.writer.BinaryWriter.put_next.Goals as goal
+
+pub returns-in_err-put_value-clause-front : goal.returns-in_err-put_value-clause-front
+returns-in_err-put_value-clause-front g c =
+    on_err c.from_residual.result (Front-none g.W.Outlet.took g.W.Outlet.written c.args.out.now (adds c.args.self.now.progress c.args.value.now))
 
 pub returns-in_err-write_whole-clause-front : goal.returns-in_err-write_whole-clause-front
 returns-in_err-write_whole-clause-front g c =

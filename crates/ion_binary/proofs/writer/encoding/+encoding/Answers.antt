@@ -12,7 +12,7 @@ use Rattle.std.proofs.lemmas.Result.{on_ok_weaker}
 use Rattle.ion_binary.proofs.writer.encoding.+encoding.Goals as goal
 
 pub put_items-loop-item-preserved : goal.put_items-loop-item-preserved
-put_items-loop-item-preserved t c =
+put_items-loop-item-preserved g t c =
     let i = c.loop-item.invariant in
     let on = c.in_ok-put_value.ensures in
     let v = c.item-item.result in
@@ -27,12 +27,12 @@ put_items-loop-item-preserved t c =
     }
 
 pub put_items-returns-in_err-put_value-clause-cause : goal.put_items-returns-in_err-put_value-clause-cause
-put_items-returns-in_err-put_value-clause-cause t c =
+put_items-returns-in_err-put_value-clause-cause g t c =
     let whole = fault_at symbols_of c.loop-item.names c.args.names.now c.args.items.now c.loop-item.item-index c.item-item.result c.in_err-put_value.field-0.0 c.loop-item-test.true c.item-item.is c.loop-item.invariant.names c.in_err-put_value.ensures.cause in
     search rules
 
 pub put_fields-loop-field-preserved : goal.put_fields-loop-field-preserved
-put_fields-loop-field-preserved t c =
+put_fields-loop-field-preserved g t c =
     let i = c.loop-field.invariant in
     let field = c.field-item.result in
     let old = c.loop-field.out.items in
@@ -53,58 +53,58 @@ put_fields-loop-field-preserved t c =
     }
 
 pub put_fields-returns-in_err-id-clause-cause : goal.put_fields-returns-in_err-id-clause-cause
-put_fields-returns-in_err-id-clause-cause t c =
+put_fields-returns-in_err-id-clause-cause g t c =
     let whole = fault_at field_symbols c.loop-field.names c.args.names.now c.args.fields.now c.loop-field.field-index c.field-item.result c.in_err-id.field-0.0 c.loop-field-test.true c.field-item.is c.loop-field.invariant.names
     (fault_more _ (symbols_of c.field-item.result.value) _ _ refl c.in_err-id.ensures.cause) in
     search rules
 
 pub put_fields-returns-in_err-put_value-clause-cause : goal.put_fields-returns-in_err-put_value-clause-cause
-put_fields-returns-in_err-put_value-clause-cause t c =
+put_fields-returns-in_err-put_value-clause-cause g t c =
     let fault = rw c.in_ok-id.ensures.ok at c.in_err-put_value.ensures.cause in
     let whole = fault_at field_symbols c.loop-field.names c.args.names.now c.args.fields.now c.loop-field.field-index c.field-item.result c.in_err-put_value.field-0.0 c.loop-field-test.true c.field-item.is c.loop-field.invariant.names fault in
     search rules
 
 pub put_items-returns-clause-kept : goal.put_items-returns-clause-kept
-put_items-returns-clause-kept t c = all_items c.args.items.now c.loop-item.item-index c.loop-item-test.false c.loop-item.invariant.kept
+put_items-returns-clause-kept g t c = all_items c.args.items.now c.loop-item.item-index c.loop-item-test.false c.loop-item.invariant.kept
 
 pub put_fields-returns-clause-kept : goal.put_fields-returns-clause-kept
-put_fields-returns-clause-kept t c = all_fields c.args.fields.now c.loop-field.field-index c.loop-field-test.false c.loop-field.invariant.kept
+put_fields-returns-clause-kept g t c = all_fields c.args.fields.now c.loop-field.field-index c.loop-field-test.false c.loop-field.invariant.kept
 
 pub put_value-returns-then-is_empty-clause-ok : goal.put_value-returns-then-is_empty-clause-ok
-put_value-returns-then-is_empty-clause-ok t c =
+put_value-returns-then-is_empty-clause-ok g t c =
     let none : length c.args.value.now.annotations ≡ 0 = grind (arith, c.as_slice-annotations.ensures, c.is_empty.ensures, c.if-is_empty.true) in
     octets_bare_later c.put_payload.result c.put_payload.new.names c.args.value.now c.args.out.now.items c.put_payload.new.out.items none c.put_payload.ensures.ok
 
 pub put_value-returns-then-is_empty-clause-after : goal.put_value-returns-then-is_empty-clause-after
-put_value-returns-then-is_empty-clause-after t c =
+put_value-returns-then-is_empty-clause-after g t c =
     let none : length c.args.value.now.annotations ≡ 0 = grind (arith, c.as_slice-annotations.ensures, c.is_empty.ensures, c.if-is_empty.true) in
     rw (of_bare c.args.names.now c.args.value.now none) at c.put_payload.ensures.after
 
 pub put_value-returns-then-is_empty-clause-kept : goal.put_value-returns-then-is_empty-clause-kept
-put_value-returns-then-is_empty-clause-kept t c =
+put_value-returns-then-is_empty-clause-kept g t c =
     let none : length c.args.value.now.annotations ≡ 0 = grind (arith, c.as_slice-annotations.ensures, c.is_empty.ensures, c.if-is_empty.true) in
     on_ok_weaker c.put_payload.result (value_kept c.args.value.now (no_texts c.args.value.now.annotations none)) c.put_payload.ensures.kept
 
 pub put_value-returns-then-is_empty-clause-cause : goal.put_value-returns-then-is_empty-clause-cause
-put_value-returns-then-is_empty-clause-cause t c =
+put_value-returns-then-is_empty-clause-cause g t c =
     let none : length c.args.value.now.annotations ≡ 0 = grind (arith, c.as_slice-annotations.ensures, c.is_empty.ensures, c.if-is_empty.true) in
     rw (of_bare c.args.names.now c.args.value.now none) at c.put_payload.ensures.cause
 
 pub put_value-returns-in_err-put_annotations-clause-cause : goal.put_value-returns-in_err-put_annotations-clause-cause
-put_value-returns-in_err-put_annotations-clause-cause t c =
+put_value-returns-in_err-put_annotations-clause-cause g t c =
     let fault = rw c.as_slice-annotations.ensures at c.in_err-put_annotations.ensures.cause in
     let whole = fault_more _ (layer_symbols (out-Payload c.args.value.now.payload)) _ _ (of_value c.args.names.now c.args.value.now) fault in
     search rules
 
 pub put_value-returns-in_err-put_payload-clause-cause : goal.put_value-returns-in_err-put_payload-clause-cause
-put_value-returns-in_err-put_payload-clause-cause t c =
+put_value-returns-in_err-put_payload-clause-cause g t c =
     let front = c.in_ok-put_annotations.ensures.after ∙ ap (with_names c.args.names.now) c.as_slice-annotations.ensures in
     let whole = ap (λ (n : Names). with_names n (layer_symbols (out-Payload c.args.value.now.payload))) front ∙ of_value c.args.names.now c.args.value.now in
     let fault = rw whole at c.in_err-put_payload.ensures.cause in
     search rules
 
 pub put_value-frame-requires-clause-place : goal.put_value-frame-requires-clause-place
-put_value-frame-requires-clause-place t c =
+put_value-frame-requires-clause-place g t c =
     let at : c.len-place.result + 1 ≤ length c.push.new.self.items = search rules in
     let annotated = c.in_ok-put_annotations.ensures.ok c.put_annotations.new.names (later_self c.put_annotations.new.names) in
     let whole = c.in_ok-put_payload.ensures.ok c.put_payload-2.new.names (later_self c.put_payload-2.new.names) in
@@ -113,7 +113,7 @@ put_value-frame-requires-clause-place t c =
     omega (arith, all)
 
 pub put_value-returns-clause-ok : goal.put_value-returns-clause-ok
-put_value-returns-clause-ok t c = λ later h.
+put_value-returns-clause-ok g t c = λ later h.
     let old = c.args.out.now.items in
     let value = c.args.value.now in
     let ids = counted (ids_octets later value.annotations) in
@@ -127,11 +127,11 @@ put_value-returns-clause-ok t c = λ later h.
     rw (octets_wrapped later value some) (framed_at 14 c.len-place.result old (ids ++ rest) c.put_payload-2.new.out.items c.frame.new.out.items place body c.in_ok-frame.ensures.ok)
 
 pub put_value-returns-clause-after : goal.put_value-returns-clause-after
-put_value-returns-clause-after t c =
+put_value-returns-clause-after g t c =
     let front = c.in_ok-put_annotations.ensures.after ∙ ap (with_names c.args.names.now) c.as_slice-annotations.ensures in
     let whole = ap (λ (n : Names). with_names n (layer_symbols (out-Payload c.args.value.now.payload))) front ∙ of_value c.args.names.now c.args.value.now in
     c.in_ok-put_payload.ensures.after ∙ whole
 
 pub put_value-returns-clause-kept : goal.put_value-returns-clause-kept
-put_value-returns-clause-kept t c =
+put_value-returns-clause-kept g t c =
     value_kept c.args.value.now (subst AreTexts c.as_slice-annotations.ensures c.in_ok-put_annotations.ensures.kept) c.in_ok-put_payload.ensures.kept

@@ -8,13 +8,13 @@ use Rattle.ion_binary.proofs.Numbered.{fault_at_symbol, left_symbols}
 use Rattle.ion_binary.proofs.writer.encoding.put_annotations.Goals as goal
 
 pub returns-in_err-id-clause-cause : goal.returns-in_err-id-clause-cause
-returns-in_err-id-clause-cause c =
+returns-in_err-id-clause-cause g c =
     let i = c.loop-symbol.invariant in
     let whole = fault_at_symbol c.loop-symbol.names c.args.names.now c.args.annotations.now c.loop-symbol.symbol-index c.symbol-item.result c.in_err-id.field-0.0 c.loop-symbol-test.true c.symbol-item.is i.names c.in_err-id.ensures.cause in
     search rules
 
 pub loop-symbol-preserved : goal.loop-symbol-preserved
-loop-symbol-preserved c =
+loop-symbol-preserved g c =
     let i = c.loop-symbol.invariant in
     let s = c.symbol-item.result in
     let old = c.loop-symbol.out.items in

@@ -8,7 +8,7 @@ use Rattle.ion_binary.proofs.Tabled.{table_is}
 use Rattle.ion_binary.proofs.writer.table.put_table.Goals as goal
 
 pub returns-clause-ok : goal.returns-clause-ok
-returns-clause-ok c =
+returns-clause-ok g c =
     let names = c.args.names.now in
     let more = drop c.args.first names in
     let old = c.args.out.now.items in

@@ -57,9 +57,11 @@ loop-refusal-preserved g c =
     let f = c.in_ok-refill.ensures in
     let gives = rw c.in-Ok-None.field-0-is at t.gives in
     let less = i.less in
+    let asked = i.asked in
     record {
       ready = f.ready (search rules);
       less = omega (arith, less, t.pending, f.less (search rules));
+      asked = omega (arith, asked, t.reads, f.few_calls);
       within = λ first reads h. f.within (search rules) first reads (within_kept g.R.Inlet reads first c.loop-refusal.reader from mid t.reads (i.within first reads h));
       reads = λ catalog limits first given h.
           f.goes_on (search rules) catalog limits first given (reads_none g.R.Inlet g.I.Items catalog limits first c.loop-refusal.reader from mid given (i.reads catalog limits first given h) gives t.catalog t.limits);

@@ -4,7 +4,7 @@ use Rattle.ion_model.specs.declared.value.Value.{Value}
 use Rattle.ion_streams.specs.Formats.{format_of}
 use Rattle.ion_streams.specs.Outcomes.{ToldRefused}
 use Rattle.ion_streams.specs.reading.Read.{Reads}
-use Rattle.ion_streams.proofs.Steps.{refused_plain, reads_next, stood_last, closed_open, closed_work}
+use Rattle.ion_streams.proofs.Steps.{refused_plain, reads_next, stood_last, closed_open, closed_work, closed_reads}
 use Rattle.ion_streams.proofs.source.Standing.advance.Goals as goal
 
 pub returns-in_err-value-in-Open-clause-cause : goal.returns-in_err-value-in-Open-clause-cause
@@ -67,3 +67,31 @@ returns-in_ok-close-in-End-clause-less g c =
 
 pub returns-in_ok-close-in-End-clause-within : goal.returns-in_ok-close-in-End-clause-within
 returns-in_ok-close-in-End-clause-within g c = λ first reads h. closed_open c.close.new.self _ c.in_ok-close-in-End.ensures.closed
+
+-- the calls of read
+pub returns-in_err-value-in-Open-clause-few_calls : goal.returns-in_err-value-in-Open-clause-few_calls
+returns-in_err-value-in-Open-clause-few_calls g c = let few = c.in_err-value-in-Open.ensures.few_calls in rw c.in-Open.is (omega (arith, few))
+
+pub returns-in-Value-clause-fewer_calls : goal.returns-in-Value-clause-fewer_calls
+returns-in-Value-clause-fewer_calls g c = let few = c.in_ok-value-in-Open.ensures.few_calls in rw c.in-Open.is (omega (arith, few))
+
+pub returns-in-Value-clause-few_calls : goal.returns-in-Value-clause-few_calls
+returns-in-Value-clause-few_calls g c = let few = c.in_ok-value-in-Open.ensures.few_calls in rw c.in-Open.is (omega (arith, few))
+
+pub returns-in-Refused-2-clause-fewer_calls : goal.returns-in-Refused-2-clause-fewer_calls
+returns-in-Refused-2-clause-fewer_calls g c = let few = c.in_ok-value-in-Open.ensures.few_calls in rw c.in-Open.is (omega (arith, few))
+
+pub returns-in-Refused-2-clause-few_calls : goal.returns-in-Refused-2-clause-few_calls
+returns-in-Refused-2-clause-few_calls g c = let few = c.in_ok-value-in-Open.ensures.few_calls in rw c.in-Open.is (omega (arith, few))
+
+pub returns-in_err-close-in-End-clause-few_calls : goal.returns-in_err-close-in-End-clause-few_calls
+returns-in_err-close-in-End-clause-few_calls g c = let few = c.in_ok-value-in-Open.ensures.few_calls in rw c.in-Open.is (omega (arith, few))
+
+pub returns-in_ok-close-in-End-clause-fewer_calls : goal.returns-in_ok-close-in-End-clause-fewer_calls
+returns-in_ok-close-in-End-clause-fewer_calls g c =
+    let few = c.in_ok-value-in-Open.ensures.few_calls in
+    let none = closed_reads c.close.new.self c.in_ok-close-in-End.ensures.closed in
+    rw c.in-Open.is (omega (arith, few, none))
+
+pub returns-in_ok-close-in-End-clause-few_calls : goal.returns-in_ok-close-in-End-clause-few_calls
+returns-in_ok-close-in-End-clause-few_calls g c = let few = c.in_ok-value-in-Open.ensures.few_calls in rw c.in-Open.is (omega (arith, few))

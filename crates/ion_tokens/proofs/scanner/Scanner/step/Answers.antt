@@ -1,10 +1,10 @@
 use Rattle.std.proofs.Common.{length, refl, ◌≢◌, IfOk, IfErr}
-use Rattle.std.specs.Prelude.{Result, Ok, Err}
+use Rattle.std.specs.Prelude.{Result, Ok, Err, Bool}
 use Rattle.ion_atoms.specs.declared.refusal.Refusal.{Refusal}
 use Rattle.ion_atoms.specs.declared.refusal.Reason.TheVariants.{Memory}
 use Rattle.ion_tokens.specs.declared.token.Scan.{Scan}
 use Rattle.ion_tokens.specs.machine.Scanned.{Goes, RefusesAt}
-use Rattle.ion_tokens.specs.machine.Steps.{Answers}
+use Rattle.ion_tokens.specs.machine.Steps.{answered, stepped, Answers}
 use Rattle.ion_tokens.specs.machine.Scanning.{Known, run}
 use Rattle.ion_tokens.specs.machine.Views.{known}
 use Rattle.ion_tokens.proofs.Runs.{run_between}
@@ -18,25 +18,25 @@ use Rattle.ion_tokens.proofs.scanner.Scanner.step.Goals as goal
 pub returns-in_default-result-clause-used : goal.returns-in_default-result-clause-used
 returns-in_default-result-clause-used c =
     let s = known c.args.self.now.machine in
-    used_within (run c.args.place c.args.piece.now s) c.scan-result.result s.used (length c.args.piece.now) (known c.scan-result.new.self)
+    used_within (run c.args.place c.args.piece.now s) c.scan-result.result c.scan-result.new.self.left s.used (length c.args.piece.now) (known c.scan-result.new.self)
     (run_between c.args.place c.args.piece.now s) c.scan-result.ensures.answers
 
 pub returns-in_default-result-clause-all : goal.returns-in_default-result-clause-all
 returns-in_default-result-clause-all c =
     let s = known c.args.self.now.machine in
-    used_whole (run c.args.place c.args.piece.now s) c.scan-result.result s.used (length c.args.piece.now) (known c.scan-result.new.self)
+    used_whole (run c.args.place c.args.piece.now s) c.scan-result.result c.scan-result.new.self.left s.used (length c.args.piece.now) (known c.scan-result.new.self)
     (run_between c.args.place c.args.piece.now s) c.scan-result.ensures.answers
 
 pub returns-in_default-result-clause-reasons : goal.returns-in_default-result-clause-reasons
 returns-in_default-result-clause-reasons c =
     let s = known c.args.self.now.machine in
-    λ _. answer_reason (run c.args.place c.args.piece.now s) c.scan-result.result s.used (known c.scan-result.new.self)
+    λ _. answer_reason (run c.args.place c.args.piece.now s) c.scan-result.result c.scan-result.new.self.left s.used (known c.scan-result.new.self)
     (run_fair c.args.place c.args.piece.now s) c.scan-result.ensures.answers
 
 pub returns-in-Err-clause-reasons : goal.returns-in-Err-clause-reasons
 returns-in-Err-clause-reasons c =
     let s = known c.args.self.now.machine in
-    λ _. answer_reason (run c.args.place c.args.piece.now s) c.scan-result.result s.used (known c.scan-result.new.self)
+    λ _. answer_reason (run c.args.place c.args.piece.now s) c.scan-result.result c.scan-result.new.self.left s.used (known c.scan-result.new.self)
     (run_fair c.args.place c.args.piece.now s) c.scan-result.ensures.answers
 
 pub returns-in_default-result-clause-goes : goal.returns-in_default-result-clause-goes
@@ -44,11 +44,14 @@ returns-in_default-result-clause-goes c = λ none. by c.scan-result.result c.sca
   s : Known
   s = known c.args.self.now.machine
 
+  left : Bool
+  left = c.scan-result.new.self.left
+
   now : Known
   now = known c.scan-result.new.self
 
-  by : (r : Result Scan Refusal) → Answers s.used (run c.args.place c.args.piece.now s) r now → IfOk r (λ scan. Goes c.args.place s c.args.piece.now scan now)
-  by (Ok scan) a = λ u ts ahead h goes. step_goes c.args.place s u ts ahead h c.args.piece.now _ scan now goes refl a
+  by : (r : Result Scan Refusal) → Answers s.used (run c.args.place c.args.piece.now s) (answered r left) now → IfOk r (λ scan. Goes c.args.place s c.args.piece.now (stepped scan left) now)
+  by (Ok scan) a = λ u ts ahead h goes. step_goes c.args.place s u ts ahead h c.args.piece.now _ (stepped scan left) now goes refl a
   by (Err r) a = tt
 
 pub returns-in-Err-clause-refuses : goal.returns-in-Err-clause-refuses
@@ -56,7 +59,10 @@ returns-in-Err-clause-refuses c = λ none. by c.scan-result.result c.scan-result
   s : Known
   s = known c.args.self.now.machine
 
-  by : (r : Result Scan Refusal) → Answers s.used (run c.args.place c.args.piece.now s) r (known c.scan-result.new.self)
+  left : Bool
+  left = c.scan-result.new.self.left
+
+  by : (r : Result Scan Refusal) → Answers s.used (run c.args.place c.args.piece.now s) (answered r left) (known c.scan-result.new.self)
       → IfErr r (λ refusal. refusal.reason ≢ Memory → RefusesAt c.args.place s c.args.piece.now refusal.offset)
   by (Ok scan) a = tt
   by (Err r) a = λ other u ts ahead h goes. step_refuses c.args.place s u ts ahead h c.args.piece.now _ r (known c.scan-result.new.self) other goes refl a
@@ -64,7 +70,7 @@ returns-in-Err-clause-refuses c = λ none. by c.scan-result.result c.scan-result
 pub returns-in-Err-clause-within : goal.returns-in-Err-clause-within
 returns-in-Err-clause-within c =
     let s = known c.args.self.now.machine in
-    λ none. refused_within (run c.args.place c.args.piece.now s) c.scan-result.result s.used (length c.args.piece.now) (known c.scan-result.new.self)
+    λ none. refused_within (run c.args.place c.args.piece.now s) c.scan-result.result c.scan-result.new.self.left s.used (length c.args.piece.now) (known c.scan-result.new.self)
     (run_between c.args.place c.args.piece.now s) c.scan-result.ensures.answers
 
 pub returns-in_default-result-clause-traced : goal.returns-in_default-result-clause-traced
@@ -72,11 +78,14 @@ returns-in_default-result-clause-traced c = λ none. by c.scan-result.result c.s
   s : Known
   s = known c.args.self.now.machine
 
+  left : Bool
+  left = c.scan-result.new.self.left
+
   now : Known
   now = known c.scan-result.new.self
 
-  by : (r : Result Scan Refusal) → Answers s.used (run c.args.place c.args.piece.now s) r now → AnswersTrace c.args.place s c.args.piece.now r now
-  by (Ok scan) a = step_traced c.args.place s c.args.piece.now _ scan now refl a
+  by : (r : Result Scan Refusal) → Answers s.used (run c.args.place c.args.piece.now s) (answered r left) now → AnswersTrace c.args.place s c.args.piece.now (answered r left) now
+  by (Ok scan) a = step_traced c.args.place s c.args.piece.now _ (stepped scan left) now refl a
   by (Err r) a = step_stops c.args.place s c.args.piece.now _ r now refl a
 
 pub returns-in-Err-clause-traced : goal.returns-in-Err-clause-traced
@@ -84,9 +93,12 @@ returns-in-Err-clause-traced c = λ none. by c.scan-result.result c.scan-result.
   s : Known
   s = known c.args.self.now.machine
 
+  left : Bool
+  left = c.scan-result.new.self.left
+
   now : Known
   now = known c.scan-result.new.self
 
-  by : (r : Result Scan Refusal) → Answers s.used (run c.args.place c.args.piece.now s) r now → AnswersTrace c.args.place s c.args.piece.now r now
-  by (Ok scan) a = step_traced c.args.place s c.args.piece.now _ scan now refl a
+  by : (r : Result Scan Refusal) → Answers s.used (run c.args.place c.args.piece.now s) (answered r left) now → AnswersTrace c.args.place s c.args.piece.now (answered r left) now
+  by (Ok scan) a = step_traced c.args.place s c.args.piece.now _ (stepped scan left) now refl a
   by (Err r) a = step_stops c.args.place s c.args.piece.now _ r now refl a

@@ -1,0 +1,655 @@
+-- Each row of the format's table: where the last octet decides, the machine refuses it, for this reason or one with a smaller number.
+use Rattle.std.proofs.Common.{◌≡◌, ◌≢◌, ◌⊎◌, inl, inr, ℕ, suc, ◌+◌, ◌-◌, ◌*◌, ◌/◌, ◌%◌, ◌^◌, ◌<◌, ◌≤◌, ◌||◌, ◌&&◌, ◌==◌, nat_lt, nat_le, ltb-true, ltb-false, le-ltb, lt-ltb, ne_eqb, List, [], ◌∷◌, ◌++◌, length, Result, Ok, Err, Option, Some, None, Bool, true, false, cond, refl, ap, sym, ◌∙◌, subst, arith, length-append, append-nil, append_assoc, eq-eqb, leb-true, eqb-true, slice_get}
+use Rattle.std.specs.Str.{is_utf8}
+use Rattle.std.proofs.lemmas.Str.{is_utf8-from_IsUtf8, IsUtf8-nil}
+use Rattle.std.proofs.lemmas.Bool.{cond-true, cond-false, lt-leb, le-leb}
+use Rattle.ion_model.specs.declared.value.Value.{Value}
+use Rattle.ion_model.specs.declared.value.Payload.{Payload}
+use Rattle.ion_model.specs.declared.value.Payload.TheVariants as payloads
+use Rattle.ion_model.specs.Measures.{depth, bare}
+use Rattle.ion_model.specs.Kinds.{is_table}
+use Rattle.ion_atoms.specs.declared.kind.Kind.{Kind}
+use Rattle.ion_atoms.specs.declared.refusal.Refusal.{Refusal}
+use Rattle.ion_atoms.specs.declared.refusal.Reason.{Reason}
+use Rattle.ion_atoms.specs.declared.refusal.Reason.TheVariants.{TooLarge, Malformed, Float, SymbolRange, ImportGap, Depth, ItemTooLong, Version, BadUtf8}
+use Rattle.ion_atoms.specs.Reasons.{reason_number}
+use Rattle.ion_scalar.specs.declared.descriptor.Size.{Size}
+use Rattle.ion_scalar.specs.declared.descriptor.Size.TheVariants.{Known, Follows}
+use Rattle.ion_scalar.specs.binary.Fields.{seven_bits}
+use Rattle.ion_symtab.specs.declared.limits.Limits.{Limits}
+use Rattle.ion_symtab.specs.declared.catalog.Catalog.{Catalog}
+use Rattle.ion_symtab.specs.Slots.{Slot, text, unknown, gap, resolve, symbol_at, system_slots}
+use Rattle.ion_symtab.specs.Next.{next}
+use Rattle.ion_binary.specs.declared.form.Scalar.{Scalar}
+use Rattle.ion_binary.specs.declared.form.Scalar.TheVariants as scalars
+use Rattle.ion_binary.specs.declared.form.Form.{Form}
+use Rattle.ion_binary.specs.declared.form.Form.TheVariants as forms
+use Rattle.ion_binary.specs.declared.form.Opening.{Opening}
+use Rattle.ion_binary.specs.declared.form.Opening.TheVariants.{Refused, Marker, Null, Truth, Sized}
+use Rattle.ion_binary.specs.declared.state.Frame.{Frame}
+use Rattle.ion_binary.specs.declared.state.Frame.TheVariants as frames
+use Rattle.ion_binary.specs.declared.state.Phase.{Phase}
+use Rattle.ion_binary.specs.declared.state.Phase.TheVariants.{InMarker, Ready, InNumber}
+use Rattle.ion_binary.specs.declared.state.Mark.TheVariants.{First, Second, Third, Fourth}
+use Rattle.ion_scalar.specs.binary.Descriptor.{descriptor_of, typed}
+use Rattle.ion_scalar.specs.declared.descriptor.Descriptor.{Descriptor}
+use Rattle.ion_scalar.specs.declared.descriptor.Descriptor.TheVariants as descriptors
+use Rattle.ion_scalar.specs.binary.Timestamp.{timestamp_of_body, read_offset}
+use Rattle.ion_scalar.specs.binary.Decimal.{decimal_of_body}
+use Rattle.ion_binary.specs.declared.state.Purpose.{Purpose}
+use Rattle.ion_binary.specs.declared.state.Purpose.TheVariants as purposes
+use Rattle.ion_binary.specs.Opening.{opening_of, opens, body_of, with_octets, is_pad, is_wrapper}
+use Rattle.ion_binary.specs.Grammar.{Pieces, Binary}
+use Rattle.ion_binary.specs.Judge.{judge}
+use Rattle.ion_binary.specs.machine.EachOctet as machine
+use Rattle.ion_binary.specs.machine.EachOctet.{Outcome, Spot, Machine, moved, in_body, open_struct, marks, goes, gives, refuses, under, anew, spot_at, at, initial, on_descriptor, deliver, turned, feed, unless, or_else, misfits, stray, unending, nameless, past, outside, unfit, hollow, begin, one_octet, judged, longer, sized, unsized, name_came, count_came, annotation_came, number_came, on_number}
+use Rattle.ion_binary.specs.machine.Run.{Run, run, run_on}
+use Rattle.ion_binary.specs.machine.Pieces.{run-append, then_run, after}
+use Rattle.ion_binary.specs.laws.reading.Complete.{Admits, binary_run, body_run, begin_scalar}
+use Rattle.ion_binary.specs.laws.reading.Documents.{pieces_run}
+use Rattle.ion_binary.specs.laws.reading.OpenRuns.{Match, nothing_open, items, names, named, noted, same_levels, Leads, open_run, phase_of, headed_run, takes_phase}
+use Rattle.ion_binary.specs.laws.reading.NumberRuns.{goes_with, purpose_of, InFrames, length_in, name_in, count_in, id_in, Stopped, Holds, stops_with, leads_holds, ready, HoldsIn, number_holds, Least, number_stops, header_stops}
+use Rattle.ion_binary.specs.Deciding as deciding
+use Rattle.ion_binary.specs.Deciding.{Container, Items, Names, Named, Noted, TakesValue, Open, Number, Length, Name, Count, Id, EndsNumber, EndsHeader, LastOctet, of_container, of_struct, of_wrapper, of_annotations, IsContainer, IsFront, Headed, Reaches, a_null, a_truth, a_body, Decides, no_marker, other_marker, other_version, no_descriptor, inner_marker, in_wrapper, too_large, past_container, wrapper_unfilled, no_fields, too_deep, too_long, header_too_long, no_annotations, annotations_past, number_past, no_length, no_count, no_value, no_name, no_annotation, bad_body, bad_empty_body, bad_table}
+
+-- what stands in the way of a form is `Malformed` but for the room at the top level and the id of a name
+
+malformed_only : (b : Bool) → (cond b (Some Malformed) None ≡ None) ⊎ (cond b (Some Malformed) None ≡ Some Malformed)
+malformed_only true = inr refl
+malformed_only false = inl refl
+
+hollow_only : (form : Form) (n : ℕ) → (hollow form n ≡ None) ⊎ (hollow form n ≡ Some Malformed)
+hollow_only (forms.Scalar scalars.NegativeInt) n = malformed_only (n == 0)
+hollow_only (forms.Scalar scalars.Timestamp) n = malformed_only (n == 0)
+hollow_only (forms.Scalar scalars.Int) n = inl refl
+hollow_only (forms.Scalar scalars.Decimal) n = inl refl
+hollow_only (forms.Scalar scalars.Symbol) n = inl refl
+hollow_only (forms.Scalar scalars.Str) n = inl refl
+hollow_only (forms.Scalar scalars.Clob) n = inl refl
+hollow_only (forms.Scalar scalars.Blob) n = inl refl
+hollow_only forms.OrderedStruct n = malformed_only (n == 0)
+hollow_only forms.Wrapper n = malformed_only (n == 0)
+hollow_only forms.Pad n = inl refl
+hollow_only (forms.Listing x) n = inl refl
+hollow_only forms.Struct n = inl refl
+
+stray_only : (fs : List Frame) (form : Form) → (stray fs form ≡ None) ⊎ (stray fs form ≡ Some Malformed)
+stray_only [] form = inl refl
+stray_only (frames.Items end x vs ∷ fs) form = inl refl
+stray_only (frames.Fields end ms ∷ fs) form = inl refl
+stray_only (frames.Named end ms r ∷ fs) form = inl refl
+stray_only (frames.Annotated end ss ∷ fs) form = malformed_only (is_pad form || is_wrapper form)
+
+-- ids have no other reasons
+resolve_only : (c : List Slot) (id : ℕ) (e : Reason) → resolve c id ≡ Err e → (e ≡ SymbolRange) ⊎ (e ≡ ImportGap)
+unfolding resolve
+resolve_only c id e h = by (id == 0) (slice_get c (id - 1)) h
+  where
+    reason : Result (Option (List ℕ)) Reason → Reason → Reason
+    reason (Err x) y = x
+    reason (Ok s) y = y
+
+    slot : (s : Option Slot) → symbol_at s ≡ Err e → (e ≡ SymbolRange) ⊎ (e ≡ ImportGap)
+    slot None k = inl (let q : Err SymbolRange ≡ Err e = k in cc)
+    slot (Some (text t)) k = absurd cc
+    slot (Some unknown) k = absurd cc
+    slot (Some gap) k = inr (let q : Err ImportGap ≡ Err e = k in cc)
+
+    by : (b : Bool) (s : Option Slot) → cond b (Ok None) (symbol_at s) ≡ Err e → (e ≡ SymbolRange) ⊎ (e ≡ ImportGap)
+    by true s k = absurd cc
+    by false s k = slot s k
+
+late_name : (e : Reason) → (e ≡ SymbolRange) ⊎ (e ≡ ImportGap) → (8 ≤ reason_number e) × (reason_number e ≤ 9)
+late_name e (inl h) = subst (λ (x : Reason). (8 ≤ reason_number x) × (reason_number x ≤ 9)) (sym h) (omega arith, omega arith)
+late_name e (inr h) = subst (λ (x : Reason). (8 ≤ reason_number x) × (reason_number x ≤ 9)) (sym h) (omega arith, omega arith)
+
+-- what a descriptor is refused for
+
+either : {A : Type 0} (P : A → Type 0) (b : Bool) (x y : A) → P x → P y → P (cond b x y)
+either P true x y p q = p
+either P false x y p q = q
+
+abbrev IsPlain : Reason → Type 0
+IsPlain e = (e ≡ Malformed) ⊎ (e ≡ Float)
+
+abbrev PlainOpening : Opening → Type 0
+PlainOpening (Refused e) = IsPlain e
+PlainOpening _ = Unit {0}
+
+abbrev PlainDescriptor : Result Descriptor Reason → Type 0
+PlainDescriptor (Err e) = IsPlain e
+PlainDescriptor (Ok d) = Unit {0}
+
+with_plain : (t : Scalar) (z : Size) → PlainOpening (with_octets t z)
+with_plain t (Known n) = either PlainOpening (n == 0) _ _ (inl refl) tt
+with_plain t Follows = tt
+
+body_plain : (code : ℕ) (z : Size) → PlainOpening (body_of code z)
+body_plain code z =
+    either PlainOpening (code == 2) _ _ tt (either PlainOpening (code == 3) _ _ (with_plain scalars.NegativeInt z) (either PlainOpening (code == 5) _ _ tt (either PlainOpening (code == 6) _ _ (with_plain scalars.Timestamp z)
+    (either PlainOpening (code == 7) _ _ tt (either PlainOpening (code == 8) _ _ tt (either PlainOpening (code == 9) _ _ tt (either PlainOpening (code == 10) _ _ tt (either PlainOpening (code == 11) _ _ tt (either PlainOpening (code == 12) _ _ tt
+    (either PlainOpening (code == 13) _ _ tt (either PlainOpening (code == 14) _ _ tt (inl refl))))))))))))
+
+opens_plain : (d : Result Descriptor Reason) → PlainDescriptor d → PlainOpening (opens d)
+opens_plain (Err e) h = h
+opens_plain (Ok descriptors.Marker) h = tt
+opens_plain (Ok (descriptors.Null k)) h = tt
+opens_plain (Ok (descriptors.Truth t)) h = tt
+opens_plain (Ok (descriptors.Pad z)) h = tt
+opens_plain (Ok descriptors.Ordered) h = tt
+opens_plain (Ok (descriptors.Body code z)) h = body_plain code z
+
+typed_plain : (t n : ℕ) → PlainDescriptor (typed t n)
+typed_plain t n =
+    let P : Result Descriptor Reason → Type 0 = λ d. PlainDescriptor d in
+    either P (t == 15) _ _ (inl refl)
+    (either P (t == 14) _ _
+    (either P (n == 0) _ _ tt (either P ((n == 1) || (n == 2) || (n == 15)) _ _ (inl refl) tt))
+    (either P (n == 15) _ _ tt
+    (either P (t == 0) _ _ tt
+    (either P (t == 1) _ _ (either P (n == 0) _ _ tt (either P (n == 1) _ _ tt (inl refl)))
+    (either P (t == 4) _ _ (either P ((n == 0) || (n == 4) || (n == 8)) _ _ (inr refl) (inl refl))
+    (either P (t == 13) _ _ (either P (n == 1) _ _ tt tt) tt))))))
+
+opening_plain : (b : ℕ) → PlainOpening (opening_of b)
+unfolding opening_of descriptor_of
+opening_plain b = opens_plain (descriptor_of b) (typed_plain (b / 16) (b % 16))
+
+plain_small : (e : Reason) → IsPlain e → reason_number e ≤ 5
+plain_small e (inl h) = subst (λ (x : Reason). reason_number x ≤ 5) (sym h) (omega arith)
+plain_small e (inr h) = subst (λ (x : Reason). reason_number x ≤ 5) (sym h) (omega arith)
+
+pad_is : (form : Form) → is_pad form ≡ true → form ≡ forms.Pad
+pad_is forms.Pad h = refl
+pad_is (forms.Scalar t) h = cc
+pad_is (forms.Listing x) h = cc
+pad_is forms.Struct h = cc
+pad_is forms.OrderedStruct h = cc
+pad_is forms.Wrapper h = cc
+
+hollow_some : (form : Form) (n : ℕ) → 0 < n → hollow form n ≡ None
+hollow_some (forms.Scalar scalars.NegativeInt) n h = cond-false _ _ _ (ne_eqb n 0 (λ e. omega arith))
+hollow_some (forms.Scalar scalars.Timestamp) n h = cond-false _ _ _ (ne_eqb n 0 (λ e. omega arith))
+hollow_some (forms.Scalar scalars.Int) n h = refl
+hollow_some (forms.Scalar scalars.Decimal) n h = refl
+hollow_some (forms.Scalar scalars.Symbol) n h = refl
+hollow_some (forms.Scalar scalars.Str) n h = refl
+hollow_some (forms.Scalar scalars.Clob) n h = refl
+hollow_some (forms.Scalar scalars.Blob) n h = refl
+hollow_some forms.OrderedStruct n h = cond-false _ _ _ (ne_eqb n 0 (λ e. omega arith))
+hollow_some forms.Wrapper n h = cond-false _ _ _ (ne_eqb n 0 (λ e. omega arith))
+hollow_some forms.Pad n h = refl
+hollow_some (forms.Listing x) n h = refl
+hollow_some forms.Struct n h = refl
+
+malformed_in : Result Payload Reason → Reason → Reason
+malformed_in (Err e) d = e
+malformed_in (Ok p) d = d
+
+-- no octets are no scalar only where the form asks for some
+empty_hollow : (c : List Slot) (t : Scalar) (e : Reason) → judge c t [] ≡ Err e → (hollow (forms.Scalar t) 0 ≡ Some Malformed) × (e ≡ Malformed)
+unfolding judge timestamp_of_body read_offset decimal_of_body resolve malformed_in
+empty_hollow c scalars.NegativeInt e h = (refl, ap (λ x. malformed_in x e) (sym h))
+empty_hollow c scalars.Timestamp e h = (refl, ap (λ x. malformed_in x e) (sym h))
+empty_hollow c scalars.Int e h = absurd cc
+empty_hollow c scalars.Decimal e h = absurd cc
+empty_hollow c scalars.Symbol e h = absurd cc
+empty_hollow c scalars.Str e h = let k = cond-true (is_utf8 []) (Ok (payloads.Str [])) (Err BadUtf8) (is_utf8-from_IsUtf8 [] IsUtf8-nil) in absurd cc
+empty_hollow c scalars.Clob e h = absurd cc
+empty_hollow c scalars.Blob e h = absurd cc
+
+module _ (g : Catalog) (l : Limits) where
+  stops_as : (u : List ℕ) (e : Reason) → (run g l 0 initial u).now ≡ Err (record { offset = length u; reason = e }) → Stopped g l u e
+  stops_as u e h = record { reason = e; now = h; least = omega arith }
+
+  module _ (c : List Slot) (start : ℕ) where
+    -- it is refused because of its form
+    sized_hollow : (used : ℕ) (fs : List Frame) (form : Form) (n : ℕ) → hollow form n ≡ Some Malformed → sized (under g l) (spot_at used start c) fs form n ≡ refuses Malformed
+    sized_hollow used fs form n h = ap (λ o. unless o (unless (unfit l.item start fs form (used + n)) (begin (under g l) (spot_at used start c) fs form n))) h
+
+    -- it is refused because of where it stands, or because of its form
+    sized_unfit : (used : ℕ) (fs : List Frame) (form : Form) (n : ℕ) (e f : Reason) → unfit l.item start fs form (used + n) ≡ Some e → reason_number e ≤ reason_number f → 4 ≤ reason_number f → Least g l c start f (sized (under g l) (spot_at used start c) fs form n)
+    sized_unfit used fs form n e f h small big = by (hollow_only form n)
+      where
+        by : (hollow form n ≡ None) ⊎ (hollow form n ≡ Some Malformed) → Least g l c start f (sized (under g l) (spot_at used start c) fs form n)
+        by (inr k) = (Malformed, sized_hollow used fs form n k, big)
+        by (inl k) = (e, ap (λ o. unless o (unless (unfit l.item start fs form (used + n)) (begin (under g l) (spot_at used start c) fs form n))) k ∙ ap (λ o. unless o (begin (under g l) (spot_at used start c) fs form n)) h, small)
+
+    unfit_malformed : (fs : List Frame) (form : Form) (to : ℕ) → misfits l.item start fs form to ≡ Some Malformed → unfit l.item start fs form to ≡ Some Malformed
+    unfit_malformed fs form to h = ap (λ o. or_else (stray fs form) (or_else o (nameless fs form))) h ∙ by (stray_only fs form)
+      where
+        by : (stray fs form ≡ None) ⊎ (stray fs form ≡ Some Malformed) → or_else (stray fs form) (Some Malformed) ≡ Some Malformed
+        by (inl k) = ap (λ o. or_else o (Some Malformed)) k
+        by (inr k) = ap (λ o. or_else o (Some Malformed)) k
+
+    -- past its container
+    past_misfits : (k : Container) (ks : List Container) (fs : List Frame) (form : Form) (to : ℕ) → Match c fs (k ∷ ks) → deciding.end_of k < to → misfits l.item start fs form to ≡ Some Malformed
+    past_misfits _ _ _ form to (items end x vs fs ks m) h = cond-false _ _ _ (lt-leb to end h)
+    past_misfits _ _ _ form to (names end ms fs ks m) h = cond-false _ _ _ (lt-leb to end h)
+    past_misfits _ _ _ form to (named end id ms fs ks m) h = cond-false _ _ _ (lt-leb to end h)
+    past_misfits _ _ _ form to (noted end ss fs ks m) h = cond-false _ _ _ (ne_eqb to end (λ e. omega arith))
+
+    unfilled_misfits : (end : ℕ) (ks : List Container) (fs : List Frame) (form : Form) (to : ℕ) → Match c fs (Noted end ∷ ks) → to < end → misfits l.item start fs form to ≡ Some Malformed
+    unfilled_misfits _ _ _ form to (noted end ss fs ks m) h = cond-false _ _ _ (ne_eqb to end (λ e. omega arith))
+
+    -- a value of one octet, or a header: where it can't reach so far
+    unfit_reaches : (ks : List Container) (pad : Bool) (to : ℕ) (u : List ℕ) (e : Reason) → Reaches g l c start ks pad to u → 4 ≤ reason_number e
+        → ((fs : List Frame) (form : Form) → is_pad form ≡ pad → Match c fs ks → unfit l.item start fs form to ≡ Some e) → Stopped g l u e
+    unfit_reaches ks _ _ _ e (a_null u b k o t i) big h =
+        let d = open_run g l c start ks u o in
+        stops_with g l c start d.fs Ready u b e e (subst (λ p. Holds g l c start d.fs p u) (ready g l c start ks t) (leads_holds g l c start ks u d))
+        (ap (on_descriptor (under g l) (spot_at (length u + 1) start c) d.fs) i ∙ ap (λ x. unless x (deliver (under g l) (spot_at (length u + 1) start c) d.fs (bare (payloads.Null k)))) (h d.fs forms.Struct refl d.match)) (omega arith)
+    unfit_reaches ks _ _ _ e (a_truth u b k o t i) big h =
+        let d = open_run g l c start ks u o in
+        stops_with g l c start d.fs Ready u b e e (subst (λ p. Holds g l c start d.fs p u) (ready g l c start ks t) (leads_holds g l c start ks u d))
+        (ap (on_descriptor (under g l) (spot_at (length u + 1) start c) d.fs) i ∙ ap (λ x. unless x (deliver (under g l) (spot_at (length u + 1) start c) d.fs (bare (payloads.Truth k)))) (h d.fs forms.Struct refl d.match)) (omega arith)
+    unfit_reaches ks _ _ _ e (a_body u form n o) big h = header_stops g l c start ks form n u e o (λ fs m. sized_unfit (length u) fs form n e e (h fs form refl m) (omega arith) big)
+
+    row_past_container : (k : Container) (ks : List Container) (pad : Bool) (to : ℕ) (u : List ℕ) → Reaches g l c start (k ∷ ks) pad to u → deciding.end_of k < to → Stopped g l u Malformed
+    row_past_container k ks pad to u o h = unfit_reaches (k ∷ ks) pad to u Malformed o (omega arith) (λ fs form i m. unfit_malformed fs form to (past_misfits k ks fs form to m h))
+
+    row_wrapper_unfilled : (end : ℕ) (ks : List Container) (pad : Bool) (to : ℕ) (u : List ℕ) → Reaches g l c start (Noted end ∷ ks) pad to u → to < end → Stopped g l u Malformed
+    row_wrapper_unfilled end ks pad to u o h = unfit_reaches (Noted end ∷ ks) pad to u Malformed o (omega arith) (λ fs form i m. unfit_malformed fs form to (unfilled_misfits end ks fs form to m h))
+
+    top_unfit : (fs : List Frame) (form : Form) (to : ℕ) → is_pad form ≡ false → Match c fs [] → start + l.item < to → unfit l.item start fs form to ≡ Some ItemTooLong
+    top_unfit _ form to i nothing_open h = ap (λ o. or_else o None) (cond-false _ _ _ (ap (λ b. b || nat_le to (start + l.item)) i ∙ lt-leb to (start + l.item) h))
+
+    row_too_long : (to : ℕ) (u : List ℕ) → Reaches g l c start [] false to u → start + l.item < to → Stopped g l u ItemTooLong
+    row_too_long to u o h = unfit_reaches [] false to u ItemTooLong o (omega arith) (λ fs form i m. top_unfit fs form to i m h)
+
+    row_no_fields : (ks : List Container) (u : List ℕ) → EndsHeader g l c start ks forms.OrderedStruct 0 u → Stopped g l u Malformed
+    row_no_fields ks u o = header_stops g l c start ks forms.OrderedStruct 0 u Malformed o (λ fs m. (Malformed, sized_hollow (length u) fs forms.OrderedStruct 0 refl, omega arith))
+
+    row_no_count : (ks : List Container) (u : List ℕ) → EndsHeader g l c start ks forms.Wrapper 0 u → Stopped g l u Malformed
+    row_no_count ks u o = header_stops g l c start ks forms.Wrapper 0 u Malformed o (λ fs m. (Malformed, sized_hollow (length u) fs forms.Wrapper 0 refl, omega arith))
+
+    row_no_annotations : (end : ℕ) (ks : List Container) (u : List ℕ) → EndsNumber g l c start ks (Count end) 0 u → Stopped g l u Malformed
+    row_no_annotations end ks u o = number_stops g l c start ks (Count end) 0 u Malformed o (λ fs i. (Malformed, none ks end fs i, omega arith))
+      where
+        none : (ks : List Container) (end : ℕ) (fs : List Frame) → InFrames c ks (Count end) fs → count_came (spot_at (length u) start c) fs 0 ≡ refuses Malformed
+        none _ _ _ (count_in ks end fs m) = refl
+
+    row_annotations_past : (end n : ℕ) (ks : List Container) (u : List ℕ) → EndsNumber g l c start ks (Count end) n u → end ≤ length u + n → Stopped g l u Malformed
+    row_annotations_past end n ks u o h = number_stops g l c start ks (Count end) n u Malformed o (λ fs i. (Malformed, past' ks end fs i h, omega arith))
+      where
+        past' : (ks : List Container) (end : ℕ) (fs : List Frame) → InFrames c ks (Count end) fs → end ≤ length u + n → count_came (spot_at (length u) start c) fs n ≡ refuses Malformed
+        past' _ _ _ (count_in ks end fs m) h = by (n == 0)
+          where
+            by : (b : Bool) → cond b (refuses Malformed) (cond (nat_lt (length u + n) end) (goes (at (spot_at (length u) start c) (frames.Annotated end [] ∷ fs) (InNumber (purposes.Annotation (length u + n)) 0))) (refuses Malformed)) ≡ refuses Malformed
+            by true = refl
+            by false = cond-false _ _ _ (le-ltb (length u + n) end h)
+
+    row_no_value : (end id : ℕ) (ks : List Container) (u : List ℕ) → EndsNumber g l c start (Names end ∷ ks) Name id u → end ≤ length u → Stopped g l u Malformed
+    row_no_value end id ks u o h = number_stops g l c start (Names end ∷ ks) Name id u Malformed o (λ fs i. (Malformed, late (Names end ∷ ks) end ks fs refl i h, omega arith))
+      where
+        late : (js : List Container) (end : ℕ) (ks : List Container) (fs : List Frame) → js ≡ Names end ∷ ks → InFrames c js Name fs → end ≤ length u → name_came (spot_at (length u) start c) fs id ≡ refuses Malformed
+        late _ end' _ _ e (name_in end ks fs (names _ ms hs _ m)) h = let q : end ≡ end' = cc in cond-false _ _ _ (le-ltb (length u) end (omega arith))
+
+    row_no_annotation : (stop id : ℕ) (ks : List Container) (u : List ℕ) (e : Reason) → EndsNumber g l c start ks (Id stop) id u → resolve c id ≡ Err e → Stopped g l u e
+    row_no_annotation stop id ks u e o h = number_stops g l c start ks (Id stop) id u e o (λ fs i. (e, bad ks stop fs i, omega arith))
+      where
+        bad : (ks : List Container) (stop : ℕ) (fs : List Frame) → InFrames c ks (Id stop) fs → annotation_came (spot_at (length u) start c) fs stop (resolve c id) ≡ refuses e
+        bad _ _ _ (id_in ks end stop ss fs m) = ap (annotation_came (spot_at (length u) start c) (frames.Annotated end ss ∷ fs) stop) h
+
+    -- numbers that go on
+
+    reached : (used : ℕ) (fs : List Frame) (p : Purpose) (a b : ℕ) → 2 ^ 63 ≤ 128 * a + seven_bits b → on_number (under g l) (spot_at used start c) fs p a b ≡ refuses TooLarge
+    reached used fs p a b h = go (nat_lt b 128) refl
+      where
+        go : (x : Bool) → nat_lt b 128 ≡ x → on_number (under g l) (spot_at used start c) fs p a b ≡ refuses TooLarge
+        go true i =
+            let j = ltb-true b 128 i in
+            let k : seven_bits b ≡ b = cond-false _ _ _ (lt-leb 128 b j) in
+            cond-true _ _ _ i ∙ cond-false _ _ _ (le-ltb (128 * a + b) (2 ^ 63) (omega arith))
+        go false i =
+            let j = ltb-false b 128 i in
+            let k : seven_bits b ≡ b - 128 = cond-true _ _ _ (le-leb 128 b j) in
+            cond-false _ _ _ i ∙ cond-false _ _ _ (le-ltb (128 * a + (b - 128)) (2 ^ 63) (omega arith))
+
+    row_too_large : (ks : List Container) (p : Number) (a : ℕ) (u : List ℕ) (b : ℕ) → deciding.InNumber g l c start ks p a u → 2 ^ 63 ≤ 128 * a + seven_bits b → Stopped g l (u ++ b ∷ []) TooLarge
+    row_too_large ks p a u b o h =
+        let i = number_holds g l c start ks p a u o in
+        stops_with g l c start i.fs (InNumber (purpose_of p) a) u b TooLarge TooLarge i.holds (reached (length u + 1) i.fs (purpose_of p) a b h) (omega arith)
+
+    -- it may not go on, or it is too large
+    past_stops : (ks : List Container) (p : Number) (a : ℕ) (u : List ℕ) (b : ℕ) (e : Reason) → deciding.InNumber g l c start ks p a u → b < 128 → 4 ≤ reason_number e
+        → ((fs : List Frame) → InFrames c ks p fs → past l.item start fs (purpose_of p) (length u + 1) ≡ Some e) → Stopped g l (u ++ b ∷ []) e
+    past_stops ks p a u b e o small big h = go (nat_lt (128 * a + b) (2 ^ 63)) refl
+      where
+        i : HoldsIn g l c start ks p a u
+        i = number_holds g l c start ks p a u o
+
+        go : (x : Bool) → nat_lt (128 * a + b) (2 ^ 63) ≡ x → Stopped g l (u ++ b ∷ []) e
+        go true k = stops_with g l c start i.fs (InNumber (purpose_of p) a) u b e e i.holds
+            (cond-true _ _ _ (lt-ltb b 128 small) ∙ (cond-true _ _ _ k ∙ ap (λ x. unless x (goes (at (spot_at (length u + 1) start c) i.fs (InNumber (purpose_of p) (128 * a + b))))) (h i.fs i.inside))) (omega arith)
+        go false k = stops_with g l c start i.fs (InNumber (purpose_of p) a) u b TooLarge e i.holds (cond-true _ _ _ (lt-ltb b 128 small) ∙ cond-false _ _ _ k) (omega arith)
+
+    last_past : (ks : List Container) (p : Number) (fs : List Frame) (used last : ℕ) → InFrames c ks p fs → LastOctet g l c start ks p last → last ≤ used → past l.item start fs (purpose_of p) used ≡ Some Malformed
+    last_past _ _ _ used last (length_in _ form _ nothing_open) r h = absurd (none_last form last r)
+      where
+        none_last : (form : Form) (last : ℕ) → LastOctet g l c start [] (Length form) last → ⊥
+        none_last form last r = by [] (Length form) last refl refl r
+          where
+            by : (ks : List Container) (p : Number) (last : ℕ) → ks ≡ [] → p ≡ Length form → LastOctet g l c start ks p last → ⊥
+            by _ _ _ e q (of_container k ks form) = cc
+            by _ _ _ e q (of_struct end ks) = cc
+            by _ _ _ e q (of_wrapper ks end) = cc
+            by _ _ _ e q (of_annotations ks stop) = cc
+    last_past _ _ _ used last (length_in _ form _ (items end x vs fs ks m)) (of_container _ _ _) h = cond-false _ _ _ (le-ltb used end h)
+    last_past _ _ _ used last (length_in _ form _ (names end ms fs ks m)) (of_container _ _ _) h = cond-false _ _ _ (le-ltb used end h)
+    last_past _ _ _ used last (length_in _ form _ (named end id ms fs ks m)) (of_container _ _ _) h = cond-false _ _ _ (le-ltb used end h)
+    last_past _ _ _ used last (length_in _ form _ (noted end ss fs ks m)) (of_container _ _ _) h = cond-false _ _ _ (le-ltb used end h)
+    last_past _ _ _ used last (name_in _ _ _ (names end ms fs ks m)) (of_struct _ _) h = cond-false _ _ _ (le-ltb used end h)
+    last_past _ _ _ used last (count_in ks end fs m) (of_wrapper _ _) h = cond-false _ _ _ (le-ltb used end h)
+    last_past _ _ _ used last (id_in ks end stop ss fs m) (of_annotations _ _) h = cond-false _ _ _ (le-ltb used stop h)
+
+    row_number_past : (last : ℕ) (ks : List Container) (p : Number) (a : ℕ) (u : List ℕ) (b : ℕ) → deciding.InNumber g l c start ks p a u → b < 128 → LastOctet g l c start ks p last → last ≤ length u + 1 → Stopped g l (u ++ b ∷ []) Malformed
+    row_number_past last ks p a u b o small r h = past_stops ks p a u b Malformed o small (omega arith) (λ fs i. last_past ks p fs (length u + 1) last i r h)
+
+    row_header_too_long : (form : Form) (a : ℕ) (u : List ℕ) (b : ℕ) → deciding.InNumber g l c start [] (Length form) a u → is_pad form ≡ false → b < 128 → start + l.item < length u + 1 → Stopped g l (u ++ b ∷ []) ItemTooLong
+    row_header_too_long form a u b o i small h = past_stops [] (Length form) a u b ItemTooLong o small (omega arith) (λ fs j. top [] form fs refl j)
+      where
+        top : (ks : List Container) (form' : Form) (fs : List Frame) → ks ≡ [] → InFrames c ks (Length form) fs → past l.item start fs (purposes.Length form) (length u + 1) ≡ Some ItemTooLong
+        top _ _ _ e (length_in _ _ _ nothing_open) = cond-false _ _ _ (ap (λ b. b || nat_le (length u + 1) (start + l.item)) i ∙ lt-leb (length u + 1) (start + l.item) h)
+        top _ _ _ e (length_in _ _ _ (items end x vs fs ks m)) = absurd cc
+        top _ _ _ e (length_in _ _ _ (names end ms fs ks m)) = absurd cc
+        top _ _ _ e (length_in _ _ _ (named end id ms fs ks m)) = absurd cc
+        top _ _ _ e (length_in _ _ _ (noted end ss fs ks m)) = absurd cc
+
+    -- descriptors
+
+    at_descriptor : (ks : List Container) (u : List ℕ) (b : ℕ) (f : Reason) → Open g l c start ks u → TakesValue ks → ((fs : List Frame) → Match c fs ks → Least g l c start f (on_descriptor (under g l) (spot_at (length u + 1) start c) fs (opening_of b))) → Stopped g l (u ++ b ∷ []) f
+    at_descriptor ks u b f o t h =
+        let d = open_run g l c start ks u o in
+        let r = h d.fs d.match in
+        stops_with g l c start d.fs Ready u b r.0 f (subst (λ p. Holds g l c start d.fs p u) (ready g l c start ks t) (leads_holds g l c start ks u d)) r.1 r.2
+
+    row_no_descriptor : (ks : List Container) (u : List ℕ) (b : ℕ) (e : Reason) → Open g l c start ks u → TakesValue ks → opening_of b ≡ Refused e → Stopped g l (u ++ b ∷ []) e
+    row_no_descriptor ks u b e o t i = at_descriptor ks u b e o t (λ fs m. (e, ap (on_descriptor (under g l) (spot_at (length u + 1) start c) fs) i, omega arith))
+
+    marks_inside : (used : ℕ) (k : Container) (ks : List Container) (fs : List Frame) → Match c fs (k ∷ ks) → marks (spot_at used start c) fs ≡ refuses Malformed
+    marks_inside used _ _ _ (items end x vs fs ks m) = refl
+    marks_inside used _ _ _ (names end ms fs ks m) = refl
+    marks_inside used _ _ _ (named end id ms fs ks m) = refl
+    marks_inside used _ _ _ (noted end ss fs ks m) = refl
+
+    row_inner_marker : (k : Container) (ks : List Container) (u : List ℕ) (b : ℕ) → Open g l c start (k ∷ ks) u → TakesValue (k ∷ ks) → opening_of b ≡ Marker → Stopped g l (u ++ b ∷ []) Malformed
+    row_inner_marker k ks u b o t i = at_descriptor (k ∷ ks) u b Malformed o t (λ fs m. (Malformed, ap (on_descriptor (under g l) (spot_at (length u + 1) start c) fs) i ∙ marks_inside (length u + 1) k ks fs m, omega arith))
+
+    -- where something stands in the way, it is refused for that or for a smaller reason
+    header_least : (used : ℕ) (fs : List Frame) (form : Form) (size : Size) (e f : Reason) → ((to : ℕ) → unfit l.item start fs form to ≡ Some e) → Least g l c start f (unsized (under g l) (spot_at used start c) fs form) → reason_number e ≤ reason_number f → 4 ≤ reason_number f
+        → Least g l c start f (on_descriptor (under g l) (spot_at used start c) fs (Sized form size))
+    header_least used fs form (Known n) e f h k small big = sized_unfit used fs form n e f (h (used + n)) small big
+    header_least used fs form Follows e f h k small big = k
+
+    stray_in : (end : ℕ) (ks : List Container) (fs : List Frame) (form : Form) → Match c fs (Noted end ∷ ks) → (is_pad form || is_wrapper form) ≡ true → stray fs form ≡ Some Malformed
+    stray_in _ _ _ form (noted end ss fs ks m) h = cond-true _ _ _ h
+
+    row_in_wrapper : (end : ℕ) (ks : List Container) (u : List ℕ) (b : ℕ) (form : Form) (size : Size) → Open g l c start (Noted end ∷ ks) u → opening_of b ≡ Sized form size → (is_pad form || is_wrapper form) ≡ true → Stopped g l (u ++ b ∷ []) Malformed
+    row_in_wrapper end ks u b form size o i h = at_descriptor (Noted end ∷ ks) u b Malformed o tt (λ fs m.
+        let s = stray_in end ks fs form m h in
+        let used = length u + 1 in
+        let r = header_least used fs form size Malformed Malformed (λ to. ap (λ x. or_else x (or_else (misfits l.item start fs form to) (nameless fs form))) s)
+        (Malformed, ap (λ x. unless x (unless (unending l.item start fs form used) (unless (nameless fs form) (goes (at (spot_at used start c) fs (InNumber (purposes.Length form) 0)))))) s, omega arith) (omega arith) (omega arith) in
+        (r.0, ap (on_descriptor (under g l) (spot_at used start c) fs) i ∙ r.1, r.2))
+
+    unending_last : (k : Container) (ks : List Container) (fs : List Frame) (form : Form) (used : ℕ) → Match c fs (k ∷ ks) → deciding.end_of k ≤ used → unending l.item start fs form used ≡ Some Malformed
+    unending_last _ _ _ form used (items end x vs fs ks m) h = cond-false _ _ _ (le-ltb used end h)
+    unending_last _ _ _ form used (names end ms fs ks m) h = cond-false _ _ _ (le-ltb used end h)
+    unending_last _ _ _ form used (named end id ms fs ks m) h = cond-false _ _ _ (le-ltb used end h)
+    unending_last _ _ _ form used (noted end ss fs ks m) h = cond-false _ _ _ (le-ltb used end h)
+
+    -- why a length may not begin
+    unsized_ends : (used : ℕ) (fs : List Frame) (form : Form) (f : Reason) → 4 ≤ reason_number f → ((e : Reason) × (unless (unending l.item start fs form used) (unless (nameless fs form) (goes (at (spot_at used start c) fs (InNumber (purposes.Length form) 0)))) ≡ refuses e) × (reason_number e ≤ reason_number f))
+        → Least g l c start f (unsized (under g l) (spot_at used start c) fs form)
+    unsized_ends used fs form f big h = by (stray_only fs form)
+      where
+        rest : Outcome
+        rest = unless (unending l.item start fs form used) (unless (nameless fs form) (goes (at (spot_at used start c) fs (InNumber (purposes.Length form) 0))))
+
+        by : (stray fs form ≡ None) ⊎ (stray fs form ≡ Some Malformed) → Least g l c start f (unsized (under g l) (spot_at used start c) fs form)
+        by (inl k) = (h.0, ap (λ x. unless x (unless (unending l.item start fs form used) (unless (nameless fs form) (goes (at (spot_at used start c) fs (InNumber (purposes.Length form) 0)))))) k ∙ h.1, h.2)
+        by (inr k) = (Malformed, ap (λ x. unless x (unless (unending l.item start fs form used) (unless (nameless fs form) (goes (at (spot_at used start c) fs (InNumber (purposes.Length form) 0)))))) k, big)
+
+    row_no_length : (k : Container) (ks : List Container) (u : List ℕ) (b : ℕ) (form : Form) → Open g l c start (k ∷ ks) u → TakesValue (k ∷ ks) → opening_of b ≡ Sized form Follows → deciding.end_of k ≤ length u + 1 → Stopped g l (u ++ b ∷ []) Malformed
+    row_no_length k ks u b form o t i h = at_descriptor (k ∷ ks) u b Malformed o t (λ fs m.
+        let used = length u + 1 in
+        let r = unsized_ends used fs form Malformed (omega arith) (Malformed, ap (λ x. unless x (unless (nameless fs form) (goes (at (spot_at used start c) fs (InNumber (purposes.Length form) 0))))) (unending_last k ks fs form used m h), omega arith) in
+        (r.0, ap (on_descriptor (under g l) (spot_at used start c) fs) i ∙ r.1, r.2))
+
+    -- inside of a container
+
+    only_if : (b : Bool) → (cond b None (Some Malformed) ≡ None) ⊎ (cond b None (Some Malformed) ≡ Some Malformed)
+    only_if true = inl refl
+    only_if false = inr refl
+
+    misfits_inside : (k : Container) (ks : List Container) (fs : List Frame) (form : Form) (to : ℕ) → Match c fs (k ∷ ks) → (misfits l.item start fs form to ≡ None) ⊎ (misfits l.item start fs form to ≡ Some Malformed)
+    misfits_inside _ _ _ form to (items end x vs fs ks m) = only_if (nat_le to end)
+    misfits_inside _ _ _ form to (names end ms fs ks m) = only_if (nat_le to end)
+    misfits_inside _ _ _ form to (named end id ms fs ks m) = only_if (nat_le to end)
+    misfits_inside _ _ _ form to (noted end ss fs ks m) = only_if (to == end)
+
+    unending_inside : (k : Container) (ks : List Container) (fs : List Frame) (form : Form) (used : ℕ) → Match c fs (k ∷ ks) → (unending l.item start fs form used ≡ None) ⊎ (unending l.item start fs form used ≡ Some Malformed)
+    unending_inside _ _ _ form used (items end x vs fs ks m) = only_if (nat_lt used end)
+    unending_inside _ _ _ form used (names end ms fs ks m) = only_if (nat_lt used end)
+    unending_inside _ _ _ form used (named end id ms fs ks m) = only_if (nat_lt used end)
+    unending_inside _ _ _ form used (noted end ss fs ks m) = only_if (nat_lt used end)
+
+    -- why a form is unfit there, if it is: for a reason up to this one
+    unfit_inside : (k : Container) (ks : List Container) (fs : List Frame) (form : Form) (to : ℕ) (o : Option Reason) → Match c fs (k ∷ ks) → nameless fs form ≡ o → (unfit l.item start fs form to ≡ Some Malformed) ⊎ (unfit l.item start fs form to ≡ o)
+    unfit_inside k ks fs form to o m h = by (stray_only fs form) (misfits_inside k ks fs form to m)
+      where
+        by : (stray fs form ≡ None) ⊎ (stray fs form ≡ Some Malformed) → (misfits l.item start fs form to ≡ None) ⊎ (misfits l.item start fs form to ≡ Some Malformed) → (unfit l.item start fs form to ≡ Some Malformed) ⊎ (unfit l.item start fs form to ≡ o)
+        by (inr a) b = inl (ap (λ x. or_else x (or_else (misfits l.item start fs form to) (nameless fs form))) a)
+        by (inl a) (inr b) = inl (unfit_malformed fs form to b)
+        by (inl a) (inl b) = inr (ap (λ x. or_else x (or_else (misfits l.item start fs form to) (nameless fs form))) a ∙ (ap (λ x. or_else x (nameless fs form)) b ∙ h))
+
+    -- the id of a name
+
+    no_symbol : (end id : ℕ) (ks : List Container) (fs : List Frame) (form : Form) (e : Reason) → Match c fs (Named end id ∷ ks) → resolve c id ≡ Err e → is_pad form ≡ false → nameless fs form ≡ Some e
+    no_symbol _ _ _ _ form e (named end id ms fs ks m) h p = ap (λ r. nameless (frames.Named end ms r ∷ fs) form) h ∙ cond-false _ _ _ p
+
+    unless_least : (used : ℕ) (o : Option Reason) (r : Outcome) (e f : Reason) → 4 ≤ reason_number f → reason_number e ≤ reason_number f → (o ≡ Some Malformed) ⊎ (o ≡ Some e) → Least g l c start f (unless o r)
+    unless_least used o r e f big small (inl h) = (Malformed, ap (λ x. unless x r) h, big)
+    unless_least used o r e f big small (inr h) = (e, ap (λ x. unless x r) h, small)
+
+    row_no_name : (end id : ℕ) (ks : List Container) (u : List ℕ) (b : ℕ) (e : Reason) → Open g l c start (Named end id ∷ ks) u → resolve c id ≡ Err e → ((size : Size) → opening_of b ≢ Sized forms.Pad size) → Stopped g l (u ++ b ∷ []) e
+    row_no_name end id ks u b e o h n = at_descriptor (Named end id ∷ ks) u b e o tt (λ fs m. by fs m (opening_of b) refl (opening_plain b))
+      where
+        used : ℕ
+        used = length u + 1
+
+        big : 8 ≤ reason_number e
+        big = (late_name e (resolve_only c id e h)).0
+
+        big4 : 4 ≤ reason_number e
+        big4 = omega (arith, big)
+
+        one : (fs : List Frame) → Match c fs (Named end id ∷ ks) → (p : Payload) → Least g l c start e (one_octet (under g l) (spot_at used start c) fs p)
+        one fs m p = unless_least used (unfit l.item start fs forms.Struct used) (deliver (under g l) (spot_at used start c) fs (bare p)) e e big4 (omega arith) (unfit_inside (Named end id) ks fs forms.Struct used (Some e) m (no_symbol end id ks fs forms.Struct e m h refl))
+
+        no_pad : (form : Form) (size : Size) → opening_of b ≡ Sized form size → is_pad form ≡ false
+        no_pad form size i = go (is_pad form) refl
+          where
+            go : (x : Bool) → is_pad form ≡ x → is_pad form ≡ false
+            go true j = absurd (n size (i ∙ ap (λ y. Sized y size) (pad_is form j)))
+            go false j = j
+
+        known : (fs : List Frame) → Match c fs (Named end id ∷ ks) → (form : Form) (k : ℕ) → is_pad form ≡ false → Least g l c start e (sized (under g l) (spot_at used start c) fs form k)
+        known fs m form k p = go (unfit_inside (Named end id) ks fs form (used + k) (Some e) m (no_symbol end id ks fs form e m h p))
+          where
+            go : (unfit l.item start fs form (used + k) ≡ Some Malformed) ⊎ (unfit l.item start fs form (used + k) ≡ Some e) → Least g l c start e (sized (under g l) (spot_at used start c) fs form k)
+            go (inl x) = sized_unfit used fs form k Malformed e x big4 big4
+            go (inr x) = sized_unfit used fs form k e e x (omega arith) big4
+
+        follows : (fs : List Frame) → Match c fs (Named end id ∷ ks) → (form : Form) → is_pad form ≡ false → Least g l c start e (unsized (under g l) (spot_at used start c) fs form)
+        follows fs m form p = unsized_ends used fs form e big4 (go (unending_inside (Named end id) ks fs form used m))
+          where
+            G : Outcome
+            G = goes (at (spot_at used start c) fs (InNumber (purposes.Length form) 0))
+
+            go : (unending l.item start fs form used ≡ None) ⊎ (unending l.item start fs form used ≡ Some Malformed) → (x : Reason) × (unless (unending l.item start fs form used) (unless (nameless fs form) (goes (at (spot_at used start c) fs (InNumber (purposes.Length form) 0)))) ≡ refuses x) × (reason_number x ≤ reason_number e)
+            go (inl k) = (e, ap (λ x. unless x (unless (nameless fs form) (goes (at (spot_at used start c) fs (InNumber (purposes.Length form) 0))))) k ∙ ap (λ x. unless x (goes (at (spot_at used start c) fs (InNumber (purposes.Length form) 0)))) (no_symbol end id ks fs form e m h p), omega arith)
+            go (inr k) = (Malformed, ap (λ x. unless x (unless (nameless fs form) (goes (at (spot_at used start c) fs (InNumber (purposes.Length form) 0))))) k, big4)
+
+        by : (fs : List Frame) → Match c fs (Named end id ∷ ks) → (d : Opening) → opening_of b ≡ d → PlainOpening d → Least g l c start e (on_descriptor (under g l) (spot_at used start c) fs d)
+        by fs m (Refused x) i p = let s = plain_small x p in (x, refl, omega (arith, big))
+        by fs m Marker i p = (Malformed, marks_inside used (Named end id) ks fs m, big4)
+        by fs m (Null k) i p = one fs m (payloads.Null k)
+        by fs m (Truth t) i p = one fs m (payloads.Truth t)
+        by fs m (Sized form (Known k)) i p = known fs m form k (no_pad form (Known k) i)
+        by fs m (Sized form Follows) i p = follows fs m form (no_pad form Follows i)
+
+    -- depth
+
+    nameless_any : (fs : List Frame) (ks : List Container) (form : Form) → Match c fs ks → (nameless fs form ≡ None) ⊎ ((e : Reason) × (nameless fs form ≡ Some e) × (reason_number e ≤ 9))
+    nameless_any _ _ form nothing_open = inl refl
+    nameless_any _ _ form (items end x vs fs ks m) = inl refl
+    nameless_any _ _ form (names end ms fs ks m) = inl refl
+    nameless_any _ _ form (noted end ss fs ks m) = inl refl
+    nameless_any _ _ form (named end id ms fs ks m) = go (resolve c id) refl
+      where
+        go : (r : Result (Option (List ℕ)) Reason) → resolve c id ≡ r → (nameless (frames.Named end ms r ∷ fs) form ≡ None) ⊎ ((e : Reason) × (nameless (frames.Named end ms r ∷ fs) form ≡ Some e) × (reason_number e ≤ 9))
+        go (Ok s) h = inl refl
+        go (Err e) h = either (λ o. (o ≡ None) ⊎ ((x : Reason) × (o ≡ Some x) × (reason_number x ≤ 9))) (is_pad form) _ _ (inl refl) (inr (e, refl, (late_name e (resolve_only c id e h)).1))
+
+    begin_deep : (used : ℕ) (fs : List Frame) (form : Form) (n : ℕ) → IsContainer form → l.depth ≤ machine.levels fs → Least g l c start Depth (begin (under g l) (spot_at used start c) fs form n)
+    begin_deep used fs (forms.Listing x) n i h = (Depth, cond-false _ _ _ (le-ltb (machine.levels fs) l.depth h), omega arith)
+    begin_deep used fs forms.Struct n i h = (Depth, cond-false _ _ _ (le-ltb (machine.levels fs) l.depth h), omega arith)
+    begin_deep used fs forms.OrderedStruct n i h = (Depth, cond-false _ _ _ (le-ltb (machine.levels fs) l.depth h), omega arith)
+    begin_deep used fs forms.Pad n i h = absurd i
+    begin_deep used fs (forms.Scalar t) n i h = absurd i
+    begin_deep used fs forms.Wrapper n i h = absurd i
+
+    row_too_deep : (ks : List Container) (form : Form) (n : ℕ) (u : List ℕ) → EndsHeader g l c start ks form n u → IsContainer form → l.depth ≤ deciding.levels ks → Stopped g l u Depth
+    row_too_deep [] form n u o i h = let d = l.deep in absurd (omega (arith, d.0, h))
+    row_too_deep (k ∷ ks) form n u o i h = header_stops g l c start (k ∷ ks) form n u Depth o (λ fs m.
+        by fs m (nameless_any fs (k ∷ ks) form m) (let s = same_levels c fs (k ∷ ks) m in omega (arith, s, h)))
+      where
+        used : ℕ
+        used = length u
+
+        last : (fs : List Frame) → l.depth ≤ machine.levels fs → unfit l.item start fs form (used + n) ≡ None → (hollow form n ≡ None) ⊎ (hollow form n ≡ Some Malformed) → Least g l c start Depth (sized (under g l) (spot_at used start c) fs form n)
+        last fs d e (inr a) = (Malformed, sized_hollow used fs form n a, omega arith)
+        last fs d e (inl a) =
+            let r = begin_deep used fs form n i d in
+            (r.0, ap (λ o. unless o (unless (unfit l.item start fs form (used + n)) (begin (under g l) (spot_at used start c) fs form n))) a ∙ (ap (λ o. unless o (begin (under g l) (spot_at used start c) fs form n)) e ∙ r.1), r.2)
+
+        by : (fs : List Frame) → Match c fs (k ∷ ks) → (nameless fs form ≡ None) ⊎ ((e : Reason) × (nameless fs form ≡ Some e) × (reason_number e ≤ 9)) → l.depth ≤ machine.levels fs → Least g l c start Depth (sized (under g l) (spot_at used start c) fs form n)
+        by fs m (inl a) d = go (unfit_inside k ks fs form (used + n) None m a)
+          where
+            go : (unfit l.item start fs form (used + n) ≡ Some Malformed) ⊎ (unfit l.item start fs form (used + n) ≡ None) → Least g l c start Depth (sized (under g l) (spot_at used start c) fs form n)
+            go (inl x) = sized_unfit used fs form n Malformed Depth x (omega arith) (omega arith)
+            go (inr x) = last fs d x (hollow_only form n)
+        by fs m (inr a) d = go (unfit_inside k ks fs form (used + n) (Some a.0) m a.1)
+          where
+            go : (unfit l.item start fs form (used + n) ≡ Some Malformed) ⊎ (unfit l.item start fs form (used + n) ≡ Some a.0) → Least g l c start Depth (sized (under g l) (spot_at used start c) fs form n)
+            go (inl x) = sized_unfit used fs form n Malformed Depth x (omega arith) (omega arith)
+            go (inr x) = let s = a.2 in sized_unfit used fs form n a.0 Depth x (omega (arith, s)) (omega arith)
+
+    -- bodies
+
+    row_bad_empty_body : (ks : List Container) (t : Scalar) (u : List ℕ) (e : Reason) → EndsHeader g l c start ks (forms.Scalar t) 0 u → judge c t [] ≡ Err e → Stopped g l u e
+    row_bad_empty_body ks t u e o h =
+        let k = empty_hollow c t e h in
+        subst (Stopped g l u) (sym k.1) (header_stops g l c start ks (forms.Scalar t) 0 u Malformed o (λ fs m. (Malformed, sized_hollow (length u) fs (forms.Scalar t) 0 k.0, omega arith)))
+
+    row_bad_body : (end : ℕ) (ks : List Container) (t : Scalar) (front body : List ℕ) (e : Reason) → Headed l c start (Open g l c start ks) ks (forms.Scalar t) end front → end ≡ length front + length body → 0 < length body → judge c t body ≡ Err e → Stopped g l (front ++ body) e
+    row_bad_body end ks t front [] e h i some j = absurd (omega arith)
+    row_bad_body end ks t front (b ∷ bs) e h i some j =
+        let body = b ∷ bs in
+        let d = open_run g l c start ks h.before h.outer in
+        let k = length-append front body in
+        let ends = h.ends in
+        let to = length (front ++ body) in
+        let n : h.n ≡ suc (length bs) = omega arith in
+        stops_as (front ++ body) e
+        (ap (λ x. (run g l 0 initial x).now) (ap (λ x. x ++ body) h.parts ∙ append_assoc h.before h.header body)
+        ∙ (ap (λ x. x.now) (run-append g l 0 (length h.before) h.before (h.header ++ body) (omega arith) initial)
+        ∙ (ap (λ x. (then_run x (λ n. run g l (length h.before) n (h.header ++ body))).now) (d.ran ∙ ap (λ p. record { given = d.given; now = Ok (at (spot_at (length h.before) start c) d.fs p) }) (takes_phase g l c start ks (forms.Scalar t) h.begins))
+        ∙ (ap (λ x. x.now) (headed_run g l c start ks d.fs (forms.Scalar t) end front body (Open g l c start ks) h (hollow_some (forms.Scalar t) h.n (omega arith)) d.match)
+        ∙ (ap (λ x. (run_on (length front) (λ n. run g l (length front) n body) (begin (under g l) (spot_at (length front) start c) d.fs (forms.Scalar t) x)).now) n
+        ∙ (ap (λ x. (run_on (length front) (λ n. run g l (length front) n body) x).now) (begin_scalar g l (spot_at (length front) start c) d.fs t (length bs))
+        ∙ (ap (λ x. x.now) (body_run g l (spot_at (length front) start c) d.fs t (length bs) [] body to refl k)
+        ∙ ap (λ x. (after to (judged (under g l) (spot_at to start c) d.fs x)).now) j)))))))
+
+  row_bad_table : (u w : List ℕ) (s : List Value) (c : List Slot) (v : Value) (e : Reason) → Pieces g l u s c → Binary c w v → is_table v ≡ true → depth v ≤ l.depth → length w ≤ l.item → next c v g ≡ Err e → Stopped g l (u ++ w) e
+  row_bad_table u w s c v e d b t n p q =
+      let r = pieces_run g l u s c d in
+      let k = length-append u w in
+      let to = length (u ++ w) in
+      stops_as (u ++ w) e
+      (ap (λ x. x.now) (run-append g l 0 (length u) u w (omega arith) initial)
+      ∙ (ap (λ x. (then_run x (λ n. run g l (length u) n w)).now) r.ran
+      ∙ ap (λ x. x.now) (binary_run g l (spot_at (length u) (length u) c) [] to w v b (record { fitting = refl; named = refl }) k (λ i. omega arith) (omega arith)
+      ∙ (ap (after to) (cond-true _ _ _ t) ∙ ap (λ x. after to (turned to x)) q))))
+
+  -- markers
+
+  row_no_marker : (b : ℕ) → b ≢ 0xE0 → Stopped g l (b ∷ []) Malformed
+  row_no_marker b h = stops_with g l system_slots 0 [] (InMarker First true) [] b Malformed Malformed (record { given = []; ran = refl }) (cond-false _ _ _ (ne_eqb b 224 h)) (omega arith)
+
+  record Marks (u : List ℕ) : Type 0 where
+    c : List Slot
+    start : ℕ
+    holds : Holds g l c start [] (InMarker Second true) (u ++ 0xE0 ∷ [])
+
+  front_marks : (u : List ℕ) → IsFront g l u → Marks u
+  unfolding opening_of descriptor_of
+  front_marks u (inl h) = record {
+    c = system_slots;
+    start = 0;
+    holds = subst (λ x. Holds g l system_slots 0 [] (InMarker Second true) (x ++ 0xE0 ∷ [])) (sym h)
+        (goes_with g l system_slots 0 [] [] (InMarker First true) (InMarker Second true) [] 0xE0 (record { given = []; ran = refl }) refl);
+  }
+  front_marks u (inr h) =
+      let d = open_run g l h.1 (length u) [] u (h.0, h.2, refl) in
+      record { c = h.1; start = length u; holds = top d.fs d.match (leads_holds g l h.1 (length u) [] u d) }
+    where
+      top : (fs : List Frame) → Match h.1 fs [] → Holds g l h.1 (length u) fs Ready u → Holds g l h.1 (length u) [] (InMarker Second true) (u ++ 0xE0 ∷ [])
+      top _ nothing_open o = goes_with g l h.1 (length u) [] [] Ready (InMarker Second true) u 0xE0 o refl
+
+  marker_stops : (u : List ℕ) (x y b : ℕ) (e : Reason) → IsFront g l u → ((used : ℕ) (c : List Slot) (start : ℕ) → machine.on_marker (spot_at used start c) [] Fourth ((true && (x == 1)) && (y == 0)) b ≡ refuses e) → Stopped g l (u ++ 0xE0 ∷ x ∷ y ∷ b ∷ []) e
+  marker_stops u x y b e f h =
+      let m = front_marks u f in
+      let one = goes_with g l m.c m.start [] [] (InMarker Second true) (InMarker Third (true && (x == 1))) (u ++ 0xE0 ∷ []) x m.holds refl in
+      let two = goes_with g l m.c m.start [] [] (InMarker Third (true && (x == 1))) (InMarker Fourth ((true && (x == 1)) && (y == 0))) ((u ++ 0xE0 ∷ []) ++ x ∷ []) y one refl in
+      let all : (((u ++ 0xE0 ∷ []) ++ x ∷ []) ++ y ∷ []) ++ b ∷ [] ≡ u ++ 0xE0 ∷ x ∷ y ∷ b ∷ [] =
+      append_assoc ((u ++ 0xE0 ∷ []) ++ x ∷ []) (y ∷ []) (b ∷ []) ∙ (append_assoc (u ++ 0xE0 ∷ []) (x ∷ []) (y ∷ b ∷ []) ∙ append_assoc u (0xE0 ∷ []) (x ∷ y ∷ b ∷ [])) in
+      subst (λ w. Stopped g l w e) all
+      (stops_with g l m.c m.start [] (InMarker Fourth ((true && (x == 1)) && (y == 0))) (((u ++ 0xE0 ∷ []) ++ x ∷ []) ++ y ∷ []) b e e two (h (length (((u ++ 0xE0 ∷ []) ++ x ∷ []) ++ y ∷ []) + 1) m.c m.start) (omega arith))
+
+  both_good : (x y : ℕ) → ((x ≡ 1) × (y ≡ 0) → ⊥) → ((true && (x == 1)) && (y == 0)) ≡ false
+  both_good x y h = go (x == 1) refl (y == 0) refl
+    where
+      go : (a : Bool) → (x == 1) ≡ a → (b : Bool) → (y == 0) ≡ b → ((true && a) && b) ≡ false
+      go true i true j = absurd (h (eqb-true x 1 i, eqb-true y 0 j))
+      go true i false j = refl
+      go false i b j = refl
+
+  -- each row refuses
+  pub every_row : (u : List ℕ) (e : Reason) → Decides g l u e → Stopped g l u e
+  every_row _ _ (no_marker b h) = row_no_marker b h
+  every_row _ _ (other_marker u x y b f h) = marker_stops u x y b Malformed f (λ used c start. cond-false _ _ _ (ne_eqb b 234 h))
+  every_row _ _ (other_version u x y f h) = marker_stops u x y 0xEA Version f (λ used c start. cond-false _ _ _ (both_good x y h))
+  every_row _ _ (no_descriptor c start ks u b e o t i) = row_no_descriptor c start ks u b e o t i
+  every_row _ _ (inner_marker c start k ks u b o t i) = row_inner_marker c start k ks u b o t i
+  every_row _ _ (in_wrapper c start end ks u b form size o i h) = row_in_wrapper c start end ks u b form size o i h
+  every_row _ _ (too_large c start ks p a u b o h) = row_too_large c start ks p a u b o h
+  every_row _ _ (past_container c start k ks pad to u o h) = row_past_container c start k ks pad to u o h
+  every_row _ _ (wrapper_unfilled c start end ks pad to u o h) = row_wrapper_unfilled c start end ks pad to u o h
+  every_row _ _ (no_fields c start ks u o) = row_no_fields c start ks u o
+  every_row _ _ (too_deep c start ks form n u o i h) = row_too_deep c start ks form n u o i h
+  every_row _ _ (too_long c start to u o h) = row_too_long c start to u o h
+  every_row _ _ (header_too_long c start form a u b o i s h) = row_header_too_long c start form a u b o i s h
+  every_row _ _ (no_annotations c start end ks u o) = row_no_annotations c start end ks u o
+  every_row _ _ (annotations_past c start end n ks u o h) = row_annotations_past c start end n ks u o h
+  every_row _ _ (number_past c start last ks p a u b o s r h) = row_number_past c start last ks p a u b o s r h
+  every_row _ _ (no_length c start k ks u b form o t i h) = row_no_length c start k ks u b form o t i h
+  every_row _ _ (no_count c start ks u o) = row_no_count c start ks u o
+  every_row _ _ (no_value c start end id ks u o h) = row_no_value c start end id ks u o h
+  every_row _ _ (no_name c start end id ks u b e o h n) = row_no_name c start end id ks u b e o h n
+  every_row _ _ (no_annotation c start stop id ks u e o h) = row_no_annotation c start stop id ks u e o h
+  every_row _ _ (bad_body c start end ks t front body e o i s h) = row_bad_body c start end ks t front body e o i s h
+  every_row _ _ (bad_empty_body c start ks t u e o h) = row_bad_empty_body c start ks t u e o h
+  every_row _ _ (bad_table u w s c v e d b t n p q) = row_bad_table u w s c v e d b t n p q

@@ -1,0 +1,252 @@
+-- What stands for octets is what stands open behind them.
+use Rattle.std.proofs.Common.{◌≡◌, ℕ, ◌+◌, ◌-◌, ◌*◌, ◌^◌, ◌<◌, ◌≤◌, ◌||◌, List, [], ◌∷◌, ◌++◌, length, Result, Ok, Err, Option, Some, None, Bool, true, false, cond, refl, ap, sym, ◌∙◌, subst, arith, length-append, append_assoc}
+use Rattle.std.proofs.lemmas.Bool.{cond-true, cond-false}
+use Rattle.ion_model.specs.declared.value.Value.{Value}
+use Rattle.ion_model.specs.declared.value.Field.{Field}
+use Rattle.ion_atoms.specs.declared.refusal.Reason.{Reason}
+use Rattle.ion_atoms.specs.declared.refusal.Reason.TheVariants.{Malformed}
+use Rattle.ion_scalar.specs.binary.Fields.{positional, Digits}
+use Rattle.ion_symtab.specs.declared.limits.Limits.{Limits}
+use Rattle.ion_symtab.specs.declared.catalog.Catalog.{Catalog}
+use Rattle.ion_symtab.specs.Slots.{Slot, resolve}
+use Rattle.ion_binary.specs.declared.form.Form.{Form}
+use Rattle.ion_binary.specs.declared.form.Form.TheVariants as forms
+use Rattle.ion_binary.specs.declared.state.Frame.{Frame}
+use Rattle.ion_binary.specs.declared.state.Frame.TheVariants as frames
+use Rattle.ion_binary.specs.declared.state.Purpose.{Purpose}
+use Rattle.ion_binary.specs.declared.state.Purpose.TheVariants as purposes
+use Rattle.ion_binary.specs.Opening.{is_pad, is_wrapper}
+use Rattle.ion_binary.specs.machine.EachOctet.{stray, nameless}
+use Rattle.ion_binary.specs.laws.reading.Stands.{Ends, Box, IsStruct, InStruct, Opened, Receives, Inside, Going, Fitting, LengthStands, NumberStands}
+use Rattle.ion_binary.specs.laws.reading.Complete.{header_some}
+use Rattle.ion_binary.specs.laws.reading.OpenRuns.{Match, nothing_open, items, names, named, noted, same_levels}
+use Rattle.ion_binary.specs.laws.reading.NumberRuns.{purpose_of, InFrames, length_in, name_in, count_in, id_in}
+use Rattle.ion_binary.specs.Deciding as deciding
+use Rattle.ion_binary.specs.Deciding.{Container, Items, Names, Named, Noted, TakesValue, MayBegin, MayReach, Headed, Open, Number, Length, Name, Count, Id, a_length, a_name, a_count, an_id, of_container, of_struct, of_wrapper, of_annotations, LastOctet, MayGoOn}
+
+pub takes : (c : List Slot) (fs : List Frame) (ks : List Container) → Match c fs ks → Receives fs → TakesValue ks
+takes c _ _ nothing_open r = tt
+takes c _ _ (items end x vs fs ks m) r = tt
+takes c _ _ (names end ms fs ks m) r = absurd r
+takes c _ _ (named end id ms fs ks m) r = tt
+takes c _ _ (noted end ss fs ks m) r = tt
+
+some_none : (b : Bool) (x : Reason) → cond b (Some x) None ≡ None → b ≡ false
+some_none true x h = cc
+some_none false x h = refl
+
+pub may_begin : (c : List Slot) (fs : List Frame) (ks : List Container) (form : Form) → Match c fs ks → Fitting fs form → MayBegin c ks (is_pad form) (is_wrapper form)
+may_begin c _ _ form nothing_open h = tt
+may_begin c _ _ form (items end x vs fs ks m) h = tt
+may_begin c _ _ form (names end ms fs ks m) h = absurd h.receives
+may_begin c _ _ form (noted end ss fs ks m) h = some_none (is_pad form || is_wrapper form) Malformed h.fitting
+may_begin c _ _ form (named end id ms fs ks m) h = λ p. go (resolve c id) refl p
+  where
+    go : (r : Result (Option (List ℕ)) Reason) → resolve c id ≡ r → is_pad form ≡ false → (s : Option (List ℕ)) × (resolve c id ≡ Ok s)
+    go (Ok s) e p = (s, e)
+    go (Err x) e p =
+        let n : nameless (frames.Named end ms (Err x) ∷ fs) form ≡ None = ap (λ r. nameless (frames.Named end ms r ∷ fs) form) (sym e) ∙ h.named in
+        let k : cond (is_pad form) None (Some x) ≡ Some x = cond-false _ _ _ p in
+        absurd (let q : Some x ≡ None = sym k ∙ n in cc)
+
+pub may_reach : (l : Limits) (start : ℕ) (c : List Slot) (fs : List Frame) (ks : List Container) (form : Form) (to : ℕ) → Match c fs ks → Ends l start fs form to → MayReach l start ks (is_pad form) to
+may_reach l start c _ _ form to nothing_open h = h
+may_reach l start c _ _ form to (items end x vs fs ks m) h = h
+may_reach l start c _ _ form to (names end ms fs ks m) h = h
+may_reach l start c _ _ form to (named end id ms fs ks m) h = h
+may_reach l start c _ _ form to (noted end ss fs ks m) h = h
+
+is_struct : (form : Form) (n : ℕ) → IsStruct form n → deciding.IsStruct form
+is_struct forms.Struct n h = tt
+is_struct forms.OrderedStruct n h = tt
+is_struct forms.Pad n h = absurd h
+is_struct (forms.Scalar t) n h = absurd h
+is_struct (forms.Listing x) n h = absurd h
+is_struct forms.Wrapper n h = absurd h
+
+-- what ends inside of a container begins there
+pub ends_inside : (l : Limits) (start : ℕ) (fs : List Frame) (form : Form) (end n : ℕ) → Ends l start fs form end → n < end → Inside fs n
+ends_inside l start [] form end n r h = tt
+ends_inside l start (frames.Annotated e ss ∷ fs) form end n r h = omega arith
+ends_inside l start (frames.Items e x vs ∷ fs) form end n r h = omega arith
+ends_inside l start (frames.Fields e ms ∷ fs) form end n r h = omega arith
+ends_inside l start (frames.Named e ms name ∷ fs) form end n r h = omega arith
+
+module _ (g : Catalog) (l : Limits) (start : ℕ) (c : List Slot) (s : List Value) where
+  -- the frames are containers that stand open
+  pub record Shape (fs : List Frame) (u : List ℕ) : Type 0 where
+    pub ks : List Container
+    pub match : Match c fs ks
+    pub open' : Open g l c start ks u
+
+  headed : (fs : List Frame) (form : Form) (end : ℕ) (u : List ℕ) → (b : Box l start (Opened g l start c s fs) fs form end u) → (o : Shape fs b.before) → Headed l c start (Open g l c start o.ks) o.ks form end u
+  headed fs form end u b o = record {
+    before = b.before;
+    header = b.header;
+    n = b.n;
+    parts = b.whole;
+    outer = o.open';
+    begins = may_begin c fs o.ks form o.match b.admits;
+    head = b.head;
+    ends = b.ends;
+    reaches = may_reach l start c fs o.ks form end o.match b.room;
+  }
+
+  box_inside : (fs : List Frame) (form : Form) (end : ℕ) (u : List ℕ) → (b : Box l start (Opened g l start c s fs) fs form end u) → Inside fs (length b.before)
+  box_inside fs form end u b =
+      let k = ap length b.whole in
+      let j = length-append b.before b.header in
+      let h = header_some form b.n b.header b.head in
+      let e = b.ends in
+      ends_inside l start fs form end (length b.before) b.room (omega arith)
+
+  struct_open : (fs : List Frame) (end : ℕ) (ms : List Field) (u : List ℕ) → (i : InStruct l start c (Opened g l start c s fs) fs end ms u) → (o : Shape fs i.box.before) → Match c fs o.ks → length u < end → deciding.InStruct l c start (Open g l c start o.ks) o.ks end u
+  struct_open fs end ms u i o m h =
+      let d = i.deep in
+      let e = same_levels c fs o.ks o.match in
+      record {
+        front = i.front;
+        body = i.body;
+        form = i.form;
+        fields = ms;
+        parts = i.whole;
+        headed = headed fs i.form end i.front i.box o;
+        struct = is_struct i.form i.box.n i.kind;
+        come = i.items;
+        deep = omega arith;
+        more = h;
+      }
+
+  pub opened_open : (fs : List Frame) (u : List ℕ) → Opened g l start c s fs u → Inside fs (length u) → Shape fs u
+  opened_open [] u o i = record { ks = []; match = nothing_open; open' = (s, o.0, o.1) }
+  opened_open (frames.Items end x vs ∷ fs) u o i =
+      let p = opened_open fs o.box.before o.box.outer (box_inside fs (forms.Listing x) end o.front o.box) in
+      let d = o.deep in
+      let e = same_levels c fs p.ks p.match in
+      record {
+        ks = Items end ∷ p.ks;
+        match = items end x vs fs p.ks p.match;
+        open' = record { front = o.front; body = o.body; listing = x; items = vs; parts = o.whole; headed = headed fs (forms.Listing x) end o.front o.box p; come = o.items; deep = omega arith; more = i };
+      }
+  opened_open (frames.Fields end ms ∷ fs) u o i =
+      let p = opened_open fs o.box.before o.box.outer (box_inside fs o.form end o.front o.box) in
+      record { ks = Names end ∷ p.ks; match = names end ms fs p.ks p.match; open' = struct_open fs end ms u o p p.match i }
+  opened_open (frames.Named end ms name ∷ fs) u o i =
+      let b = o.inside.box in
+      let p = opened_open fs b.before b.outer (box_inside fs o.inside.form end o.inside.front b) in
+      let k = ap length o.whole in
+      let j = length-append o.front o.id in
+      let w = o.within in
+      record {
+        ks = Named end o.k ∷ p.ks;
+        match = subst (λ r. Match c (frames.Named end ms r ∷ fs) (Named end o.k ∷ p.ks)) (sym o.named) (named end o.k ms fs p.ks p.match);
+        open' = record { front = o.front; name = o.id; parts = o.whole; inside = struct_open fs end ms o.front o.inside p p.match (omega arith); number = o.number; more = w };
+      }
+  opened_open (frames.Annotated end ss ∷ fs) u o i =
+      let p = opened_open fs o.box.before o.box.outer (box_inside fs forms.Wrapper end o.front o.box) in
+      record {
+        ks = Noted end ∷ p.ks;
+        match = noted end ss fs p.ks p.match;
+        open' = record { front = o.front; count = o.count; ids = o.ids; symbols = ss; parts = o.whole; headed = headed fs forms.Wrapper end o.front o.box p; number = o.number; some = o.some; come = o.symbols; more = o.within };
+      }
+
+  -- in a number
+  pub record Numbered (fs : List Frame) (p : Purpose) (a : ℕ) (u : List ℕ) : Type 0 where
+    pub ks : List Container
+    pub q : Number
+    pub same : purpose_of q ≡ p
+    pub frames' : InFrames c ks q fs
+    pub inside : deciding.InNumber g l c start ks q a u
+
+  -- where a number in a container may go on
+  before_end : (k : Container) (ks : List Container) (form : Form) (used : ℕ) → used < deciding.end_of k → (last : ℕ) → LastOctet g l c start (k ∷ ks) (Length form) last → used < last
+  before_end k ks form used h last (of_container _ _ _) = h
+
+  in_container : (fs : List Frame) (ks : List Container) (form : Form) (used : ℕ) → Match c fs ks → Going l start fs form used → MayGoOn g l c start ks (Length form) used
+  in_container _ _ form used nothing_open h = h
+  in_container _ _ form used (items end x vs fs ks m) h = before_end (Items end) ks form used h
+  in_container _ _ form used (names end ms fs ks m) h = before_end (Names end) ks form used h
+  in_container _ _ form used (named end id ms fs ks m) h = before_end (Named end id) ks form used h
+  in_container _ _ form used (noted end ss fs ks m) h = before_end (Noted end) ks form used h
+
+  name_goes : (ks : List Container) (end used : ℕ) → used < end → (last : ℕ) → LastOctet g l c start (Names end ∷ ks) Name last → used < last
+  name_goes ks end used h last (of_struct _ _) = h
+
+  before_ids : (ks : List Container) (end used : ℕ) → used < end → (last : ℕ) → LastOctet g l c start ks (Count end) last → used < last
+  before_ids ks end used h last (of_wrapper _ _) = h
+
+  count_goes : (ks : List Container) (end used : ℕ) → used < end → MayGoOn g l c start ks (Count end) used
+  count_goes [] end used h = before_ids [] end used h
+  count_goes (k ∷ ks) end used h = before_ids (k ∷ ks) end used h
+
+  before_stop : (ks : List Container) (stop used : ℕ) → used < stop → (last : ℕ) → LastOctet g l c start ks (Id stop) last → used < last
+  before_stop ks stop used h last (of_annotations _ _) = h
+
+  id_goes : (ks : List Container) (stop used : ℕ) → used < stop → MayGoOn g l c start ks (Id stop) used
+  id_goes [] stop used h = before_stop [] stop used h
+  id_goes (k ∷ ks) stop used h = before_stop (k ∷ ks) stop used h
+
+  pub numbered : (fs : List Frame) (p : Purpose) (a : ℕ) (u : List ℕ) → a < 2 ^ 63 → NumberStands g l start c s fs p a u → Numbered fs p a u
+  numbered fs (purposes.Length form) a u small o =
+      let p = opened_open fs o.before o.outer o.more in
+      record {
+        ks = p.ks;
+        q = Length form;
+        same = refl;
+        frames' = length_in p.ks form fs p.match;
+        inside = record {
+          before = o.before ++ o.b ∷ [];
+          digits = o.digits;
+          parts = o.whole ∙ sym (append_assoc o.before (o.b ∷ []) o.digits);
+          comes = a_length p.ks o.before o.b form p.open' o.head (may_begin c fs p.ks form p.match o.admits);
+          small = o.small;
+          value = o.value;
+          bound = small;
+          goes_on = in_container fs p.ks form (length u) p.match o.going;
+        };
+      }
+  numbered (frames.Fields end ms ∷ fs) purposes.FieldName a u small o =
+      let k = ap length o.whole in
+      let j = length-append o.front o.digits in
+      let w = o.going in
+      let p = opened_open (frames.Fields end ms ∷ fs) o.front o.inside (omega arith) in
+      by p.ks p.match p.open'
+    where
+      by : (ks : List Container) → Match c (frames.Fields end ms ∷ fs) ks → Open g l c start ks o.front → Numbered (frames.Fields end ms ∷ fs) purposes.FieldName a u
+      by _ (names _ _ _ ks m) x = record {
+        ks = Names end ∷ ks;
+        q = Name;
+        same = refl;
+        frames' = name_in end ks (frames.Fields end ms ∷ fs) (names end ms fs ks m);
+        inside = record { before = o.front; digits = o.digits; parts = o.whole; comes = a_name end ks o.front x; small = o.small; value = o.value; bound = small; goes_on = name_goes ks end (length u) o.going };
+      }
+  numbered (frames.Annotated end ss ∷ fs) purposes.AnnotationsLength a u small o =
+      let p = opened_open fs o.box.before o.box.outer (box_inside fs forms.Wrapper end o.front o.box) in
+      record {
+        ks = p.ks;
+        q = Count end;
+        same = refl;
+        frames' = subst (λ x. InFrames c p.ks (Count end) (frames.Annotated end x ∷ fs)) (sym o.none_yet) (count_in p.ks end fs p.match);
+        inside = record { before = o.front; digits = o.digits; parts = o.whole; comes = a_count p.ks end o.front (headed fs forms.Wrapper end o.front o.box p); small = o.small; value = o.value; bound = small; goes_on = count_goes p.ks end (length u) o.going };
+      }
+  numbered (frames.Annotated end ss ∷ fs) (purposes.Annotation stop) a u small o =
+      let p = opened_open fs o.box.before o.box.outer (box_inside fs forms.Wrapper end o.front o.box) in
+      let e = o.stops in
+      let r = o.room in
+      record {
+        ks = p.ks;
+        q = Id stop;
+        same = refl;
+        frames' = id_in p.ks end stop ss fs p.match;
+        inside = record {
+          before = o.front ++ (o.count ++ o.ids);
+          digits = o.digits;
+          parts = o.whole ∙ (ap (λ x. o.front ++ x) (sym (append_assoc o.count o.ids o.digits)) ∙ sym (append_assoc o.front (o.count ++ o.ids) o.digits));
+          comes = subst (λ x. deciding.Before g l c start p.ks (Id x) (o.front ++ (o.count ++ o.ids))) (sym e) (an_id p.ks end o.n o.front o.count o.ids ss (headed fs forms.Wrapper end o.front o.box p) o.number o.some o.symbols (omega arith));
+          small = o.small;
+          value = o.value;
+          bound = small;
+          goes_on = id_goes p.ks stop (length u) o.going;
+        };
+      }
+  numbered _ _ a u small o = absurd o

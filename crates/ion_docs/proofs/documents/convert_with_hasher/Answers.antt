@@ -1,0 +1,49 @@
+use Rattle.std.proofs.Common.{rules, [], ◌≡◌, IfOk}
+use Rattle.ion_symtab.specs.laws.Took.{Front-none}
+use Rattle.ion_docs.specs.Converted.{at_start}
+use Rattle.ion_streams.proofs.Steps.{on_err}
+use Rattle.ion_docs.specs.Encodings.{encoding_of}
+use Rattle.ion_docs.specs.Formats.{documents}
+use Rattle.ion_docs.specs.Conversion.{WritesKept}
+use Rattle.ion_docs.specs.laws.Conversion.{keeps_if}
+use Rattle.ion_docs.proofs.documents.convert_with_hasher.Goals as goal
+
+pub returns-in_ok-encoder-in-Binary-clause-same : goal.returns-in_ok-encoder-in-Binary-clause-same
+returns-in_ok-encoder-in-Binary-clause-same g c =
+    let under : c.in_ok-items.items.catalog.now ≡ c.args.catalog.now = search rules in
+    let within : c.in_ok-items.items.limits ≡ c.args.limits = search rules in
+    let kept : IfOk c.convert_by.result (WritesKept g.R.Inlet g.W.Outlet (encoding_of c.args.target) (documents c.args.catalog.now c.args.limits) c.args.reader.now c.convert_by.new.reader c.args.writer.now c.convert_by.new.writer) =
+    rw (c.in-Binary.is, ← under, ← within) c.convert_by.ensures.kept in
+    keeps_if g.R.Inlet g.W.Outlet c.args.catalog.now c.args.limits c.args.reader.now c.convert_by.new.reader c.args.writer.now c.convert_by.new.writer c.args.target c.convert_by.result kept
+
+pub returns-in_ok-encoder-in-Binary-clause-converted : goal.returns-in_ok-encoder-in-Binary-clause-converted
+returns-in_ok-encoder-in-Binary-clause-converted g c =
+    let under : c.in_ok-items.items.catalog.now ≡ c.args.catalog.now = search rules in
+    let within : c.in_ok-items.items.limits ≡ c.args.limits = search rules in
+    rw (c.in-Binary.is, ← under, ← within) c.convert_by.ensures.converted
+
+pub returns-in_err-encoder-in-Binary-clause-so_far : goal.returns-in_err-encoder-in-Binary-clause-so_far
+returns-in_err-encoder-in-Binary-clause-so_far g c =
+    on_err c.from_residual-in_err-encoder-in-Binary.result _ (at_start (Front-none g.W.Outlet.took g.W.Outlet.written c.args.writer.now []))
+
+pub returns-in-Text-clause-same : goal.returns-in-Text-clause-same
+returns-in-Text-clause-same g c =
+    let under : c.in_ok-items.items.catalog.now ≡ c.args.catalog.now = search rules in
+    let within : c.in_ok-items.items.limits ≡ c.args.limits = search rules in
+    let kept : IfOk c.convert_items.result (WritesKept g.R.Inlet g.W.Outlet (encoding_of c.args.target) (documents c.args.catalog.now c.args.limits) c.args.reader.now c.convert_items.new.reader c.args.writer.now c.convert_items.new.writer) =
+    rw (c.in-Text.is, ← under, ← within) c.convert_items.ensures.kept in
+    keeps_if g.R.Inlet g.W.Outlet c.args.catalog.now c.args.limits c.args.reader.now c.convert_items.new.reader c.args.writer.now c.convert_items.new.writer c.args.target c.convert_items.result kept
+
+pub returns-in-Text-clause-converted : goal.returns-in-Text-clause-converted
+returns-in-Text-clause-converted g c =
+    let under : c.in_ok-items.items.catalog.now ≡ c.args.catalog.now = search rules in
+    let within : c.in_ok-items.items.limits ≡ c.args.limits = search rules in
+    rw (c.in-Text.is, ← under, ← within) c.convert_items.ensures.converted
+
+pub returns-in_ok-encoder-in-Binary-clause-cause : goal.returns-in_ok-encoder-in-Binary-clause-cause
+returns-in_ok-encoder-in-Binary-clause-cause g c =
+    let under : c.in_ok-items.items.catalog.now ≡ c.args.catalog.now = search rules in
+    let within : c.in_ok-items.items.limits ≡ c.args.limits = search rules in
+    let few : c.reads-reads.result ≡ c.in_ok-items.items.limits.reads = search rules in
+    let cause = rw few at c.convert_by.ensures.cause in
+    rw (c.in-Binary.is, ← under, ← within) cause

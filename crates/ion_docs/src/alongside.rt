@@ -1,0 +1,18 @@
+//! Two documents of either encoding side by side.
+use crate::doc_reader::DocReader;
+use ion_streams::Alike;
+use ion_symtab::Items;
+
+/// Values of two binary documents are seen to be the same where they lie.
+pub(crate) struct SideBySide;
+
+impl<'a> Alike<DocReader<'a>, DocReader<'a>> for SideBySide {
+    fn pass(
+        left: &mut DocReader<'a>,
+        piece: &[u8],
+        right: &mut DocReader<'a>,
+        beside: &[u8],
+    ) -> Option<(usize, usize)> {
+        left.pass_alike(piece, right, beside)
+    }
+}

@@ -1,0 +1,46 @@
+use Rattle.std.proofs.Common.{◌≡◌, [], arith, refl, ap, ◌∙◌}
+use Rattle.ion_streams.proofs.Pieces.{between_nil}
+use Rattle.ion_streams.proofs.Steps.{reads_begun, ready_begun, within_begun}
+use Rattle.ion_streams.proofs.Passes.{ok_by, err_by}
+use Rattle.ion_streams.proofs.comparison.compare_by.Goals as goal
+
+pub compare_places-verdict-requires : goal.compare_places-verdict-requires
+compare_places-verdict-requires g c =
+    let left = c.in_ok-left_source.left_source in
+    let right = c.in_ok-right_source.right_source in
+    let l = c.in_ok-left_source.ensures in
+    let r = c.in_ok-right_source.ensures in
+    let left_pending : g.I.Items.pending left.items ≡ 0 = ap (λ x. g.I.Items.pending x) l.items ∙ c.requires.left.owes in
+    let right_pending : g.J.Items.pending right.items ≡ 0 = ap (λ x. g.J.Items.pending x) r.items ∙ c.requires.right.owes in
+    record {
+      begun = refl;
+      left = ready_begun g.I.Items left c.args.left_items (g.met.I.Items.counted c.args.left_items [] [] c.requires.left.stood) c.requires.left.awaited l.items l.nothing l.piece (omega (arith, l.reads));
+      right = ready_begun g.J.Items right c.args.right_items (g.met.J.Items.counted c.args.right_items [] [] c.requires.right.stood) c.requires.right.awaited r.items r.nothing r.piece (omega (arith, r.reads));
+      opened = tt;
+      few = omega (arith, left_pending, right_pending, l.reads, l.nothing.0, l.nothing.1, r.reads, r.nothing.0, r.nothing.1);
+    }
+
+pub returns-clause-verdict : goal.returns-clause-verdict
+returns-clause-verdict g c =
+    let left = c.in_ok-left_source.left_source in
+    let right = c.in_ok-right_source.right_source in
+    let l = c.in_ok-left_source.ensures in
+    let r = c.in_ok-right_source.ensures in
+    let left_begun = reads_begun g.L.Inlet g.I.Items c.args.left.now left c.args.left_items c.requires.left.stood l.items (between_nil left.piece.items left.at left.end (omega (arith, l.nothing.0, l.nothing.1))) in
+    let right_begun = reads_begun g.R.Inlet g.J.Items c.args.right.now right c.args.right_items c.requires.right.stood r.items (between_nil right.piece.items right.at right.end (omega (arith, r.nothing.0, r.nothing.1))) in
+    ok_by c.compare_places-verdict.result _ _ (λ verdict h. h _ _ _ _ left_begun right_begun) c.compare_places-verdict.ensures.verdict
+
+pub returns-clause-cause : goal.returns-clause-cause
+returns-clause-cause g c =
+    let left_begun = within_begun g.L.Inlet c.args.left.now c.in_ok-left_source.left_source c.args.reads c.in_ok-left_source.ensures.reads in
+    let right_begun = within_begun g.R.Inlet c.args.right.now c.in_ok-right_source.right_source c.args.reads c.in_ok-right_source.ensures.reads in
+    err_by c.compare_places-verdict.result _ _ (λ fault h. h c.args.reads left_begun right_begun) c.compare_places-verdict.ensures.cause
+
+pub returns-clause-few_calls : goal.returns-clause-few_calls
+returns-clause-few_calls g c =
+    let few = c.compare_places-verdict.ensures.few_calls in
+    let l = c.in_ok-left_source.ensures.reads in
+    let r = c.in_ok-right_source.ensures.reads in
+    let left = few.0 in
+    let right = few.1 in
+    (omega (arith, left, l), omega (arith, right, r))

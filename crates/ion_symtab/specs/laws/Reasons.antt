@@ -1,0 +1,132 @@
+-- Ids and symbol tables are refused for no other reasons.
+use Rattle.std.proofs.Common.{ℕ, ◌+◌, ◌-◌, List, [], ◌∷◌, length, Result, Ok, Err, Option, Some, None, Bool, true, false, cond, nat_le, ◌==◌, slice_get, codes, map}
+use Rattle.std.specs.Prelude.{IfErr}
+use Rattle.ion_model.specs.declared.value.Value.{Value}
+use Rattle.ion_model.specs.declared.value.Field.{Field}
+use Rattle.ion_model.specs.declared.value.Payload.TheOpen.{Payload-F}
+use Rattle.ion_model.specs.declared.value.Payload.TheViews.{out-Payload}
+use Rattle.ion_atoms.specs.declared.refusal.Reason.{Reason}
+use Rattle.ion_atoms.specs.declared.refusal.Reason.TheVariants.{RepeatedField}
+use Rattle.ion_model.specs.Measures.{Layer}
+use Rattle.ion_symtab.specs.Reasons.{IsIdReason, IsTableReason, IsSharedReason}
+use Rattle.ion_symtab.specs.Slots.{Slot, text, unknown, gap, resolve, slot_symbol, symbol_at, greatest_id}
+use Rattle.ion_symtab.specs.Fields.{only, at_most_one, values_of, payload_of, table_name, version_of, count_of, symbol_of, elements}
+use Rattle.ion_symtab.specs.Tables.{Table, find, newest, is_usable}
+use Rattle.ion_symtab.specs.Next.{and_then, joined, Import, import_slots, chosen, instead, import_named, import_of, element_import, import_added, element_added, imported, local_slots, base, extended, next_fields, next_layer, next}
+use Rattle.ion_symtab.specs.Shared.{is_shared, imports_any, described, shared_fields, shared_layer, shared_table}
+
+pub either : {A : Type 0} (P : A → Type 0) (b : Bool) (x y : A) → P x → P y → P (cond b x y)
+either P true x y p q = p
+either P false x y p q = q
+
+module _ (P : Reason → Type 0) where
+  if_fails : {A : Type 0} (b : Bool) (x y : Result A Reason) → IfErr x P → IfErr y P → IfErr (cond b x y) P
+  if_fails b x y p q = either (λ r. IfErr r P) b x y p q
+
+  and_then_fails : {A B : Type 0} (r : Result A Reason) (f : A → Result B Reason) → IfErr r P → ((x : A) → IfErr (f x) P) → IfErr (and_then r f) P
+  and_then_fails (Ok x) f p q = q x
+  and_then_fails (Err e) f p q = p
+
+  at_most_fails : P RepeatedField → (vs : List Value) → IfErr (at_most_one vs) P
+  at_most_fails p [] = tt
+  at_most_fails p (v ∷ []) = tt
+  at_most_fails p (v ∷ w ∷ vs) = p
+
+  -- what follows a field that may stand once
+  field_fails : {B : Type 0} → P RepeatedField → (name : List ℕ) (fields : List Field) (f : Option Value → Result B Reason) → ((o : Option Value) → IfErr (f o) P)
+      → IfErr (and_then (only name fields) f) P
+  field_fails p name fields f = and_then_fails (only name fields) f (at_most_fails p (values_of name fields))
+
+-- ids
+
+slot_fails : (slot : Slot) → IfErr (slot_symbol slot) IsIdReason
+slot_fails (text t) = tt
+slot_fails unknown = tt
+slot_fails gap = tt
+
+at_fails : (slot : Option Slot) → IfErr (symbol_at slot) IsIdReason
+at_fails None = tt
+at_fails (Some slot) = slot_fails slot
+
+pub resolve_fails : (c : List Slot) (id : ℕ) → IfErr (resolve c id) IsIdReason
+unfolding resolve
+resolve_fails c id = if_fails IsIdReason (id == 0) (Ok None) (symbol_at (slice_get c (id - 1))) tt (at_fails (slice_get c (id - 1)))
+
+-- local symbol tables
+
+instead_fails : (t : Option Table) (n : Option ℕ) → IfErr (instead t n) IsTableReason
+instead_fails (Some t) (Some n) = tt
+instead_fails (Some t) None = tt
+instead_fails None n = tt
+
+chosen_fails : (t newest : Option Table) (n : Option ℕ) → IfErr (chosen t newest n) IsTableReason
+chosen_fails (Some t) newest n = tt
+chosen_fails None newest n = instead_fails newest n
+
+named_fails : (tables : List Table) (name : Option (List ℕ)) (version : ℕ) (n : Option ℕ) → IfErr (import_named tables name version n) IsTableReason
+named_fails tables None version n = tt
+named_fails tables (Some name) version n = chosen_fails (find tables name version) (newest tables name) n
+
+import_fails : (tables : List Table) (fields : List Field) → IfErr (import_of tables fields) IsTableReason
+import_fails tables fields =
+    field_fails IsTableReason tt (codes "name") fields _ (λ name.
+    field_fails IsTableReason tt (codes "version") fields _ (λ version.
+    field_fails IsTableReason tt (codes "max_id") fields _ (λ max_id.
+    named_fails tables (table_name name) (version_of version) (count_of max_id))))
+
+element_fails : (tables : List Table) (d : Layer) → IfErr (element_import tables d) IsTableReason
+element_fails tables (Payload-F.Fields fields) = import_fails tables fields
+element_fails tables _ = tt
+
+joined_fails : (slots more : List Slot) → IfErr (joined slots more) IsTableReason
+joined_fails slots more = if_fails IsTableReason (nat_le (length slots + length more) greatest_id) _ _ tt tt
+
+added_fails : (slots : List Slot) (import : Option Import) → IfErr (import_added slots import) IsTableReason
+added_fails slots None = tt
+added_fails slots (Some import) = joined_fails slots (import_slots import)
+
+imported_fails : (tables : List Table) (slots : List Slot) (vs : List Value) → IfErr (imported tables slots vs) IsTableReason
+imported_fails tables slots [] = tt
+imported_fails tables slots (v ∷ vs) =
+    and_then_fails IsTableReason (element_added tables slots v) _
+    (and_then_fails IsTableReason (element_import tables (out-Payload v.payload)) _ (element_fails tables (out-Payload v.payload)) (added_fails slots))
+    (λ more. imported_fails tables more vs)
+
+extended_fails : (tables : List Table) (slots : List Slot) (imports symbols : Option Value) → IfErr (extended tables slots imports symbols) IsTableReason
+extended_fails tables slots imports symbols =
+    and_then_fails IsTableReason (imported tables slots (elements imports)) _ (imported_fails tables slots (elements imports)) (λ more. joined_fails more (local_slots symbols))
+
+fields_fail : (slots : List Slot) (fields : List Field) (tables : List Table) → IfErr (next_fields slots fields tables) IsTableReason
+fields_fail slots fields tables =
+    field_fails IsTableReason tt (codes "imports") fields _ (λ imports.
+    field_fails IsTableReason tt (codes "symbols") fields _ (λ symbols.
+    extended_fails tables (base slots imports) imports symbols))
+
+layer_fails : (slots : List Slot) (d : Layer) (tables : List Table) → IfErr (next_layer slots d tables) IsTableReason
+layer_fails slots (Payload-F.Fields fields) tables = fields_fail slots fields tables
+layer_fails slots _ tables = tt
+
+pub next_fails : (slots : List Slot) (v : Value) (tables : List Table) → IfErr (next slots v tables) IsTableReason
+unfolding next
+next_fails slots v tables = layer_fails slots (out-Payload v.payload) tables
+
+-- shared symbol tables
+
+described_fails : (name : Option (List ℕ)) (version : ℕ) (symbols : List (Option (List ℕ))) → IfErr (described name version symbols) IsSharedReason
+described_fails None version symbols = tt
+described_fails (Some name) version symbols = if_fails IsSharedReason (is_usable name version symbols) _ _ tt tt
+
+shared_fields_fail : (fields : List Field) → IfErr (shared_fields fields) IsSharedReason
+shared_fields_fail fields =
+    field_fails IsSharedReason tt (codes "name") fields _ (λ name.
+    field_fails IsSharedReason tt (codes "version") fields _ (λ version.
+    field_fails IsSharedReason tt (codes "symbols") fields _ (λ symbols.
+    field_fails IsSharedReason tt (codes "imports") fields _ (λ imports.
+    if_fails IsSharedReason (imports_any (payload_of imports)) _ _ tt (described_fails (table_name name) (version_of version) (map symbol_of (elements symbols)))))))
+
+shared_layer_fails : (d : Layer) → IfErr (shared_layer d) IsSharedReason
+shared_layer_fails (Payload-F.Fields fields) = shared_fields_fail fields
+shared_layer_fails _ = tt
+
+pub shared_fails : (v : Value) → IfErr (shared_table v) IsSharedReason
+shared_fails v = if_fails IsSharedReason (is_shared v.annotations) _ _ (shared_layer_fails (out-Payload v.payload)) tt

@@ -1,0 +1,33 @@
+#!/bin/sh
+# install.sh PREFIX [PROGRAM]: copies the built program (usually crates/ion_cmd/out/ion_cmd) to PREFIX/bin, with the scripts of
+# this folder, the manual page and the completions for bash and zsh to PREFIX/share. It says what to add to PATH where
+# PREFIX/bin isn't on it; it needs no rights but those to write there, and changes nothing else.
+set -eu
+[ $# -eq 1 ] || [ $# -eq 2 ] || { echo 'usage: install.sh PREFIX [PROGRAM]' >&2; exit 3; }
+tools=$(cd "$(dirname "$0")" && pwd)
+prefix=$1 program=${2-$tools/../crates/ion_cmd/out/ion_cmd}
+case $prefix in /*) ;; *) prefix=$PWD/$prefix ;; esac
+case $program in /*) ;; *) program=$PWD/$program ;; esac
+if ! [ -x "$program" ] || [ -d "$program" ]; then
+    printf 'install.sh: no program %s; build it first (README.md, "Install")\n' "$program" >&2
+    exit 4
+fi
+# put MODE FOLDER FILE [NAME]
+put() {
+    mkdir -p "$prefix/$2"
+    install -m "$1" "$3" "$prefix/$2/${4-${3##*/}}"
+}
+put 755 bin "$program" ion_cmd
+for script in ion_where ion_check_all ion_compare_trees ion_conformance ion_at ion_to ion_textconv ion_merge \
+    ion_floats_to_decimals check_list compare_list; do
+    put 755 bin "$tools/$script"
+done
+put 644 bin "$tools/ion_lines.py"
+put 644 share/man/man1 "$tools/../docs/ion_cmd.1"
+put 644 share/bash-completion/completions "$tools/completion/ion_cmd.bash" ion_cmd
+put 644 share/zsh/site-functions "$tools/completion/_ion_cmd"
+printf 'installed in %s: bin/ion_cmd, its scripts, the manual page and the completions\n' "$prefix"
+case :$PATH: in
+*:"$prefix/bin":*) ;;
+*) printf 'add it to PATH: export PATH="%s/bin:$PATH"\n' "$prefix" ;;
+esac
