@@ -1,9 +1,11 @@
 -- What is so behind a step.
-use Rattle.std.proofs.Common.{◌≡◌, ℕ, ◌+◌, List, [], ◌∷◌, ◌++◌, length, take, drop, ap, sym, subst, ◌∙◌, arith, Result, Ok, Err, Option, Some, None, IfOk, IfSome, length-append, append-nil, append_assoc}
+use Rattle.std.proofs.Common.{◌≡◌, ℕ, ◌+◌, ◌<◌, ◌≤◌, List, [], ◌∷◌, ◌++◌, length, take, drop, ap, sym, subst, ◌∙◌, arith, Result, Ok, Err, Option, Some, None, IfOk, IfErr, IfSome, length-append, append-nil, append_assoc}
+use Rattle.std.specs.Prelude.{◌≢◌, IsNone}
 use Rattle.std.proofs.lemmas.Grind.{common_steps}
 use Rattle.std.proofs.lemmas.List.{length-take-le, take-append-drop}
 use Rattle.ion_model.specs.declared.value.Value.{Value}
 use Rattle.ion_atoms.specs.declared.refusal.Refusal.{Refusal}
+use Rattle.ion_atoms.specs.declared.refusal.Reason.TheVariants.{Memory}
 use Rattle.ion_symtab.specs.Trace.{Answers, given_at}
 use Rattle.ion_symtab.specs.declared.items.Step.{Step}
 use Rattle.ion_symtab.specs.declared.limits.Limits.{Limits}
@@ -13,6 +15,7 @@ use Rattle.ion_binary.specs.machine.EachOctet.{Machine, initial}
 use Rattle.ion_binary.specs.machine.Run.{Run, run, trace, trace_of, Advances}
 use Rattle.ion_binary.specs.machine.Pieces.{run-append, then_run}
 use Rattle.ion_binary.specs.laws.reading.Promises.{grows}
+use Rattle.ion_binary.specs.laws.reading.Stops.{stop_of}
 use Rattle.ion_binary.specs.machine.Views.{machine_of, run_of, Stands, SameSetting}
 
 -- behind u the values s were given, and the machine is m
@@ -61,6 +64,21 @@ answers g l to u s m n piece (Err refusal) e ran advances = λ other.
     let after = ap trace_of (run_further g l to u piece s m e ran ∙ ap (λ r. record { given = s ++ r.given; now = r.now }) (advances other)) in
     (ap (λ t. t.given) after ∙ append-nil s, ap (λ t. t.refused) after)
 
+-- a run is refused at one of its octets
+run_within : (g : Catalog) (l : Limits) (to : ℕ) (m : Machine) (w : List ℕ) (r : Refusal) → (run g l to m w).now ≡ Err r → (to < r.offset) × (r.offset ≤ to + length w)
+run_within g l to m w r e =
+    let p = stop_of g l to m w r e in
+    let o = p.offset in
+    let n : length w ≡ length (p.before ++ p.b ∷ p.rest) = ap length p.parts in
+    let k = length-append p.before (p.b ∷ p.rest) in
+    (omega arith, omega arith)
+
+-- a step is refused at an octet of its piece
+pub step_within : (old : BinaryReader) (n : Machine) (piece : List ℕ) (result : Result Step Refusal) → Advances old.used (run_of old) piece result n →
+    IfErr result (λ refusal. refusal.reason ≢ Memory → IsNone old.failed → (old.used < refusal.offset) × (refusal.offset ≤ old.used + length piece))
+step_within old n piece (Ok step) advances = tt
+step_within old n piece (Err refusal) advances = λ other none. run_within old.catalog.now old.limits old.used (machine_of old) piece refusal (ap (λ (x : Run). x.now) (advances other))
+
 -- a step of a reader that stands for u answers what the trace says
 pub step_answers : (old : BinaryReader) (n : Machine) (u : List ℕ) (s : List (Value × ℕ)) (piece : List ℕ) (result : Result Step Refusal) → Stands old u s →
     Advances old.used (run old.catalog.now old.limits old.used (machine_of old)) piece result n → Answers (trace old.catalog.now old.limits) u s piece result
@@ -84,16 +102,32 @@ step_stands old new piece (Ok step) advances counts setting = λ u s h.
           (ran_further old.catalog.now old.limits old.used u s (machine_of old) (machine_of new) piece step.used step.value h.counted h.ran advances));
     }
 
--- two readers stand for the octets of a value that each took up, too
-pub both_stand : (old new other later : BinaryReader) (piece beside : List ℕ) (r : Option (ℕ × ℕ)) →
+-- a reader took up so many octets at the front of a piece, and the last of them ended this value
+pub record Passed (old new : BinaryReader) (piece : List ℕ) (used : ℕ) (v : Value) : Type 0 where
+  pub within : used ≤ length piece
+  pub some : 0 < used
+  pub counts : new.used ≡ old.used + used
+  pub setting : SameSetting old new
+  pub stands : (u : List ℕ) (s : List (Value × ℕ)) → Stands old u s → Stands new (u ++ take used piece) (s ++ (v, length u + used) ∷ [])
+
+passed : (old new : BinaryReader) (piece : List ℕ) (used : ℕ) (v : Value) → Advances old.used (run_of old) piece (Ok (record { used = used; value = Some v })) (machine_of new) → new.used ≡ old.used + used → SameSetting old new → Passed old new piece used v
+passed old new piece used v advances counts setting = record {
+  within = advances.0;
+  some = advances.1.0;
+  counts = counts;
+  setting = setting;
+  stands = step_stands old new piece (Ok (record { used = used; value = Some v })) advances counts setting;
+}
+
+-- two readers took up a value each
+pub both_passed : (old new other later : BinaryReader) (piece beside : List ℕ) (r : Option (ℕ × ℕ)) →
     IfSome r (λ n. (v : Value) × Advances old.used (run_of old) piece (Ok (record { used = n.0; value = Some v })) (machine_of new)
     × Advances other.used (run_of other) beside (Ok (record { used = n.1; value = Some v })) (machine_of later)) →
     IfSome r (λ n. new.used ≡ old.used + n.0) → IfSome r (λ n. later.used ≡ other.used + n.1) → SameSetting old new → SameSetting other later →
-    IfSome r (λ n. (v : Value) × ((u : List ℕ) (s : List (Value × ℕ)) → Stands old u s → Stands new (u ++ take n.0 piece) (s ++ (v, length u + n.0) ∷ []))
-    × ((u : List ℕ) (s : List (Value × ℕ)) → Stands other u s → Stands later (u ++ take n.1 beside) (s ++ (v, length u + n.1) ∷ [])))
-both_stand old new other later piece beside None gives used other_used setting other_setting = tt
-both_stand old new other later piece beside (Some n) gives used other_used setting other_setting = (
+    IfSome r (λ n. (v : Value) × Passed old new piece n.0 v × Passed other later beside n.1 v)
+both_passed old new other later piece beside None gives used other_used setting other_setting = tt
+both_passed old new other later piece beside (Some n) gives used other_used setting other_setting = (
   gives.0,
-  step_stands old new piece (Ok (record { used = n.0; value = Some gives.0 })) gives.1 used setting,
-  step_stands other later beside (Ok (record { used = n.1; value = Some gives.0 })) gives.2 other_used other_setting,
+  passed old new piece n.0 gives.0 gives.1 used setting,
+  passed other later beside n.1 gives.0 gives.2 other_used other_setting,
 )

@@ -3,12 +3,14 @@ ghost use Rattle.std.specs.Prelude.{◌↔◌, ℕ, List};
 ghost use Rattle.ion_model.specs.declared.value.Value.{Value};
 ghost use Rattle.ion_atoms.specs.Octets.{AreOctets};
 ghost use Rattle.ion_model.specs.Kept.{AreKept};
+ghost use Rattle.ion_model.specs.Measures.{nodes};
 ghost use Rattle.ion_symtab.specs.declared.limits.Limits.{Limits};
+ghost use Rattle.ion_symtab.specs.Slots.{Slot};
 ghost use Rattle.ion_symtab.specs.Tables.{Table};
 ghost use Rattle.ion_symtab.specs.Promises.{NoTables};
 ghost use Rattle.ion_symtab.specs.laws.ContextTexts.{AreTextTables};
 ghost use Rattle.ion_binary.specs.declared.form.Form.{Form};
-ghost use Rattle.ion_binary.specs.Grammar.{Document, Header};
+ghost use Rattle.ion_binary.specs.Grammar.{Binary, Document, Header};
 ghost use Rattle.ion_binary.specs.HeaderRows.{IsHeader};
 ghost use Rattle.ion_binary.specs.Output.{bin_of};
 ghost use Rattle.std.specs.Prelude.{◌≡◌, ◌≤◌, length, take, Some, None, Err};
@@ -43,4 +45,9 @@ pub fn refusals()
         Decides g l (take k u) e → (r : Refusal) × ((trace g l u).refused ≡ Some r) × (r.offset ≡ k) }
     ensures ends { (g : List Table) (l : Limits) (u : List ℕ) (r : Refusal) → (trace g l u).refused ≡ None →
         (trace g l u).ends ≡ Err r → r ≡ record { offset = length u; reason = Incomplete } }
+{}
+
+/// A value has at most as many nodes as octets.
+pub fn values_are_small()
+    ensures { (c : List Slot) (w : List ℕ) (v : Value) → Binary c w v → nodes v ≤ length w }
 {}

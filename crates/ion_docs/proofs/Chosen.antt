@@ -1,5 +1,5 @@
 -- A call handed on to the reader that was chosen.
-use Rattle.std.proofs.Common.{◌≡◌, ℕ, ◌+◌, ◌*◌, ◌<◌, zero, suc, Bool, true, false, List, [], ◌∷◌, ◌++◌, length, take, ap, ◌∙◌, sym, refl, subst, arith, eq-eqb, ne_eqb, Result, Ok, Err, Option, Some, None, option_map, IfOk, IfErr, IfSome, IsSome, slice_get}
+use Rattle.std.proofs.Common.{◌≡◌, ℕ, ◌+◌, ◌*◌, ◌<◌, zero, suc, Bool, true, false, List, [], ◌∷◌, ◌++◌, length, take, ap, ◌∙◌, sym, refl, subst, arith, eq-eqb, ne_eqb, Result, Ok, Err, Option, Some, None, option_map, IfOk, IfErr, IsSome, slice_get}
 use Rattle.ion_model.specs.declared.value.Value.{Value}
 use Rattle.ion_atoms.specs.declared.refusal.Refusal.{Refusal}
 use Rattle.ion_symtab.specs.Trace.{Trace, Answers, Finishes, UsesAll, given_at}
@@ -143,23 +143,3 @@ pub first_used : (b : Bool) (piece : List ℕ) (result : Result Step Refusal) (p
     IfOk result (λ step. 0 < step.used)
 first_used b piece (Ok step) pending none begins all new progress = some_used b piece step.used step.value begins all (λ some. let h = progress some in omega (arith, h, none))
 first_used b piece (Err refusal) pending none begins all new progress = tt
-
--- 3. Two readers that were chosen before, and gave one value.
-module _ (d e : DocReader) (b : Bool) (limits other_limits : Limits) (catalog other_catalog : Catalog) (Old Other : List ℕ → List (Value × ℕ) → Type 0)
-    (stood : (u : List ℕ) (s : List (Value × ℕ)) → DocStands d u s → Handed d b limits catalog (Old u s) u) (other_stood : (u : List ℕ) (s : List (Value × ℕ)) → DocStands e u s → Handed e b other_limits other_catalog (Other u s) u) where
-  pub forward_alike : (more other_more : Limits) (now other_now : Catalog) (New Later : List ℕ → List (Value × ℕ) → Type 0) (piece beside : List ℕ) (result : Option (ℕ × ℕ)) →
-      IfSome result (λ used. (value : Value) × ((u : List ℕ) (s : List (Value × ℕ)) → Old u s → New (u ++ take used.0 piece) (s ++ (value, length u + used.0) ∷ []))
-      × ((u : List ℕ) (s : List (Value × ℕ)) → Other u s → Later (u ++ take used.1 beside) (s ++ (value, length u + used.1) ∷ []))) →
-      more ≡ limits → other_more ≡ other_limits → now ≡ catalog → other_now ≡ other_catalog →
-      IfSome result (λ used. (value : Value) × ((u : List ℕ) (s : List (Value × ℕ)) → DocStands d u s → Handed d b more now (New (u ++ take used.0 piece) (s ++ (value, length u + used.0) ∷ [])) (u ++ take used.0 piece))
-      × ((u : List ℕ) (s : List (Value × ℕ)) → DocStands e u s → Handed e b other_more other_now (Later (u ++ take used.1 beside) (s ++ (value, length u + used.1) ∷ [])) (u ++ take used.1 beside)))
-  forward_alike more other_more now other_now New Later piece beside None gives within other_within under other_under = tt
-  forward_alike more other_more now other_now New Later piece beside (Some used) gives within other_within under other_under = (
-    gives.0,
-    λ u s stands.
-        let h = stood u s stands in
-        (gives.1 u s h.0, begins_on b u (take used.0 piece) h.1, within ∙ h.2, under ∙ h.3),
-    λ u s stands.
-        let h = other_stood u s stands in
-        (gives.2 u s h.0, begins_on b u (take used.1 beside) h.1, other_within ∙ h.2, other_under ∙ h.3),
-  )

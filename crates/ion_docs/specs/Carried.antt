@@ -1,22 +1,11 @@
 -- A value that is carried from a reader to an encoder without being built.
-use Rattle.std.specs.Prelude.{◌≡◌, ℕ, ◌+◌, ◌*◌, ◌<◌, ◌≤◌, List, [], ◌∷◌, ◌++◌, length, take, IsNone, Result, OnOk, OnErr, IfErr}
+use Rattle.std.specs.Prelude.{List, [], ◌∷◌, ◌++◌, Result, OnOk, OnErr, IfErr}
 use Rattle.ion_model.specs.declared.value.Value.{Value}
 use Rattle.ion_model.specs.Kept.{IsKept}
 use Rattle.ion_symtab.specs.declared.fault.Fault.{Fault}
-use Rattle.ion_symtab.specs.declared.items.Items.{Ghosts as Items}
 use Rattle.ion_symtab.specs.declared.outlet.Outlet.{Ghosts as Outlet}
 use Rattle.ion_docs.specs.declared.writers.Encoder.{Ghosts as Encoder}
 use Rattle.ion_docs.specs.Encodings.{TookBehind, TookSomeBehind, IsPuttingFault}
-
--- the reader took up so many octets of a piece, and the last of them ended this value
-pub record TookUp {X : Type 0} (I : Items X) (old new : X) (piece : List ℕ) (used : ℕ) (v : Value) : Type 0 where
-  pub within : used ≤ length piece
-  pub catalog : I.catalog new ≡ I.catalog old
-  pub limits : I.limits new ≡ I.limits old
-  pub counts : I.taken new ≡ I.taken old + used
-  pub progress : I.pending new < I.pending old + 2 * used
-  pub awaited : IsNone (I.awaits new)
-  pub stands : (u : List ℕ) (s : List (Value × ℕ)) → I.stands old u s → I.stands new (u ++ take used piece) (s ++ (v, length u + used) ∷ [])
 
 -- the encoder put this value, with this answer, as `Encoder::put` does
 pub record PutValue {X T : Type 0} (E : Encoder X) (W : Outlet T) (old new : X) (before now : T) (v : Value) (answer : Result (Unit {0}) Fault) : Type 0 where

@@ -1,7 +1,6 @@
 //! Two documents of either encoding side by side.
-use crate::doc_reader::DocReader;
+use crate::doc_reader::{DocReader, Format};
 use ion_streams::Alike;
-use ion_symtab::Items;
 
 /// Values of two binary documents are seen to be the same where they lie.
 pub(crate) struct SideBySide;
@@ -13,6 +12,11 @@ impl<'a> Alike<DocReader<'a>, DocReader<'a>> for SideBySide {
         right: &mut DocReader<'a>,
         beside: &[u8],
     ) -> Option<(usize, usize)> {
-        left.pass_alike(piece, right, beside)
+        match (&mut left.format, &mut right.format) {
+            (Format::Binary(reader), Format::Binary(other)) => {
+                reader.pass_alike(piece, other, beside)
+            }
+            _ => None,
+        }
     }
 }

@@ -3,7 +3,8 @@ ghost use Rattle.std.specs.Prelude.{◌≡◌, ◌+◌, ◌<◌, ◌^◌, length
 ghost use Rattle.ion_model.specs.declared.value.Value.{Value};
 ghost use Rattle.ion_streams.specs.reading.Alongside.{WentPast};
 ghost use Rattle.ion_streams.specs.reading.Read.{IsReady};
-ghost use Rattle.ion_docs.specs.Carried.{TookUp, PutValue};
+ghost use Rattle.ion_symtab.specs.TookUp.{TookUp};
+ghost use Rattle.ion_docs.specs.Carried.{PutValue};
 
 use crate::doc_reader::DocReader;
 use crate::writers::Encoder;

@@ -1,5 +1,5 @@
 //! The reader that the first octet chooses.
-ghost use Rattle.std.specs.Prelude.{◌≡◌, ℕ, ◌+◌, ◌*◌, ◌^◌, ◌<◌, ◌≤◌, List, [], ◌∷◌, ◌++◌, length, take, drop, IfOk, IfErr, IfSome, IsNone, IsSome, None, Some};
+ghost use Rattle.std.specs.Prelude.{◌≡◌, ◌≢◌, ℕ, ◌+◌, ◌*◌, ◌^◌, ◌<◌, ◌≤◌, List, [], ◌∷◌, ◌++◌, length, take, drop, IfOk, IfErr, IfSome, IsNone, IsSome, None, Some};
 ghost use Rattle.ion_symtab.specs.Trace.{Answers, UsesAll, given_at};
 ghost use Rattle.ion_docs.specs.reading.Chosen.{chosen};
 ghost use Rattle.ion_docs.specs.reading.DocStands.{DocStands, taken_of, failed_of, awaits_of, pending_of};
@@ -7,7 +7,7 @@ ghost use Rattle.ion_atoms.specs.declared.refusal.Reason.TheVariants.{Memory};
 ghost use Rattle.ion_model.specs.declared.value.Value.{Value as AnyValue};
 ghost use Rattle.ion_model.specs.Kept.{IsKept};
 ghost use Rattle.ion_binary.specs.Carrying.{WritesValue};
-ghost use Rattle.ion_docs.specs.Carried.{TookUp};
+ghost use Rattle.ion_symtab.specs.TookUp.{TookUp};
 
 use ion_binary::{BinaryReader, BinaryWriter, Carried};
 use ion_model::{Reason, Refusal, Value};
@@ -23,7 +23,7 @@ const BINARY: u8 = 0xE0;
 
 /// What the octets so far are read as.
 #[derive(Drop)]
-enum Format<'a> {
+pub(crate) enum Format<'a> {
     /// No octet has come.
     Unbegun,
     Refused(Refusal),
@@ -38,7 +38,7 @@ pub struct DocReader<'a> {
     alloc: Global,
     catalog: &'a Catalog,
     limits: Limits,
-    format: Format<'a>,
+    pub(crate) format: Format<'a>,
 }
 
 impl Debug for DocReader<'_> {
@@ -106,6 +106,8 @@ impl<'a> DocReader<'a> {
         ensures not_failed { IfOk result (λ step. failed_of self.new.format ≡ None) }
         ensures awaited { IfOk result (λ step. IfSome (awaits_of self.new.format) (λ octet.
             (rest : List ℕ) × (drop step.used piece.now ≡ octet ∷ rest))) }
+        ensures within { IfErr result (λ refusal. refusal.reason ≢ Memory →
+            (0 < refusal.offset) × (refusal.offset ≤ length piece.now)) }
         ensures memory { IfErr result (λ refusal. refusal.reason ≡ Memory → refusal.offset ≡ 0) }
         ensures fails { IfErr result (λ refusal. failed_of self.new.format ≡ Some refusal) }
     {
@@ -162,7 +164,7 @@ impl Items for DocReader<'_> {
     ghost use Rattle.ion_docs.specs.Documents.{Denotes, Pieces, OpenAfter};
     ghost use Rattle.ion_docs.specs.reading.Chosen.{chosen};
     ghost use Rattle.ion_docs.specs.reading.DocStands.{DocStands, taken_of, failed_of, awaits_of, pending_of, kept_of};
-    ghost use Rattle.ion_docs.specs.laws.Documents.{one_document, one_shown, promised};
+    ghost use Rattle.ion_docs.specs.laws.Documents.{one_document, one_shown, promised, document_pieces, whole_document};
     ghost use Rattle.ion_docs.specs.laws.Readers.{doc_counted, doc_not_failed, doc_not_refused, doc_given, doc_given_next, doc_bounded};
 
     ghost catalog = { λ r. r.catalog.now };
@@ -209,6 +211,12 @@ impl Items for DocReader<'_> {
 
     ghost refused = { λ g l u. (promised g l u).refused };
 
+    ghost decided = { λ g l u. (promised g l u).decided };
+
+    ghost documents_are_pieces = { document_pieces };
+
+    ghost pieces_are_documents = { whole_document };
+
     ghost one_shown = { one_shown };
 
     ghost shown = { λ g l u. (promised g l u).shown };
@@ -238,20 +246,6 @@ impl Items for DocReader<'_> {
                 Err(refusal) => Err(refusal),
                 Ok(step) => Ok(step.passed()),
             },
-        }
-    }
-
-    fn pass_alike(
-        &mut self,
-        piece: &[u8],
-        other: &mut Self,
-        beside: &[u8],
-    ) -> Option<(usize, usize)> {
-        match (&mut self.format, &mut other.format) {
-            (Format::Binary(reader), Format::Binary(other)) => {
-                reader.pass_alike(piece, other, beside)
-            }
-            _ => None,
         }
     }
 

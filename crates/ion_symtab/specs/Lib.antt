@@ -2,6 +2,7 @@ pub mod Limits
 pub mod Told
 pub mod Heard
 pub mod Took
+pub mod TookUp
 pub mod Cause
 pub mod Outcome
 pub mod Slots

@@ -1,5 +1,5 @@
 -- What a reader's trace promises over the documents of its format.
-use Rattle.std.specs.Prelude.{◌≡◌, ◌≢◌, ◌+◌, ◌≤◌, ℕ, List, [], ◌∷◌, ◌++◌, length, take, Some, Ok, Err, false}
+use Rattle.std.specs.Prelude.{◌≡◌, ◌≢◌, ◌+◌, ◌<◌, ◌≤◌, ℕ, List, [], ◌∷◌, ◌++◌, length, take, Some, None, Ok, Err, false}
 use Rattle.ion_atoms.specs.Octets.{AreOctets}
 use Rattle.ion_model.specs.declared.value.Value.{Value}
 use Rattle.ion_model.specs.Kinds.{is_table}
@@ -41,9 +41,22 @@ pub record Refuses (denotes : List ℕ → List Value → Type 0) (pieces : List
   pub whole_memory : r.reason ≢ Memory
   pub before_end : r.reason ≢ Incomplete
 
--- The octets of a value's own item: a span behind the first `from` octets and within the first `at`.
--- It has at most `item` octets, and at least as many as the value has nodes; pads, tables and markers before it aren't in it.
-pub record HasItem (item from at : ℕ) (v : Value) : Type 0 where
+-- The octet that a refusal names decides: the octets up to it are refused so by themselves, and no step refuses fewer of them.
+pub record IsFirst (trace : List ℕ → Trace) (u : List ℕ) (r : Refusal) : Type 0 where
+  pub alone : (trace (take r.offset u)).refused ≡ Some r
+  pub before : (k : ℕ) → k < r.offset → (trace (take k u)).refused ≡ None
+
+-- octets are whole pieces with these values, and behind them what may stand open
+pub record HasPieces (pieces : List ℕ → List ℕ → List Value → Type 0) (open_after : List ℕ → List ℕ → Type 0) (u : List ℕ) (s : List Value) : Type 0 where
+  pub front : List ℕ
+  pub open_rest : List ℕ
+  pub parts : u ≡ front ++ open_rest
+  pub whole : pieces front open_rest s
+  pub rest : open_after front open_rest
+
+-- A span behind the first `from` octets and within the first `at`: of at most `item` octets, and of at least as many as the value has
+-- nodes. It isn't said here which octets of them are the value's own: that these are as many as its nodes is a law of each grammar.
+pub record HasSpan (item from at : ℕ) (v : Value) : Type 0 where
   pub start : ℕ
   pub end : ℕ
   pub behind : from ≤ start
@@ -51,12 +64,14 @@ pub record HasItem (item from at : ℕ) (v : Value) : Type 0 where
   pub fits : end ≤ start + item
   pub holds : start + nodes v ≤ end
 
--- each value's item stands behind the octets used for the values before it, the first `from` octets, and within those used when it came; `to` octets are used in all
+-- each value has its span behind the octets used for the values before it, the first `from` octets, and within those used when it came;
+-- `to` octets are used in all
 abbrev pub Spaced : ℕ → ℕ → List (Value × ℕ) → ℕ → Type 0
 Spaced item from [] to = from ≤ to
-Spaced item from ((v, at) ∷ given) to = HasItem item from at v × Spaced item at given to
+Spaced item from ((v, at) ∷ given) to = HasSpan item from at v × Spaced item at given to
 
--- a value has at most as many nodes as its item has octets, and its item at most `item` octets
+-- between the totals at which a value and the one before it came there are at least as many octets as it has nodes, and it has at most
+-- `item` nodes
 pub record IsSmall (item : ℕ) (u : List ℕ) (t : Trace) : Type 0 where
   pub given : Spaced item 0 t.given (length u)
   pub last : (v : Value) → t.ends ≡ Ok (Some v) → Spaced item 0 (t.given ++ (v, length u) ∷ []) (length u)

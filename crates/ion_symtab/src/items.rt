@@ -1,10 +1,10 @@
 //! What every reader of documents promises.
-ghost use Rattle.std.specs.Prelude.{◌≡◌, ℕ, ◌+◌, ◌*◌, ◌≤◌, ◌<◌, ◌^◌, List, [], ◌∷◌, ◌++◌, length, take, drop, Option, Result, IfOk, IfErr, IfSome, IsNone, IsSome, option_map, true, false, ◌↔◌};
+ghost use Rattle.std.specs.Prelude.{◌≡◌, ◌≢◌, ℕ, ◌+◌, ◌*◌, ◌≤◌, ◌<◌, ◌^◌, List, [], ◌∷◌, ◌++◌, length, take, drop, Option, Result, IfOk, IfErr, IfSome, IsNone, IsSome, option_map, true, false, ◌↔◌};
 ghost use Rattle.ion_model.specs.declared.value.Value.{Value};
 ghost use Rattle.ion_model.specs.Outlines.{outline_of};
 ghost use Rattle.ion_atoms.specs.declared.refusal.Reason.TheVariants.{Memory};
 ghost use Rattle.ion_symtab.specs.Trace.{Trace, Answers, Finishes, UsesAll, Grows, Streams, IsFront, plain, given_at};
-ghost use Rattle.ion_symtab.specs.Promises.{Refuses, Shown, Shows, IsSmall, HasReasons, GivesNoTable};
+ghost use Rattle.ion_symtab.specs.Promises.{Refuses, IsFirst, HasPieces, Shown, Shows, IsSmall, HasReasons, GivesNoTable};
 
 use ion_model::{Outline, Refusal, Value};
 
@@ -109,9 +109,9 @@ pub trait Items: Sized {
     /// Where it answers `Ok`, with a value or without, the octets used so far aren't refused: they
     /// are whole pieces of a document and an open rest (`stands`, `not_refused`, `shown`).
     ///
-    /// Where it refuses at offset n, no document within the limits and under the catalog begins
-    /// with the first n octets of all that were handed in, and the values given are those that these
-    /// n octets show. `Memory` alone says nothing of the octets; its offset is the number of octets
+    /// Where it refuses at offset n, the n-th octet of all that were handed in is one of the piece (`within`),
+    /// no document within the limits and under the catalog begins with the first n octets, and the values
+    /// given are those that these n octets show. `Memory` alone says nothing of the octets; its offset is the number of octets
     /// that earlier steps used. `Incomplete`, `DuplicateTable` and `BadTable` are no refusals of a
     /// step. After a refusal each later call answers that refusal.
     ///
@@ -142,6 +142,9 @@ pub trait Items: Sized {
         ensures not_failed { IfOk result (λ step. failed self.new ≡ Option.None) }
         ensures awaited { IfOk result (λ step. IfSome (awaits self.new) (λ octet.
             (rest : List ℕ) × (drop step.used piece.now ≡ octet ∷ rest))) }
+        ensures within { IfErr result (λ refusal. refusal.reason ≢ Memory →
+            IsNone (failed self.old) → (taken self.old < refusal.offset)
+            × (refusal.offset ≤ taken self.old + length piece.now)) }
         ensures memory { IfErr result (λ refusal. refusal.reason ≡ Memory →
             IsNone (failed self.old) → refusal.offset ≡ taken self.old) }
         ensures fails { IfErr result (λ refusal. failed self.new ≡ Option.Some refusal) }
@@ -174,6 +177,9 @@ pub trait Items: Sized {
         ensures not_failed { IfOk result (λ passed. failed self.new ≡ Option.None) }
         ensures awaited { IfOk result (λ passed. IfSome (awaits self.new) (λ octet.
             (rest : List ℕ) × (drop passed.used piece.now ≡ octet ∷ rest))) }
+        ensures within { IfErr result (λ refusal. refusal.reason ≢ Memory →
+            IsNone (failed self.old) → (taken self.old < refusal.offset)
+            × (refusal.offset ≤ taken self.old + length piece.now)) }
         ensures memory { IfErr result (λ refusal. refusal.reason ≡ Memory →
             IsNone (failed self.old) → refusal.offset ≡ taken self.old) }
         ensures fails { IfErr result (λ refusal. failed self.new ≡ Option.Some refusal) }
@@ -183,35 +189,6 @@ pub trait Items: Sized {
             Err(refusal) => Err(refusal),
             Ok(step) => Ok(step.passed()),
         }
-    }
-
-    /// Takes up a value at the front of this reader's piece and of another reader's, where it lies whole
-    /// in both and is seen to be the same: how many octets of each. The value isn't handed out. `None`,
-    /// with both readers as they were, where that isn't so or isn't seen; a reader needn't see it.
-    fn pass_alike(
-        &mut self,
-        piece: &[u8],
-        other: &mut Self,
-        beside: &[u8],
-    ) -> Option<(usize, usize)>
-        requires room { taken self.old + length piece.now < 2 ^ 63 }
-        requires other_room { taken other.old + length beside.now < 2 ^ 63 }
-        ensures catalogs { (catalog self.new ≡ catalog self.old) × (catalog other.new ≡ catalog other.old) }
-        ensures limits { (limits self.new ≡ limits self.old) × (limits other.new ≡ limits other.old) }
-        ensures used { IfSome result (λ used. (used.0 ≤ length piece.now) × (used.1 ≤ length beside.now)) }
-        ensures counts { IfSome result (λ used. (taken self.new ≡ taken self.old + used.0)
-            × (taken other.new ≡ taken other.old + used.1)) }
-        ensures progress { IfSome result (λ used. (pending self.new < pending self.old + 2 * used.0)
-            × (pending other.new < pending other.old + 2 * used.1)) }
-        ensures stands { IfSome result (λ used. (value : Value)
-            × ((u : List ℕ) (s : List (Value × ℕ)) → stands self.old u s →
-            stands self.new (u ++ take used.0 piece.now) (s ++ (value, length u + used.0) ∷ []))
-            × ((u : List ℕ) (s : List (Value × ℕ)) → stands other.old u s →
-            stands other.new (u ++ take used.1 beside.now) (s ++ (value, length u + used.1) ∷ []))) }
-        ensures awaited { IsSome result → IsNone (awaits self.new) × IsNone (awaits other.new) }
-        ensures kept { IsNone result → (self.new ≡ self.old) × (other.new ≡ other.old) }
-    {
-        None
     }
 
     /// Ends the octets: the value that only the end shows to be whole, if there is one, or the
@@ -280,6 +257,21 @@ pub trait Items: Sized {
         (trace g l u).refused ≡ Option.Some r →
         Refuses (denotes g l) (pieces g l) u (trace g l u) r };
 
+    /// A refusal names the octet that decides: the octets up to it are refused so by themselves, and
+    /// no step refuses a shorter front of them.
+    ghost decided: { (g : Catalog) (l : Limits) (u : List ℕ) (r : Refusal) →
+        (trace g l u).refused ≡ Option.Some r → IsFirst (trace g l) u r };
+
+    /// A document is whole pieces with its values, and behind them at most what may stand open there:
+    /// in text a comment that the end of the octets ends.
+    ghost documents_are_pieces: { (g : Catalog) (l : Limits) (u : List ℕ) (s : List Value) →
+        denotes g l u s → HasPieces (pieces g l) (open_after l) u s };
+
+    /// Whole pieces, if they have an octet, are a document by themselves, whatever follows them where
+    /// they stand.
+    ghost pieces_are_documents: { (g : Catalog) (l : Limits) (u following : List ℕ)
+        (s : List Value) → pieces g l u following s → 0 < length u → denotes g l u s };
+
     /// Octets show one stream.
     ghost one_shown: { (g : Catalog) (l : Limits) (u : List ℕ) (s t : List Value) →
         Shown (pieces g l) u s → Shown (pieces g l) u t → s ≡ t };
@@ -300,8 +292,8 @@ pub trait Items: Sized {
     /// `Incomplete` comes from the end alone (`refused`).
     ghost reasons: { (g : Catalog) (l : Limits) (u : List ℕ) → HasReasons (trace g l u) };
 
-    /// A value has at most as many nodes as its item has octets, and its item at most as many
-    /// octets as the limit on items allows.
+    /// A value has at most as many nodes as octets were used since the value before it came, and at
+    /// most as many as the limit on items allows octets.
     ghost small: { (g : Catalog) (l : Limits) (u : List ℕ) → IsSmall l.item u (trace g l u) };
 
     /// A local symbol table where one may stand is no value: it changes what symbol ids stand for.

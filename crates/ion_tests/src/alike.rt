@@ -37,11 +37,13 @@ fn takes<R: Items>(reader: &mut R, table: &[u8; 17]) -> Result<(), Reason>
 }
 
 /// What is taken up of the two values, the first behind a table of `a` and `b`, the other behind one of `b` and `a`.
-fn behind_tables<R: Items>(reader: &mut R, other: &mut R, row: &Row) -> Taken
-    requires used { R.taken reader.old ≡ 0 }
-    requires other_used { R.taken other.old ≡ 0 }
-    requires begins { IsNone (R.awaits reader.old) }
-    requires other_begins { IsNone (R.awaits other.old) }
+fn behind_tables<'a>(
+    reader: &mut BinaryReader<'a>,
+    other: &mut BinaryReader<'a>,
+    row: &Row,
+) -> Taken
+    requires used { ⟦<BinaryReader<'a> as Items>⟧.taken reader.old ≡ 0 }
+    requires other_used { ⟦<BinaryReader<'a> as Items>⟧.taken other.old ≡ 0 }
 {
     if row.0.len() > 80 || row.1.len() > 80 {
         return Err(Reason::TooLarge);

@@ -1,16 +1,20 @@
 //! Laws of text documents. Each stands on an empty function: its contract is the law. What they say of
 //! reading is said of the definitions of `specs/machine/Run.antt`, which read octet by octet; `TextReader` is
 //! proved to answer what they say.
-ghost use Rattle.std.specs.Prelude.{◌≡◌, ◌↔◌, ◌++◌, ℕ, List, length, codes, Some, None, Err};
+ghost use Rattle.std.specs.Prelude.{◌≡◌, ◌↔◌, ◌≤◌, ◌++◌, ℕ, Bool, List, length, codes, Some, None, Err};
 ghost use Rattle.ion_model.specs.declared.value.Value.{Value};
 ghost use Rattle.ion_atoms.specs.declared.refusal.Refusal.{Refusal};
 ghost use Rattle.ion_model.specs.Kept.{AreKept};
+ghost use Rattle.ion_model.specs.Measures.{nodes};
 ghost use Rattle.ion_symtab.specs.declared.limits.Limits.{Limits};
+ghost use Rattle.ion_symtab.specs.Slots.{Slot};
 ghost use Rattle.ion_symtab.specs.Tables.{Table};
-ghost use Rattle.ion_symtab.specs.Promises.{GivesNoTable, HasReasons, IsSmall, NoTables, Refuses, Shown, Shows};
+ghost use Rattle.ion_symtab.specs.Promises.{GivesNoTable, HasPieces, HasReasons, IsFirst, IsSmall, NoTables, Refuses, Shown, Shows};
 ghost use Rattle.ion_symtab.specs.Trace.{Grows, Streams, plain};
 ghost use Rattle.ion_symtab.specs.laws.ContextTexts.{AreTextTables};
-ghost use Rattle.ion_text.specs.Grammar.{Document, OpenRest, Whole};
+ghost use Rattle.ion_tokens.specs.declared.mode.Place.{Place};
+ghost use Rattle.ion_tokens.specs.Lexed.{LexesTo, Placed};
+ghost use Rattle.ion_text.specs.Grammar.{Document, Means, OpenRest, Whole, span};
 ghost use Rattle.ion_text.specs.Output.{text_of};
 ghost use Rattle.ion_text.specs.laws.writing.RoundTrip.{FitsIn};
 ghost use Rattle.ion_text.specs.laws.writing.Rows.{worked};
@@ -78,8 +82,8 @@ pub fn reading_gives_no_table()
     ensures { (g : List Table) (l : Limits) (u : List ℕ) → GivesNoTable (trace g l u) }
 {}
 
-/// A value that the reading gives has at most as many nodes as its item has octets, and its item at most as
-/// many octets as the limit on items allows.
+/// A value that the reading gives has at most as many nodes as octets were read since the value before it
+/// came, and at most as many as the limit on items allows octets.
 pub fn reading_is_small()
     ensures { (g : List Table) (l : Limits) (u : List ℕ) → IsSmall l.item u (trace g l u) }
 {}
@@ -97,4 +101,28 @@ pub fn reading_has_pieces()
     ensures shown { (g : List Table) (l : Limits) (u : List ℕ) →
         (trace g l u).refused ≡ None →
         Shows (Whole g l) (λ front rest. OpenRest l rest) u (plain (trace g l u).given) }
+{}
+
+/// A value has at most as many nodes as its tokens span octets, from the first octet of the first of them
+/// to the last of the last.
+pub fn values_are_small()
+    ensures { (c : List Slot) (p : Place) (ts : List Placed) (v : Value)
+        (colon : Bool) (before : ℕ) (octets : List ℕ) (after : Bool) (end : ℕ) (rest : List ℕ) →
+        Means c p ts v → LexesTo colon before octets ts after end rest → nodes v ≤ span ts }
+{}
+
+/// A document is whole pieces with its values, and behind them at most a comment that its end ends. Whole
+/// pieces are a document by themselves, whatever octets follow them where they stand.
+pub fn whole_pieces()
+    ensures documents { (g : List Table) (l : Limits) (u : List ℕ) (s : List Value) →
+        Document g l u s → HasPieces (Whole g l) (λ front rest. OpenRest l rest) u s }
+    ensures pieces { (g : List Table) (l : Limits) (u following : List ℕ) (s : List Value) →
+        Whole g l u following s → Document g l u s }
+{}
+
+/// A refusal names the octet that decides: the octets up to it are refused so by themselves, and no shorter
+/// front of them is refused by an octet.
+pub fn first_refused()
+    ensures { (g : List Table) (l : Limits) (u : List ℕ) (r : Refusal) →
+        (trace g l u).refused ≡ Some r → IsFirst (trace g l) u r }
 {}

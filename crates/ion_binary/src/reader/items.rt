@@ -103,7 +103,7 @@ impl Items for BinaryReader<'_> {
     ghost use Rattle.ion_binary.specs.Grammar.{Document, Whole, OpenRest};
     ghost use Rattle.ion_binary.specs.machine.Run.{trace};
     ghost use Rattle.ion_binary.specs.machine.Views.{Stands, body_so_far};
-    ghost use Rattle.ion_binary.specs.laws.reading.Promises.{exact, one_stream, one_shown, refused, shown, unfinished, reasons, small, grows, no_tables};
+    ghost use Rattle.ion_binary.specs.laws.reading.Promises.{exact, one_stream, one_shown, refused, decided, documents_are_pieces, pieces_are_documents, shown, unfinished, reasons, small, grows, no_tables};
     ghost use Rattle.ion_binary.specs.laws.reading.Standing.{given_of, not_failed, not_refused, bounded};
 
     ghost catalog = { λ r. r.catalog.now };
@@ -150,6 +150,12 @@ impl Items for BinaryReader<'_> {
 
     ghost refused = { refused };
 
+    ghost decided = { decided };
+
+    ghost documents_are_pieces = { documents_are_pieces };
+
+    ghost pieces_are_documents = { pieces_are_documents };
+
     ghost one_shown = { one_shown };
 
     ghost shown = { shown };
@@ -187,18 +193,6 @@ impl Items for BinaryReader<'_> {
             Err(refusal) => Err(refusal),
             Ok(step) => Ok(step.passed()),
         }
-    }
-
-    fn pass_alike(
-        &mut self,
-        piece: &[u8],
-        other: &mut Self,
-        beside: &[u8],
-    ) -> Option<(usize, usize)> {
-        if self.failed.is_some() || other.failed.is_some() {
-            return None;
-        }
-        self.walk_alike(piece, other, beside)
     }
 
     fn finish(self) -> Result<Option<Value>, Refusal> {

@@ -5,7 +5,9 @@ ghost use Rattle.ion_model.specs.Outlines.{outline_of};
 ghost use Rattle.ion_binary.specs.machine.Run.{Advances};
 ghost use Rattle.ion_binary.specs.machine.Views.{machine_of, run_of, open_frames, SameSetting};
 ghost use Rattle.ion_binary.specs.declared.state.Phase.TheVariants as phases;
-ghost use Rattle.ion_binary.specs.Carrying.{TookUp, WritesValue};
+ghost use Rattle.ion_model.specs.Kept.{IsKept};
+ghost use Rattle.ion_symtab.specs.TookUp.{TookUp};
+ghost use Rattle.ion_binary.specs.Carrying.{WritesValue};
 
 use super::BinaryReader;
 use crate::alike::alike_value;
@@ -15,7 +17,7 @@ use crate::walk::walk_value;
 use crate::whole::extent;
 use crate::writer::BinaryWriter;
 use ion_model::Outline;
-use ion_symtab::{Fault, Outlet};
+use ion_symtab::{Fault, Items, Outlet};
 use std::hash::BuildHasher;
 
 /// What became of a value that was carried from a reader to a writer.
@@ -65,7 +67,7 @@ impl BinaryReader<'_> {
     /// Takes up the octets of the value at the front of a piece and at the front of another reader's,
     /// where it is the same in both, without building it: how many octets of each. `None`, with nothing
     /// taken up, where `walk` of either would answer so, or the two are not seen to be the same.
-    pub(super) fn walk_alike(
+    fn walk_alike(
         &mut self,
         piece: &[u8],
         other: &mut Self,
@@ -109,6 +111,33 @@ impl BinaryReader<'_> {
         other.start = other_used;
         Some((count, other_count))
     }
+}
+
+impl<'a> BinaryReader<'a> {
+    /// Takes up the octets of the value at the front of a piece and at the front of another reader's
+    /// piece, where it lies whole in both and is seen to be the same: how many octets of each. The
+    /// value isn't handed out, and needn't have the same octets, nor the same symbol ids.
+    ///
+    /// `None`, with both readers as they were, where that isn't so or isn't seen, and where either of
+    /// them has refused.
+    pub fn pass_alike(
+        &mut self,
+        piece: &[u8],
+        other: &mut Self,
+        beside: &[u8],
+    ) -> Option<(usize, usize)>
+        requires room { ⟦<BinaryReader<'a> as Items>⟧.taken self.old + length piece.now < 2 ^ 63 }
+        requires other_room { ⟦<BinaryReader<'a> as Items>⟧.taken other.old + length beside.now < 2 ^ 63 }
+        ensures alike { IfSome result (λ used. (value : Value)
+            × TookUp ⟦<BinaryReader<'a> as Items>⟧ self.old self.new piece.now used.0 value
+            × TookUp ⟦<BinaryReader<'a> as Items>⟧ other.old other.new beside.now used.1 value) }
+        ensures kept { IsNone result → (self.new ≡ self.old) × (other.new ≡ other.old) }
+    {
+        if self.failed.is_some() || other.failed.is_some() {
+            return None;
+        }
+        self.walk_alike(piece, other, beside)
+    }
 
     /// Takes up the octets of the value at the front of a piece, and writes it by a writer, without
     /// building it. The answer is that of `BinaryWriter::put`.
@@ -122,9 +151,9 @@ impl BinaryReader<'_> {
         writer: &mut BinaryWriter<S>,
         out: &mut W,
     ) -> Option<Carried>
-        requires room { self.old.used + length piece.now < 2 ^ 63 }
-        ensures carries { IfSome result (λ carried. (v : Value)
-            × TookUp self.old self.new piece.now carried.used v
+        requires room { ⟦<BinaryReader<'a> as Items>⟧.taken self.old + length piece.now < 2 ^ 63 }
+        ensures carries { IfSome result (λ carried. (v : Value) × IsKept v
+            × TookUp ⟦<BinaryReader<'a> as Items>⟧ self.old self.new piece.now carried.used v
             × WritesValue W.Outlet writer.old writer.new out.old out.new v carried.written) }
         ensures stays { IsNone result →
             (self.new ≡ self.old) × (writer.new ≡ writer.old) × (out.new ≡ out.old) }

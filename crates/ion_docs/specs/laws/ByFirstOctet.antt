@@ -3,7 +3,7 @@ use Rattle.std.proofs.Common.{◌≡◌, ◌↔◌, ℕ, zero, suc, List, [], �
 use Rattle.ion_model.specs.declared.value.Value.{Value}
 use Rattle.ion_atoms.specs.declared.refusal.Refusal.{Refusal}
 use Rattle.ion_symtab.specs.Trace.{Trace, Streams, Grows, plain}
-use Rattle.ion_symtab.specs.Promises.{Refuses, BeginsNone, Shown, Shows, IsSmall, HasReasons, GivesNoTable}
+use Rattle.ion_symtab.specs.Promises.{Refuses, BeginsNone, IsFirst, Shown, Shows, IsSmall, HasReasons, GivesNoTable}
 use Rattle.ion_streams.specs.Formats.{Format}
 
 -- what is promised of these octets, of which a reader of the format says t
@@ -11,6 +11,7 @@ pub record Promised (F : Format) (open_after : List ℕ → List ℕ → Type 0)
   pub settled : (w : List ℕ) → Grows t (F.trace (u ++ w))
   pub exact : (s : List Value) → Streams t s ↔ F.denotes u s
   pub refused : (r : Refusal) → t.refused ≡ Some r → Refuses F.denotes F.pieces u t r
+  pub decided : (r : Refusal) → t.refused ≡ Some r → IsFirst F.trace u r
   pub shown : t.refused ≡ None → Shows F.pieces open_after u (plain t.given)
   pub unfinished : (r : Refusal) → t.refused ≡ None → t.ends ≡ Err r → r.offset ≡ length u
   pub reasons : HasReasons t
@@ -25,6 +26,7 @@ module _ (F D : Format) (open_f open_d : List ℕ → List ℕ → Type 0) (firs
     pub pieces : (front following rest : List ℕ) (s : List Value) → front ++ following ≡ first ∷ rest → F.pieces front following s ↔ D.pieces front following s
     pub rests : (front rest w : List ℕ) → front ++ rest ≡ first ∷ w → open_f front rest → open_d front rest
     pub same : (w : List ℕ) → F.trace (first ∷ w) ≡ D.trace (first ∷ w)
+    pub begun : (D.trace []).refused ≡ None
 
   module _ (alike : Alike) where
     followed : (front rest w following : List ℕ) → first ∷ w ≡ front ++ rest → front ++ (rest ++ following) ≡ first ∷ (w ++ following)
@@ -61,6 +63,17 @@ module _ (F D : Format) (open_f open_d : List ℕ → List ℕ → Type 0) (firs
       before_end = h.before_end;
     }
 
+    alone_there : (n : ℕ) (w : List ℕ) (r : Refusal) → BeginsNone F.denotes (take n (first ∷ w)) → (F.trace (take n (first ∷ w))).refused ≡ Some r → (D.trace (take n (first ∷ w))).refused ≡ Some r
+    alone_there zero w r none h = absurd (nothing_begins none)
+    alone_there (suc n) w r none h = ap (λ (t : Trace). t.refused) (sym (alike.same (take n w))) ∙ h
+
+    before_there : (n : ℕ) (w : List ℕ) → (F.trace (take n (first ∷ w))).refused ≡ None → (D.trace (take n (first ∷ w))).refused ≡ None
+    before_there zero w h = alike.begun
+    before_there (suc n) w h = ap (λ (t : Trace). t.refused) (sym (alike.same (take n w))) ∙ h
+
+    first_there : (w : List ℕ) (t : Trace) (r : Refusal) → Refuses F.denotes F.pieces (first ∷ w) t r → IsFirst F.trace (first ∷ w) r → IsFirst D.trace (first ∷ w) r
+    first_there w t r refuses h = record { alone = alone_there r.offset w r refuses.none h.alone; before = λ k less. before_there k w (h.before k less) }
+
     shows_there : (w : List ℕ) (s : List Value) → Shows F.pieces open_f (first ∷ w) s → Shows D.pieces open_d (first ∷ w) s
     shows_there w s h = record { shown = shown_there w s h.shown; rest = alike.rests h.shown.front h.shown.open_rest w (sym h.shown.parts) h.rest }
 
@@ -70,6 +83,7 @@ module _ (F D : Format) (open_f open_d : List ℕ → List ℕ → Type 0) (firs
       settled = λ v. subst (λ (x : Trace). Grows (F.trace (first ∷ w)) x) (alike.same (w ++ v)) (h.settled v);
       exact = λ s. (λ t. (alike.document w s).0 ((h.exact s).0 t), λ d. (h.exact s).1 ((alike.document w s).1 d));
       refused = λ r e. refuses_there w (F.trace (first ∷ w)) r (h.refused r e);
+      decided = λ r e. first_there w (F.trace (first ∷ w)) r (h.refused r e) (h.decided r e);
       shown = λ none. shows_there w (plain (F.trace (first ∷ w)).given) (h.shown none);
       unfinished = h.unfinished;
       reasons = h.reasons;

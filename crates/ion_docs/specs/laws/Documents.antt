@@ -1,9 +1,9 @@
 -- The promises of a reader of either encoding, from those of both: the first octet chooses.
-use Rattle.std.proofs.Common.{◌≡◌, ℕ, List, [], ◌∷◌, ◌++◌, length, None, refl, ap, sym, ◌∙◌, arith, Bool, true, false, cond, ◌==◌, length-append}
+use Rattle.std.proofs.Common.{◌≡◌, ℕ, List, [], ◌∷◌, ◌++◌, ◌<◌, length, None, refl, ap, sym, ◌∙◌, arith, Bool, true, false, cond, ◌==◌, length-append}
 use Rattle.ion_model.specs.declared.value.Value.{Value}
 use Rattle.ion_symtab.specs.declared.catalog.Catalog.{Catalog}
 use Rattle.ion_symtab.specs.declared.limits.Limits.{Limits}
-use Rattle.ion_symtab.specs.Promises.{Shown, Shows}
+use Rattle.ion_symtab.specs.Promises.{HasPieces, Shown, Shows}
 use Rattle.ion_symtab.specs.laws.Promises.{shown_once}
 use Rattle.ion_symtab.specs.Slots.{system_slots}
 use Rattle.ion_binary.specs.Grammar as binary
@@ -15,6 +15,7 @@ use Rattle.ion_text.specs.machine.Pieces as text_runs
 use Rattle.ion_text.specs.laws.reading.Promises as text_laws
 use Rattle.ion_text.specs.laws.reading.Stops as text_stops
 use Rattle.ion_text.specs.laws.reading.Small as text_small
+use Rattle.ion_text.specs.laws.showing.Alone as text_alone
 use Rattle.ion_text.specs.laws.showing.Once as text_once
 use Rattle.ion_text.specs.laws.showing.Given as text_given
 use Rattle.ion_text.specs.laws.showing.Refusing as text_refusing
@@ -56,6 +57,7 @@ module _ (g : Catalog) (l : Limits) where
     settled = binary_laws.grows g l u;
     exact = binary_laws.exact g l u;
     refused = binary_laws.refused g l u;
+    decided = binary_laws.decided g l u;
     shown = binary_laws.shown g l u;
     unfinished = binary_laws.unfinished g l u;
     reasons = binary_laws.reasons g l u;
@@ -68,6 +70,7 @@ module _ (g : Catalog) (l : Limits) where
     settled = text_runs.grows g l u;
     exact = text_laws.exact g l u;
     refused = text_refusing.refuses g l u;
+    decided = text_stops.decided g l u;
     shown = text_given.shown g l u;
     unfinished = text_stops.unfinished g l u;
     reasons = text_laws.has_reasons g l u;
@@ -94,6 +97,7 @@ module _ (g : Catalog) (l : Limits) where
     pieces = λ front following rest s e. (binary_pieces (ap is_binary e ∙ h), binary_front front following s (ap is_binary e ∙ h));
     rests = λ front rest w e. binary_rest (ap is_binary e ∙ h);
     same = λ w. sym (ap (λ b. cond b (binary_run.trace g l (first ∷ w)) (text_run.trace g l (first ∷ w))) h);
+    begun = refl;
   }
 
   abbrev TextAlike : ℕ → Type 0
@@ -118,6 +122,7 @@ module _ (g : Catalog) (l : Limits) where
     pieces = λ front following rest s e. (text_pieces (ap is_binary e ∙ h), text_front front following s (ap is_binary e ∙ h));
     rests = λ front rest w e. text_rest (ap is_binary e ∙ h);
     same = λ w. sym (ap (λ b. cond b (binary_run.trace g l (first ∷ w)) (text_run.trace g l (first ∷ w))) h);
+    begun = refl;
   }
 
   -- 4. Before the first octet: nothing is shown, whichever encoding comes.
@@ -153,6 +158,7 @@ module _ (g : Catalog) (l : Limits) where
         settled = λ w. record { given = ((chosen g l w).given, refl); refused = λ never. cc };
         exact = λ s. (λ t. in_text refl ((h.exact s).0 t), λ d. (h.exact s).1 (text_document [] s refl d));
         refused = λ r e. absurd cc;
+        decided = λ r e. absurd cc;
         shown = λ none. shows_nothing (h.shown none);
         unfinished = h.unfinished;
         reasons = h.reasons;
@@ -168,3 +174,19 @@ module _ (g : Catalog) (l : Limits) where
       by : (b : Bool) → (first == 0xE0) ≡ b → Promised (documents g l) (OpenAfter l) l.item (first ∷ w) (chosen g l (first ∷ w))
       by true h = carried in_binary_alone (documents g l) (λ front rest. binary.OpenRest l rest) (OpenAfter l) first (binary_alike first h) l.item w (binary_promised (first ∷ w))
       by false h = carried in_text_alone (documents g l) (λ front rest. text.OpenRest l rest) (OpenAfter l) first (text_alike first h) l.item w (text_promised (first ∷ w))
+
+  -- 6. Documents and whole pieces.
+  pub document_pieces : (u : List ℕ) (s : List Value) → Denotes g l u s → HasPieces (Pieces g l) (OpenAfter l) u s
+  document_pieces u s (in_binary h d) =
+      let k = binary_laws.documents_are_pieces g l u s d in
+      let first = ap is_binary (sym k.parts) ∙ h in
+      record { front = k.front; open_rest = k.open_rest; parts = k.parts; whole = binary_pieces first k.whole; rest = binary_rest first k.rest }
+  document_pieces u s (in_text h d) =
+      let k = text_alone.document_pieces g l u s d in
+      let first = ap is_binary (sym k.parts) ∙ h in
+      record { front = k.front; open_rest = k.open_rest; parts = k.parts; whole = text_pieces first k.whole; rest = text_rest first k.rest }
+
+  pub whole_document : (u following : List ℕ) (s : List Value) → Pieces g l u following s → 0 < length u → Denotes g l u s
+  whole_document [] following s p some = absurd (omega arith)
+  whole_document (x ∷ u) following s (binary_pieces h p) some = in_binary h (binary_laws.pieces_are_documents g l (x ∷ u) following s p some)
+  whole_document (x ∷ u) following s (text_pieces h p) some = in_text h (text_alone.whole_document g l (x ∷ u) following s p)

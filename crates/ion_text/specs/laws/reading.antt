@@ -23,6 +23,7 @@ pub mod Stops
 pub mod Reasons
 pub mod Segments
 pub mod Sizes
+pub mod Nodes
 pub mod Stands
 pub mod MarkerWords
 pub mod FrontTokens

@@ -7,6 +7,7 @@ pub mod Compare
 pub mod Once
 pub mod Within
 pub mod OpenRests
+pub mod Alone
 pub mod Longest
 pub mod Walks
 pub mod Stays

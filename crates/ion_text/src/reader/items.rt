@@ -86,10 +86,11 @@ impl Items for TextReader<'_> {
     ghost use Rattle.ion_text.specs.machine.Pieces.{grows};
     ghost use Rattle.ion_text.specs.machine.Progress.{Stands, failed, octets_used, octets_kept, pending};
     ghost use Rattle.ion_text.specs.laws.reading.Promises.{exact, one_stream, has_reasons};
-    ghost use Rattle.ion_text.specs.laws.reading.Stops.{unfinished, no_tables};
+    ghost use Rattle.ion_text.specs.laws.reading.Stops.{decided, unfinished, no_tables};
     ghost use Rattle.ion_text.specs.laws.reading.Small.{is_small};
     ghost use Rattle.ion_text.specs.laws.reading.Stands.{not_failed, not_refused, given_so_far, given_with_next};
     ghost use Rattle.ion_text.specs.laws.reading.Bounded.{bounded};
+    ghost use Rattle.ion_text.specs.laws.showing.Alone.{document_pieces, whole_document};
     ghost use Rattle.ion_text.specs.laws.showing.Once.{one_shown};
     ghost use Rattle.ion_text.specs.laws.showing.Given.{shown};
     ghost use Rattle.ion_text.specs.laws.showing.Refusing.{refuses};
@@ -137,6 +138,12 @@ impl Items for TextReader<'_> {
     ghost one_stream = { one_stream };
 
     ghost refused = { refuses };
+
+    ghost decided = { decided };
+
+    ghost documents_are_pieces = { document_pieces };
+
+    ghost pieces_are_documents = { λ g l u following s h some. whole_document g l u following s h };
 
     ghost one_shown = { one_shown };
 

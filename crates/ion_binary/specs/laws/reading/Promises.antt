@@ -10,14 +10,14 @@ use Rattle.ion_symtab.specs.declared.limits.Limits.{Limits}
 use Rattle.ion_symtab.specs.declared.catalog.Catalog.{Catalog}
 use Rattle.ion_symtab.specs.Slots.{Slot}
 use Rattle.ion_symtab.specs.Trace.{Streams, Grows, plain}
-use Rattle.ion_symtab.specs.Promises.{Refuses, BeginsNone, Shown, Shows, IsSmall, Spaced, IsReadersReason, HasReasons, NoTables, GivesNoTable}
-use Rattle.ion_symtab.specs.laws.Promises.{shown_once}
+use Rattle.ion_symtab.specs.Promises.{Refuses, BeginsNone, IsFirst, HasPieces, Shown, Shows, IsSmall, Spaced, IsReadersReason, HasReasons, NoTables, GivesNoTable}
+use Rattle.ion_symtab.specs.laws.Promises.{first_refused, shown_once}
 use Rattle.ion_symtab.specs.Decided.{IsDecided}
 use Rattle.ion_binary.specs.declared.state.Frame.{Frame}
 use Rattle.ion_binary.specs.declared.state.Phase.{Phase}
 use Rattle.ion_binary.specs.declared.state.Phase.TheVariants.{InMarker, Ready, InNumber, InBody, InPad}
 use Rattle.ion_model.specs.Kinds.{is_table}
-use Rattle.ion_binary.specs.Grammar.{Pieces, begins, marked, skips, turns, holds, the_marker, Document, Whole, no_piece, document, OpenRest}
+use Rattle.ion_binary.specs.Grammar.{Pieces, begins, marked, skips, turns, holds, the_marker, Document, Whole, no_piece, document, OpenRest, of_marker}
 use Rattle.ion_binary.specs.machine.EachOctet.{Machine, under, anew, at, initial}
 use Rattle.ion_binary.specs.machine.Run.{Run, run, whole, ends_of, refused_of, trace_of, trace}
 use Rattle.ion_binary.specs.machine.Pieces.{run-append, then_run, on_now}
@@ -167,8 +167,8 @@ stop_shown g l u r p =
           | inr le ↦ inside v rest t e le w
         ]
 
-decided : (g : Catalog) (l : Limits) (u : List ℕ) (r : Refusal) (p : Stop g l 0 initial u r) → IsDecided r.reason
-decided g l u r p =
+stop_decides : (g : Catalog) (l : Limits) (u : List ℕ) (r : Refusal) (p : Stop g l 0 initial u r) → IsDecided r.reason
+stop_decides g l u r p =
     let s = ran_stands g l p.before (run g l 0 initial u).given p.n p.ran in
     let c = cut_of g l p.before (run g l 0 initial u).given p.n p.ran in
     let e = s.used in
@@ -184,7 +184,7 @@ refused g l u r h =
     let n : length u ≡ length (p.before ++ p.b ∷ p.rest) = ap length p.parts in
     let k = length-append p.before (p.b ∷ p.rest) in
     let taken : take r.offset u ≡ p.before ++ p.b ∷ [] = ap (λ (x : ℕ). take x u) (let i : r.offset ≡ length p.before + 1 = omega arith in i) ∙ (ap (take (length p.before + 1)) p.parts ∙ take-append-add p.before (p.b ∷ p.rest) 1) in
-    let d = decided g l u r p in
+    let d = stop_decides g l u r p in
     record {
       within = omega arith;
       none = subst (BeginsNone (Document g l)) (sym taken) (begins_none g l (p.before ++ p.b ∷ []) _ (stopped g l u r p));
@@ -213,7 +213,7 @@ readers_reason : (reason : Reason) → IsDecided reason → IsReadersReason reas
 readers_reason reason d = record { whole_memory = λ i. subst IsDecided i d; no_duplicate = λ i. subst IsDecided i d; no_bad_table = λ i. subst IsDecided i d }
 
 step_reason : (g : Catalog) (l : Limits) (u : List ℕ) (r : Refusal) → (run g l 0 initial u).now ≡ Err r → IsReadersReason r.reason
-step_reason g l u r e = readers_reason r.reason (decided g l u r (stop_of g l 0 initial u r e))
+step_reason g l u r e = readers_reason r.reason (stop_decides g l u r (stop_of g l 0 initial u r e))
 
 end_reason : (g : Catalog) (l : Limits) (u : List ℕ) (now : Result Machine Refusal) (r : Refusal) → (run g l 0 initial u).now ≡ now → ends_of now ≡ Err r → IsReadersReason r.reason
 end_reason g l u (Err q) r ran h = let same : q ≡ r = cc in subst (λ (x : Refusal). IsReadersReason x.reason) same (step_reason g l u q ran)
@@ -290,6 +290,23 @@ grows g l u w =
     let r = run g l 0 initial u in
     let P : Run → Type 0 = λ r. Grows (trace g l u) (trace_of r) in
     subst P (sym (run-append g l 0 (length u) u w (omega arith) initial)) (grows_on r.given r.now (λ n. run g l (length u) n w))
+
+-- a refusal names the octet that decides
+pub decided : (g : Catalog) (l : Limits) (u : List ℕ) (r : Refusal) → (trace g l u).refused ≡ Some r → IsFirst (trace g l) u r
+decided g l u r h =
+    let p = stop_of g l 0 initial u r (refused_is (run g l 0 initial u).now r h) in
+    let o = p.offset in
+    let offset : r.offset ≡ length p.before + 1 = omega arith in
+    first_refused (trace g l) (grows g l) u p.before p.rest p.b r p.parts offset (ap (λ (x : Run). refused_of x.now) p.ran) (ap refused_of (stopped g l u r p) ∙ ap (λ n. Some (record { offset = n; reason = r.reason })) (sym offset))
+
+-- a document is whole pieces
+pub documents_are_pieces : (g : Catalog) (l : Limits) (u : List ℕ) (s : List Value) → Document g l u s → HasPieces (λ front following s. Whole g l front s) (λ front rest. OpenRest l rest) u s
+documents_are_pieces g l u s d = record { front = u; open_rest = []; parts = sym (append-nil u); whole = document u s d.0 d.1; rest = of_marker [] (omega arith) }
+
+-- whole pieces that have an octet are a document
+pub pieces_are_documents : (g : Catalog) (l : Limits) (u following : List ℕ) (s : List Value) → Whole g l u s → 0 < length u → Document g l u s
+pieces_are_documents g l _ following _ no_piece some = absurd (omega arith)
+pieces_are_documents g l _ following _ (document u s c d) some = (c, d)
 
 no_tables_more : (s : List Value) (v : Value) → NoTables s → is_table v ≡ false → NoTables (s ++ v ∷ [])
 no_tables_more [] v h e = (e, tt)

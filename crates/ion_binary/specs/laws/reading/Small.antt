@@ -10,7 +10,7 @@ use Rattle.ion_model.specs.declared.value.Payload.TheViews as views
 use Rattle.ion_model.specs.Measures.{nodes, bare, annotated, field_of}
 use Rattle.ion_model.specs.laws.Measures.{nodes-out, nodes-bare, nodes-Null, nodes-Truth, nodes-more}
 use Rattle.ion_scalar.specs.binary.Fields.{positional}
-use Rattle.ion_symtab.specs.Promises.{HasItem, Spaced}
+use Rattle.ion_symtab.specs.Promises.{HasSpan, Spaced}
 use Rattle.ion_symtab.specs.Slots.{Slot}
 use Rattle.ion_binary.specs.declared.form.Listing.{Listing}
 use Rattle.ion_binary.specs.declared.form.Listing.TheVariants as listings
@@ -104,10 +104,10 @@ spaced_on item from [] to later h e = omega arith
 spaced_on item from ((v, at) ∷ given) to later h e = (h.0, spaced_on item at given to later h.1 e)
 
 -- an item behind octets stands behind fewer of them
-item_behind : (item from to at : ℕ) (v : Value) → from ≤ to → HasItem item to at v → HasItem item from at v
-item_behind item from to at v e h = let behind = h.behind in record { start = h.start; end = h.end; behind = omega arith; within = h.within; fits = h.fits; holds = h.holds }
+span_behind : (item from to at : ℕ) (v : Value) → from ≤ to → HasSpan item to at v → HasSpan item from at v
+span_behind item from to at v e h = let behind = h.behind in record { start = h.start; end = h.end; behind = omega arith; within = h.within; fits = h.fits; holds = h.holds }
 
 -- one value more, whose item stands behind these octets
-pub spaced_more : (item from : ℕ) (given : List (Value × ℕ)) (to : ℕ) (v : Value) (later : ℕ) → Spaced item from given to → HasItem item to later v → Spaced item from (given ++ (v, later) ∷ []) later
-spaced_more item from [] to v later h e = (item_behind item from to later v h e, omega arith)
+pub spaced_more : (item from : ℕ) (given : List (Value × ℕ)) (to : ℕ) (v : Value) (later : ℕ) → Spaced item from given to → HasSpan item to later v → Spaced item from (given ++ (v, later) ∷ []) later
+spaced_more item from [] to v later h e = (span_behind item from to later v h e, omega arith)
 spaced_more item from ((w, at) ∷ given) to v later h e = (h.0, spaced_more item at given to v later h.1 e)

@@ -84,7 +84,7 @@ Weighs n item start end top (gives v r) = (nodes v ≤ n) × (end ≤ start + it
 Weighs n item start end top (refuses e) = Unit {0}
 Weighs n item start end top (late e r) = Unit {0}
 
-fields_more : (ms : List Field) (m : Field) → many_fields (ms ++ m ∷ []) ≡ many_fields ms + suc (nodes m.value)
+pub fields_more : (ms : List Field) (m : Field) → many_fields (ms ++ m ∷ []) ≡ many_fields ms + suc (nodes m.value)
 fields_more ms m =
     let all = sum-map (λ (f : Field). suc (nodes f.value)) (ms ++ m ∷ []) in
     let front = sum-map (λ (f : Field). suc (nodes f.value)) ms in
@@ -97,7 +97,7 @@ fields_more ms m =
 abbrev pub IsFlat : Payload → Type 0
 IsFlat q = layer_nodes (views.out-Payload q) ≡ 1
 
-flat_nodes : (ss : Symbols) (q : Payload) → IsFlat q → nodes (annotated ss q) ≡ length ss + 1
+pub flat_nodes : (ss : Symbols) (q : Payload) → IsFlat q → nodes (annotated ss q) ≡ length ss + 1
 flat_nodes ss q h = let n = nodes-out (annotated ss q) in omega (arith, n, h)
 
 number_flat : (n : Number) → IsFlat (number_payload n)

@@ -7,7 +7,7 @@ use Rattle.ion_atoms.specs.declared.refusal.Refusal.{Refusal}
 use Rattle.ion_symtab.specs.declared.limits.Limits.{Limits}
 use Rattle.ion_symtab.specs.declared.catalog.Catalog.{Catalog}
 use Rattle.ion_symtab.specs.Slots.{Slot}
-use Rattle.ion_symtab.specs.Promises.{HasItem, Spaced, IsSmall}
+use Rattle.ion_symtab.specs.Promises.{HasSpan, Spaced, IsSmall}
 use Rattle.ion_tokens.specs.declared.mode.Place.{Place}
 use Rattle.ion_tokens.specs.declared.mode.Place.TheVariants as places
 use Rattle.ion_tokens.specs.declared.mode.Mode.{Mode}
@@ -174,7 +174,7 @@ module _ (g : Catalog) (l : Limits) where
   -- what a token leads to
   abbrev TurnNear : ℕ → Known → Turn → Type 0
   TurnNear from t (goes r) = Near from t r
-  TurnNear from t (gives v r) = HasItem l.item from t.used v × (r ≡ fresh r.context)
+  TurnNear from t (gives v r) = HasSpan l.item from t.used v × (r ≡ fresh r.context)
   TurnNear from t (refuses e) = Unit {0}
   TurnNear from t (late e r) = Unit {0}
 
@@ -303,8 +303,8 @@ module _ (g : Catalog) (l : Limits) where
   -- a value came of an octet, or what is read goes on
   abbrev Came : ℕ → ℕ → ℕ → Effect → Type 0
   Came from used o (uses m) = Near from m.scan m.reading × (m.scan.used ≡ used + 1)
-  Came from used o (tells v m) = HasItem l.item from (used + 1) v × Near (used + 1) m.scan m.reading × (m.scan.used ≡ used + 1)
-  Came from used o (leaves v m) = HasItem l.item from used v × (m.scan.used ≡ used) × (m.reading ≡ fresh m.reading.context) × Comes used m.reading (feed (place m.reading) m.scan o) × Sized m.scan
+  Came from used o (tells v m) = HasSpan l.item from (used + 1) v × Near (used + 1) m.scan m.reading × (m.scan.used ≡ used + 1)
+  Came from used o (leaves v m) = HasSpan l.item from used v × (m.scan.used ≡ used) × (m.reading ≡ fresh m.reading.context) × Comes used m.reading (feed (place m.reading) m.scan o) × Sized m.scan
   Came from used o (fails e) = Unit {0}
 
   module _ (from used o : ℕ) where
@@ -328,7 +328,7 @@ module _ (g : Catalog) (l : Limits) where
 
     given_came : (t : Known) (turned : Turn) → TurnNear from t turned → t.used ≡ used + 1 → wants t.mode ≡ 0 → Sized t → Came from used o (behind_given l t turned)
     given_came t (goes r) h e w z = noticed_came r t h e
-    given_came t (gives v r) h e w z = (subst (λ n. HasItem l.item from n v) e h.0, near_fresh (used + 1) t r h.1 (omega (arith, e, w)) z, e)
+    given_came t (gives v r) h e w z = (subst (λ n. HasSpan l.item from n v) e h.0, near_fresh (used + 1) t r h.1 (omega (arith, e, w)) z, e)
     given_came t (refuses x) h e w z = tt
     given_came t (late x r) h e w z = worse_came x (noticed l r t)
 
@@ -341,7 +341,7 @@ module _ (g : Catalog) (l : Limits) where
     left_came again t (gives v r) f h e (inl i) z = absurd i
     left_came again t (gives v r) f h e (inr i) z =
         let top : place r ≡ places.Top = ap place h.1 in (
-          subst (λ n. HasItem l.item from n v) e h.0,
+          subst (λ n. HasSpan l.item from n v) e h.0,
           e,
           h.1,
           subst (λ n. Comes n r (feed (place r) t o)) e (comes_again (place r) t r (feed (place r) t o) h.1 top (idle_next t.mode i) (feed_measured (place r) t o z) (λ y k q. idle_colon t o i y k (ap (λ p. feed p t o) (sym top) ∙ q))),
@@ -436,7 +436,7 @@ module _ (g : Catalog) (l : Limits) where
     settled_came s fs now again (gives v r) e z f h i k (inl w) = absurd w
     settled_came s fs now again (gives v r) e z f h i k (inr w) =
         let top : place r ≡ places.Top = ap place h.1 in (
-          subst (λ n. HasItem l.item from n v) e h.0,
+          subst (λ n. HasSpan l.item from n v) e h.0,
           e,
           h.1,
           subst (λ n. Comes n r (feed (place r) s o)) e (comes_again (place r) s r (feed (place r) s o) h.1 top w.0 (feed_measured (place r) s o z) (λ y t q. w.1 y t (ap (λ p. feed p s o) (sym top) ∙ q))),
@@ -474,7 +474,7 @@ module _ (g : Catalog) (l : Limits) where
   abbrev Led : ℕ → List (Value × ℕ) → Result State Refusal → ℕ → Type 0
   Led from [] (Ok m) n = Near from m.scan m.reading × (m.scan.used ≡ n)
   Led from [] (Err e) n = from ≤ n
-  Led from ((v, at) ∷ given) now n = HasItem l.item from at v × Led at given now n
+  Led from ((v, at) ∷ given) now n = HasSpan l.item from at v × Led at given now n
 
   more_led : (from to n o : ℕ) (rest : State → Run) (x : Effect) → from ≤ n → ((k : ℕ) (m : State) → Near k m.scan m.reading → m.scan.used ≡ to + 1 → Led k (rest m).given (rest m).now n) → Came from to o x → Led from (once_more to rest x).given (once_more to rest x).now n
   more_led from to n o rest (uses m) k f h = f from m h.0 h.1
@@ -498,7 +498,7 @@ module _ (g : Catalog) (l : Limits) where
   -- the end
 
   abbrev EndHas : ℕ → ℕ → Result (Option Value) Refusal → Type 0
-  EndHas from used (Ok (Some v)) = HasItem l.item from used v
+  EndHas from used (Ok (Some v)) = HasSpan l.item from used v
   EndHas from used (Ok None) = Unit {0}
   EndHas from used (Err e) = Unit {0}
 
@@ -570,7 +570,7 @@ module _ (g : Catalog) (l : Limits) where
   led_spaced from n ((v, at) ∷ given) now h = (h.0, led_spaced at n given now h.1)
 
   last_spaced : (from n : ℕ) (given : List (Value × ℕ)) (now : Result State Refusal) (v : Value) → Led from given now n → ends_of g l now ≡ Ok (Some v) → Spaced l.item from (given ++ (v, n) ∷ []) n
-  last_spaced from n [] (Ok m) v h e = (subst (λ k. HasItem l.item from k v) h.1 (subst (EndHas from m.scan.used) e (ends_has from m.scan m.reading m.reading.now h.0)), omega arith)
+  last_spaced from n [] (Ok m) v h e = (subst (λ k. HasSpan l.item from k v) h.1 (subst (EndHas from m.scan.used) e (ends_has from m.scan m.reading m.reading.now h.0)), omega arith)
   last_spaced from n [] (Err x) v h e = absurd cc
   last_spaced from n ((w, at) ∷ given) now v h e = (h.0, last_spaced at n given now v h.1 e)
 

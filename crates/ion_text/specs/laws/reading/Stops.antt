@@ -9,7 +9,8 @@ use Rattle.ion_model.specs.Kinds.{is_table}
 use Rattle.ion_symtab.specs.declared.limits.Limits.{Limits}
 use Rattle.ion_symtab.specs.declared.catalog.Catalog.{Catalog}
 use Rattle.ion_symtab.specs.Trace.{plain}
-use Rattle.ion_symtab.specs.Promises.{BeginsNone, NoTables, GivesNoTable}
+use Rattle.ion_symtab.specs.Promises.{BeginsNone, IsFirst, NoTables, GivesNoTable}
+use Rattle.ion_symtab.specs.laws.Promises.{first_refused}
 use Rattle.ion_tokens.specs.Bodies.{Content}
 use Rattle.ion_tokens.specs.machine.Scanning.{Lexeme, at_end}
 use Rattle.ion_tokens.proofs.Runs.{next_used}
@@ -19,7 +20,7 @@ use Rattle.ion_text.specs.declared.state.Now.TheVariants as nows
 use Rattle.ion_text.specs.Grammar.{Document}
 use Rattle.ion_text.specs.machine.EachToken.{Reading, Turn, goes, gives, refuses, late, place, settle, turn}
 use Rattle.ion_text.specs.machine.Run.{State, Effect, uses, tells, leaves, fails, begun, eats, Run, run, run_on, once_more, trace, ends_of, refused_of, cut_short, end_late, end_settled, end_turned, end_said, end_waiting, end_ready, end_now, is_fresh, token_of}
-use Rattle.ion_text.specs.machine.Pieces.{run-append, on_now}
+use Rattle.ion_text.specs.machine.Pieces.{run-append, on_now, grows}
 use Rattle.ion_text.specs.laws.reading.Steps.{Stood, Ran, run_ran, begun_stood}
 use Rattle.ion_text.specs.laws.reading.Admits.{stood_accepted}
 use Rattle.ion_text.specs.laws.reading.Accepts.{accepts}
@@ -125,6 +126,12 @@ module _ (g : Catalog) (l : Limits) where
   -- the end repeats it
   pub refused_ends : (u : List ℕ) (r : Refusal) → (trace g l u).refused ≡ Some r → (trace g l u).ends ≡ Err r
   refused_ends u r h = ap (ends_of g l) (refused_run u r h)
+
+  -- it names the octet that decides
+  pub decided : (u : List ℕ) (r : Refusal) → (trace g l u).refused ≡ Some r → IsFirst (trace g l) u r
+  decided u r h =
+      let p = stop_of u r (refused_run u r h) in
+      first_refused (trace g l) (grows g l) u p.before p.rest p.o r p.parts (stop_offset u r p) (ap refused_of p.ran) (ap refused_of p.stopped)
 
   -- what the end refuses is at the octets used
   late_offset : (used : ℕ) (e : Reason) (r : Refusal) → end_late used e ≡ Err r → r.offset ≡ used

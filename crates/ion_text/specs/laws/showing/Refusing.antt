@@ -6,9 +6,8 @@ use Rattle.ion_symtab.specs.declared.limits.Limits.{Limits}
 use Rattle.ion_symtab.specs.declared.catalog.Catalog.{Catalog}
 use Rattle.ion_symtab.specs.Trace.{plain}
 use Rattle.ion_symtab.specs.Promises.{ArePieces, BeginsNone, Refuses, Shown}
-use Rattle.ion_tokens.specs.Blanks.{IsBlank}
 use Rattle.ion_tokens.specs.machine.Scanning.{start_of}
-use Rattle.ion_tokens.specs.Lexed.{Placed, Lexes, LexesTo, colon_behind}
+use Rattle.ion_tokens.specs.Lexed.{Placed}
 use Rattle.ion_text.specs.Grammar.{Document, Whole}
 use Rattle.ion_text.specs.machine.Run.{State, Effect, uses, tells, leaves, fails, begun, eats, Run, run, run_on, once_more, trace}
 use Rattle.ion_text.specs.laws.reading.Held.{ApartAt}
@@ -17,6 +16,7 @@ use Rattle.ion_text.specs.laws.reading.Steps.{Ran, run_ran, begun_stood}
 use Rattle.ion_text.specs.laws.reading.Stops.{Stop, behind_run, begins_none, refused_ends, refused_none, refused_run, stop_of, stop_taken, stop_within}
 use Rattle.ion_text.specs.laws.reading.Promises.{before_end, has_reasons}
 use Rattle.ion_text.specs.laws.showing.Ahead.{last_parted}
+use Rattle.ion_text.specs.laws.showing.Alone.{whole_document}
 use Rattle.ion_text.specs.laws.showing.Awaited.{item_end}
 use Rattle.ion_text.specs.laws.showing.Exacts.{behind_used}
 use Rattle.ion_text.specs.laws.showing.Fronts.{Fronted, no_tokens}
@@ -31,22 +31,7 @@ use Rattle.ion_text.specs.laws.showing.Symbols.{EndsStill, Still, run_still}
 use Rattle.ion_text.specs.laws.showing.Unended.{item_left}
 use Rattle.ion_text.specs.laws.reading.Fuel.{NotLeaves}
 
--- tokens up to a blank are all tokens
-lexes_whole : (ts : List Placed) (colon : Bool) (before : ℕ) (octets : List ℕ) (after : Bool) (end : ℕ) (rest : List ℕ) → LexesTo colon before octets ts after end rest → IsBlank rest → Lexes colon before octets ts
-lexes_whole [] colon before octets after end rest (c, b, o) k = inl (subst IsBlank (sym o) k)
-lexes_whole (t ∷ ts) colon before octets after end rest (q, b, h) k = (q, b, lexes_whole ts (colon_behind t) t.lexeme.end q after end rest h k)
-
 module _ (g : Catalog) (l : Limits) where
-  -- whole pieces behind which nothing stands are a document
-  whole_document : (v : List ℕ) (t : List Value) → Whole g l v ([] ++ []) t → Document g l v t
-  whole_document v t w = record {
-    tokens = w.tokens;
-    context = w.context;
-    lexed =
-        lexes_whole w.tokens false 0 v w.colon w.end (w.blank ++ []) (subst (λ x. LexesTo false 0 x w.tokens w.colon w.end (w.blank ++ [])) (append-nil v) w.lexed) (subst IsBlank (sym (append-nil w.blank)) w.is_blank);
-    pieces = w.pieces;
-  }
-
   module _ (u : List ℕ) (o : ℕ) (vs : List Value) (h : Halted g l u o vs) (none : BeginsNone (Document g l) (u ++ o ∷ [])) where
     x : Fronted g l (u ++ o ∷ []) vs h.s h.r
     x = halted_front g l u o vs h
@@ -92,7 +77,7 @@ module _ (g : Catalog) (l : Limits) where
         all : rest ≡ [] → v ≡ u ++ o ∷ [] → ⊥
         all f i =
             none [] t
-            (subst (λ y. Document g l y t) (i ∙ sym (append-nil (u ++ o ∷ []))) (whole_document v t (subst (λ y. Whole g l v (y ++ []) t) f (whole [] tt))))
+            (subst (λ y. Document g l y t) (i ∙ sym (append-nil (u ++ o ∷ []))) (whole_document g l v ([] ++ []) t (subst (λ y. Whole g l v (y ++ []) t) f (whole [] tt))))
 
         by : ((rest ≡ []) × (v ≡ u ++ o ∷ [])) ⊎ ((front : List ℕ) × (rest ≡ front ++ o ∷ []) × (u ≡ v ++ front)) → length v ≤ length x.front
         by (inl (f, i)) = absurd (all f i)

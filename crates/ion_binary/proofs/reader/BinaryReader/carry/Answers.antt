@@ -18,13 +18,16 @@ returns-clause-carries g c =
     let gives = walk_gives r.catalog.now r.limits (spot_of r) (open_frames r) r.body.items r.phase c.args.piece.now n ready.0 ready.1 c.extent-count.ensures v admitted.is admitted.deep admitted.given fits in
     let setting : SameSetting r (record r { used = r.used + n; start = r.used + n }) = record { catalog = refl; limits = refl; failed = refl } in (
       v,
+      admitted.kept,
       record {
         fine = search rules;
+        not_failed = search rules;
         within = c.extent-count.ensures;
-        some = omega (arith, c.if-count-eq0.false);
-        kept = admitted.kept;
-        setting = setting;
-        counted = refl;
+        catalog = refl;
+        limits = refl;
+        counts = refl;
+        progress = omega (arith, c.if-count-eq0.false);
+        awaited = refl;
         stands = step_stands r (record r { used = r.used + n; start = r.used + n }) c.args.piece.now (Ok (record { used = n; value = Some v })) gives refl setting;
       },
       found.2,

@@ -1,5 +1,5 @@
 use Rattle.ion_text.specs.machine.Views.{state_of}
-use Rattle.ion_text.proofs.Further.{step_answers, step_stands}
+use Rattle.ion_text.proofs.Further.{step_answers, step_stands, step_within}
 use Rattle.ion_text.proofs.Pendings.{step_progress, step_pending}
 use Rattle.ion_text.proofs.reader.items.TextReaderItems.step.Goals as goal
 
@@ -21,3 +21,6 @@ returns-in_default-result-clause-progress c = step_progress c.args.self.now c.ad
 
 pub returns-in_default-result-clause-few_pending : goal.returns-in_default-result-clause-few_pending
 returns-in_default-result-clause-few_pending c = step_pending c.args.self.now c.advance-result.new.self c.args.piece.now c.advance-result.result c.requires.begins c.advance-result.ensures.does
+
+pub returns-in-Err-clause-within : goal.returns-in-Err-clause-within
+returns-in-Err-clause-within c = step_within c.args.self.now (state_of c.advance-result.new.self) c.advance-result.new.self.awaited c.args.piece.now c.advance-result.result c.advance-result.ensures.does

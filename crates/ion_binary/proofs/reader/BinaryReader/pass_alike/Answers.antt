@@ -1,0 +1,40 @@
+use Rattle.std.proofs.Common.{rules, ◌≡◌, None, ap, ◌∙◌, refl, arith}
+use Rattle.std.proofs.lemmas.Option.{IfSome_then}
+use Rattle.ion_binary.proofs.Further.{both_passed}
+use Rattle.ion_binary.proofs.reader.BinaryReader.pass_alike.Goals as goal
+
+pub returns-clause-alike : goal.returns-clause-alike
+returns-clause-alike c =
+    let r = c.args.self.now in
+    let q = c.args.other.now in
+    let found = c.walk_alike in
+    let both = both_passed r found.new.self q found.new.other c.args.piece.now c.args.beside.now found.result found.ensures.gives found.ensures.used found.ensures.other_used found.ensures.setting found.ensures.other_setting in
+    IfSome_then found.result both (λ used both.
+    let up = both.1 in
+    let other_up = both.2 in
+    let fine : r.failed ≡ None = search rules in
+    let other_fine : q.failed ≡ None = search rules in (
+      both.0,
+      record {
+        fine = fine;
+        not_failed = up.setting.failed ∙ fine;
+        within = up.within;
+        catalog = ap (λ x. x.now) up.setting.catalog;
+        limits = up.setting.limits;
+        counts = up.counts;
+        progress = omega (arith, up.some);
+        awaited = refl;
+        stands = up.stands;
+      },
+      record {
+        fine = other_fine;
+        not_failed = other_up.setting.failed ∙ other_fine;
+        within = other_up.within;
+        catalog = ap (λ x. x.now) other_up.setting.catalog;
+        limits = other_up.setting.limits;
+        counts = other_up.counts;
+        progress = omega (arith, other_up.some);
+        awaited = refl;
+        stands = other_up.stands;
+      },
+    ))
