@@ -2,6 +2,7 @@ pub mod Scalars
 pub mod Leading
 pub mod Further
 pub mod Levels
+pub mod Inserted
 pub mod Insides
 pub mod Encoded
 pub mod Numbered

@@ -191,7 +191,6 @@ impl<S: BuildHasher + Drop> BinaryWriter<S> {
     {
         self.octets.clear();
         self.front.clear();
-        self.guesses.restart();
         let known = self.names.len();
         let (names, guesses) = (&mut self.names, &mut self.guesses);
         put_value(names, guesses, value, &mut self.octets)?;

@@ -18,22 +18,31 @@ pub struct Digits {
 }
 
 /// The digit at a place, if one is there.
+#[inline(always)]
 pub fn digit_at(octets: &[u8], at: usize, base: u32) -> Option<u32>
     requires { (2 ≤ base) × (base ≤ 16) }
     ensures { SomeIff result ((at < length octets.now) × (digit_value (slice_index octets.now at) < base)) (digit_value (slice_index octets.now at)) }
 {
-    if at < octets.len() {
-        char::from(octets[at]).to_digit(base)
-    } else {
-        None
+    if at >= octets.len() {
+        return None;
     }
+    let octet = octets[at];
+    if b'0' <= octet && octet <= b'9' {
+        let digit = u32::from(octet - b'0');
+        return if digit < base { Some(digit) } else { None };
+    }
+    char::from(octet).to_digit(base)
 }
 
-/// One digit more, up to the cap.
+/// One digit more, up to the cap; few numbers are so large that it takes more than 64 bits.
+#[inline(always)]
 pub fn more(value: u128, base: u32, digit: u32) -> u128
     requires { (value ≤ 2 ^ 127) × (base ≤ 16) × (digit < base) }
     ensures { result ≡ min (value * base + digit) (2 ^ 127) }
 {
+    if value < 1 << 59 {
+        return u128::from(value as u64 * u64::from(base) + u64::from(digit));
+    }
     value
         .saturating_mul(u128::from(base))
         .saturating_add(u128::from(digit))
@@ -41,6 +50,7 @@ pub fn more(value: u128, base: u32, digit: u32) -> u128
 }
 
 /// The longest run of digits at the front.
+#[inline(always)]
 pub fn digits_at(octets: &[u8], base: u32, before: u128) -> Digits
     requires { (2 ≤ base) × (base ≤ 16) × (before ≤ 2 ^ 127) }
     ensures within { result.used ≤ length octets.now }

@@ -1,6 +1,6 @@
 -- Values that are gone over and not built.
 use Rattle.std.proofs.Common.{◌≡◌, ℕ, Bool, true, false, List, Option, Some, Ok, refl, ap, ◌∙◌}
-use Rattle.std.specs.Prelude.{if◌then◌else◌, codes}
+use Rattle.std.specs.Prelude.{if◌then◌else◌, ◌||◌, codes}
 use Rattle.std.specs.Str.{bytes_eq}
 use Rattle.std.proofs.lemmas.Bool.{cond-true, cond-false}
 use Rattle.ion_atoms.specs.declared.kind.Kind.{Kind}
@@ -13,7 +13,7 @@ use Rattle.ion_model.specs.Measures.{Layer, bare}
 use Rattle.ion_model.specs.laws.Measures.{depth-out, nodes-bare, layer_depth, layer_nodes}
 use Rattle.ion_scalar.specs.declared.number.Number.{Number}
 use Rattle.ion_scalar.specs.declared.number.Number.TheVariants as numbers
-use Rattle.ion_text.specs.Grammar.{is_version, the_marker}
+use Rattle.ion_text.specs.Grammar.{is_keyword, is_version, the_marker}
 use Rattle.ion_text.specs.declared.state.Held.TheVariants as helds
 use Rattle.ion_text.specs.machine.EachToken.{held_word, held_payload, number_payload}
 use Rattle.ion_text.specs.machine.Walked.{IsFlat}
@@ -73,3 +73,14 @@ module _ (w : List ℕ) where
       by : (b : Bool) → held_payload (if b then helds.Version (bytes_eq w the_marker) (Some w) else helds.Symbol (Some w)) ≡ Ok (payloads.Symbol (Some w))
       by true = refl
       by false = refl
+
+  pub word_free : is_keyword w ≡ false → held_payload (held_word w) ≡ Ok (payloads.Symbol (Some w))
+  word_free h =
+      let a = neither _ _ h in
+      let b = neither _ _ a.0 in
+      let c = neither _ _ a.1 in
+      word_symbol b.0 b.1 c.0 c.1
+    where
+      neither : (b c : Bool) → (b || c) ≡ false → (b ≡ false) × (c ≡ false)
+      neither false c e = (refl, e)
+      neither true c e = cc

@@ -1,11 +1,14 @@
 //! Texts and octets of clobs between quotes (Ion 1.0, "Ion Text Encoding", strings, symbols and clobs). Each
 //! function appends to `out`, and its only fault is `Memory`, on which some of the octets may stand there.
-ghost use Rattle.std.specs.Prelude.{◌≡◌, ◌<◌, ◌≤◌, ◌++◌, OnOk, IsOkUnless, length, take};
+ghost use Rattle.std.specs.Prelude.{◌≡◌, ◌<◌, ◌++◌, OnOk, IsOkUnless, length, map, not, if◌then◌else◌};
+ghost use Rattle.std.specs.List.{take_while};
+ghost use Rattle.std.specs.Simd.Lanes.{mask_l};
 ghost use Rattle.ion_symtab.specs.declared.fault.Fault.TheVariants as faults;
-ghost use Rattle.ion_text.specs.laws.writing.RawRuns.{is_raw, AreRaw};
+ghost use Rattle.ion_text.specs.laws.writing.RawRuns.{is_raw};
 ghost use Rattle.ion_text.specs.Output.{hexadecimal_of, letter_for, stands_raw, escape, escaped_text, quoted};
 
 use ion_symtab::Fault;
+use std::simd::prelude::*;
 
 /// What stands around a text, and so what is escaped in it.
 #[derive(Clone, Copy)]
@@ -77,16 +80,60 @@ fn is_raw(quotes: Quotes, octet: u8) -> bool
     octet != b'\\' && (octet != quotes.delimiter && stands_raw(quotes.ascii, octet))
 }
 
-/// How many octets at the front stand for themselves.
-fn raw_front(quotes: Quotes, octets: &[u8]) -> usize
-    ensures within { result ≤ length octets.now }
-    ensures raw { AreRaw quotes (take result octets.now) }
+// The greatest octet that may stand for itself.
+#[inline(always)]
+fn greatest_raw(ascii: bool) -> u8
+    ensures { result ≡ if ascii then 127 else 255 }
 {
-    let mut count = 0;
-    while count < octets.len() && is_raw(quotes, octets[count]) {
-        count += 1;
+    if ascii { 127 } else { 255 }
+}
+
+/// Which of sixteen octets don't stand for themselves, as the bits of a number, the first octet's lowest.
+#[inline(always)]
+fn escaped_lanes(quotes: Quotes, octets: u8x16) -> u64
+    ensures { result ≡ mask_l (map (λ o. not (is_raw quotes o)) octets) }
+{
+    let greatest = greatest_raw(quotes.ascii);
+    (octets.simd_lt(u8x16::splat(b' '))
+        | octets.simd_gt(u8x16::splat(greatest))
+        | octets.simd_eq(u8x16::splat(0x7F))
+        | octets.simd_eq(u8x16::splat(b'\\'))
+        | octets.simd_eq(u8x16::splat(quotes.delimiter))).to_bitmask()
+}
+
+// How many octets at the front stand for themselves, one by one.
+fn each_raw(quotes: Quotes, octets: &[u8]) -> usize
+    ensures { result ≡ length (take_while (is_raw quotes) octets.now) }
+{
+    octets
+        .iter()
+        .copied()
+        .take_while(|octet| is_raw(quotes, *octet))
+        .count()
+}
+
+/// The same, sixteen at a time.
+fn raw_front(quotes: Quotes, octets: &[u8]) -> usize
+    ensures { result ≡ length (take_while (is_raw quotes) octets.now) }
+{
+    if octets.len() < 16 {
+        return each_raw(quotes, octets);
     }
-    count
+    let mut at = 0;
+    while octets.len() - at >= 16 {
+        let escaped = escaped_lanes(quotes, u8x16::from_slice(&octets[at..]));
+        if escaped != 0 {
+            return at + escaped.trailing_zeros() as usize;
+        }
+        at += 16;
+    }
+    // the last sixteen, of which some were seen
+    let last = octets.len() - 16;
+    let escaped = escaped_lanes(quotes, u8x16::from_slice(&octets[last..]));
+    if escaped != 0 {
+        return last + escaped.trailing_zeros() as usize;
+    }
+    octets.len()
 }
 
 /// Appends what an octet is written as.

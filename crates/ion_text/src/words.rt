@@ -1,5 +1,5 @@
 //! What unquoted words are (Ion 1.0, "Symbols" and "Ion Text Encoding").
-ghost use Rattle.std.specs.Prelude.{◌≡◌, MatchResult};
+ghost use Rattle.std.specs.Prelude.{◌≡◌, false, MatchResult};
 ghost use Rattle.std.specs.List.{list_all};
 ghost use Rattle.ion_atoms.specs.declared.refusal.Reason.TheVariants as reasons;
 ghost use Rattle.ion_tokens.specs.Octets.{is_digit};
@@ -55,28 +55,49 @@ fn is_version(word: &[u8]) -> bool
     }
 }
 
+/// Whether a word begins as those do that are no symbols unquoted.
+#[inline(always)]
+pub(crate) fn may_be_keyword(word: &str) -> bool
+    ensures { result ≡ false → is_keyword word.now ≡ false }
+{
+    match word.as_bytes().first() {
+        Some(octet) => *octet == b'n' || *octet == b't' || *octet == b'f',
+        None => false,
+    }
+}
+
 /// Whether a word is no symbol unquoted; `nan` is a float.
+#[inline(always)]
 pub(crate) fn is_keyword(word: &str) -> bool
     ensures { result ≡ is_keyword word.now }
 {
-    matches!(word, "null" | "true" | "false" | "nan")
+    may_be_keyword(word) && matches!(word, "null" | "true" | "false" | "nan")
+}
+
+// What a word is that is a symbol unquoted. The only refusal is `Memory`.
+fn held_symbol(alloc: Global, word: &str) -> Result<Held, Reason>
+    requires { is_keyword word.now ≡ false }
+    ensures { MatchResult result (λ held. held ≡ held_word word.now) (λ r. r ≡ reasons.Memory) }
+{
+    let symbol = Symbol::known(alloc, word)?;
+    if is_version(word.as_bytes()) {
+        return Ok(Held::Version(word == "$ion_1_0", symbol));
+    }
+    Ok(Held::Symbol(symbol))
 }
 
 /// What a word is as a value, or as an annotation. The only refusal is `Memory`.
 pub(crate) fn held_word(alloc: Global, word: &str) -> Result<Held, Reason>
     ensures { MatchResult result (λ held. held ≡ held_word word.now) (λ r. r ≡ reasons.Memory) }
 {
+    if !may_be_keyword(word) {
+        return held_symbol(alloc, word);
+    }
     match word {
         "null" => Ok(Held::Null(Kind::Null)),
         "true" => Ok(Held::Truth(true)),
         "false" => Ok(Held::Truth(false)),
         "nan" => Ok(Held::Nan),
-        _ => {
-            let symbol = Symbol::known(alloc, word)?;
-            if is_version(word.as_bytes()) {
-                return Ok(Held::Version(word == "$ion_1_0", symbol));
-            }
-            Ok(Held::Symbol(symbol))
-        }
+        _ => held_symbol(alloc, word),
     }
 }

@@ -2,7 +2,7 @@
 -- crate gives.
 pub mod Answered
 pub mod Begins
-pub mod Blocks
+pub mod ByOctet
 pub mod Causes
 pub mod Cutting
 pub mod Digits
@@ -18,6 +18,8 @@ pub mod Histories
 pub mod Holds
 pub mod HoldsBlank
 pub mod HoldsStep
+pub mod LaneMasks
+pub mod LaneRuns
 pub mod LastOctets
 pub mod Moves
 pub mod OneBegun

@@ -1,61 +1,27 @@
 //! Octets at the front of a piece with which the mode goes on as it is: they are taken up at once.
-ghost use Rattle.std.specs.Prelude.{◌≡◌, ◌+◌, ◌-◌, ◌^◌, ◌<◌, ◌≤◌, true, min, length, take, IfOk};
-ghost use Rattle.std.specs.List.{list_all, take_while};
+ghost use Rattle.std.specs.Prelude.{◌≡◌, ◌+◌, ◌-◌, ◌^◌, ◌<◌, min, length, IfOk};
+ghost use Rattle.std.specs.List.{take_while};
 ghost use Rattle.ion_tokens.specs.Octets.{is_white, is_word_octet};
 ghost use Rattle.ion_tokens.specs.machine.AtOnce.{is_between, is_plain, is_numeric, goes_on, keeps_them, gone_on};
 ghost use Rattle.ion_tokens.specs.machine.Views.{known};
 
+use crate::lanes::{number_ends, text_ends, word_ends};
 use crate::machine::{Machine, start_of};
 use crate::mode::{Lob, Mode, Style, Within};
 use crate::octets::{is_base64, is_line_end, is_stop, is_white, is_word_octet};
 use crate::quoted::{is_long, quote_of};
 use std::alloc::AllocError;
+use std::simd::prelude::*;
 
-// An ASCII character that a text in these quotes, long or not, keeps as it is, and no quote. It has no branches, so that
-// many octets can be judged at once.
+// An ASCII character that a text in these quotes, long or not, keeps as it is, and no quote; the likely answer comes first.
 #[inline(always)]
 fn is_between(long: bool, quote: u8, octet: u8) -> bool
-    ensures { result ≡ is_between long quote octet }
-{
-    let control = (octet == b'\t') | (octet == 11) | (octet == 12) | (long & (octet == b'\n'));
-    (((octet >= b' ') & (octet < 128)) | control) & (octet != b'\\') & (octet != quote)
-}
-
-// Whether all of these octets are such characters; none is left out, so that they are judged side by side.
-#[inline(always)]
-fn all_between(long: bool, quote: u8, block: &[u8]) -> bool
-    ensures { result ≡ list_all (is_between long quote) block.now }
-{
-    let mut all = true;
-    for octet in block {
-        all = all & is_between(long, quote, *octet);
-    }
-    all
-}
-
-// How many octets stand in blocks of this size at the front that are all such characters.
-#[inline(always)]
-fn blocks_between(long: bool, quote: u8, size: usize, octets: &[u8]) -> usize
-    requires { 0 < size }
-    ensures within { result ≤ length octets.now }
-    ensures each { list_all (is_between long quote) (take result octets.now) ≡ true }
-{
-    let mut at = 0;
-    while octets.len() - at >= size && all_between(long, quote, &octets[at..at + size]) {
-        at += size;
-    }
-    at
-}
-
-// The same, with the likely answer first, for octets that are looked at one by one.
-#[inline(always)]
-fn is_one_between(long: bool, quote: u8, octet: u8) -> bool
     ensures { result ≡ is_between long quote octet }
 {
     if b' ' <= octet && octet < 128 {
         octet != quote && octet != b'\\'
     } else {
-        is_between(long, quote, octet)
+        (octet == b'\t' || octet == 11 || octet == 12 || (long && octet == b'\n')) && octet != quote
     }
 }
 
@@ -67,8 +33,24 @@ fn each_between(long: bool, quote: u8, octets: &[u8]) -> usize
     octets
         .iter()
         .copied()
-        .take_while(|octet| is_one_between(long, quote, *octet))
+        .take_while(|octet| is_between(long, quote, *octet))
         .count()
+}
+
+// The same, sixteen at a time.
+#[inline(always)]
+fn all_between(long: bool, quote: u8, octets: &[u8]) -> usize
+    ensures { result ≡ length (take_while (is_between long quote) octets.now) }
+{
+    let mut at = 0;
+    while octets.len() - at >= 16 {
+        let ends = text_ends(long, quote, u8x16::from_slice(&octets[at..]));
+        if ends != 0 {
+            return at + ends.trailing_zeros() as usize;
+        }
+        at += 16;
+    }
+    at + each_between(long, quote, &octets[at..])
 }
 
 // Whether octets with which the mode goes on are kept; those of a blank aren't.
@@ -78,8 +60,22 @@ fn keeps_them(mode: Mode) -> bool
     !matches!(mode, Mode::Blank | Mode::LineComment | Mode::BlockComment)
 }
 
-/// How many octets of white space there are at the front.
+/// How many octets of white space there are at the front; most often there is none, or one space.
+#[inline(always)]
 pub fn white(octets: &[u8]) -> usize
+    ensures { result ≡ length (take_while is_white octets.now) }
+{
+    if octets.is_empty() || !is_white(octets[0]) {
+        return 0;
+    }
+    if octets.len() > 1 && !is_white(octets[1]) {
+        return 1;
+    }
+    each_white(octets)
+}
+
+#[inline(never)]
+fn each_white(octets: &[u8]) -> usize
     ensures { result ≡ length (take_while is_white octets.now) }
 {
     octets
@@ -90,7 +86,24 @@ pub fn white(octets: &[u8]) -> usize
 }
 
 /// How many octets there are at the front with which a word goes on.
+#[inline(always)]
 pub fn of_word(octets: &[u8]) -> usize
+    ensures { result ≡ length (take_while is_word_octet octets.now) }
+{
+    let mut at = 0;
+    while octets.len() - at >= 16 {
+        let ends = word_ends(u8x16::from_slice(&octets[at..]));
+        if ends != 0 {
+            return at + ends.trailing_zeros() as usize;
+        }
+        at += 16;
+    }
+    at + each_of_word(&octets[at..])
+}
+
+// The same, one by one.
+#[inline(never)]
+fn each_of_word(octets: &[u8]) -> usize
     ensures { result ≡ length (take_while is_word_octet octets.now) }
 {
     octets
@@ -101,7 +114,24 @@ pub fn of_word(octets: &[u8]) -> usize
 }
 
 /// How many octets there are at the front with which a number goes on.
+#[inline(always)]
 pub fn of_number(octets: &[u8]) -> usize
+    ensures { result ≡ length (take_while is_numeric octets.now) }
+{
+    let mut at = 0;
+    while octets.len() - at >= 16 {
+        let ends = number_ends(u8x16::from_slice(&octets[at..]));
+        if ends != 0 {
+            return at + ends.trailing_zeros() as usize;
+        }
+        at += 16;
+    }
+    at + each_of_number(&octets[at..])
+}
+
+// The same, one by one.
+#[inline(never)]
+fn each_of_number(octets: &[u8]) -> usize
     ensures { result ≡ length (take_while is_numeric octets.now) }
 {
     octets
@@ -116,11 +146,7 @@ pub fn of_number(octets: &[u8]) -> usize
 pub fn plain(style: Style, octets: &[u8]) -> usize
     ensures { result ≡ length (take_while (is_plain style) octets.now) }
 {
-    let long = is_long(style);
-    let quote = quote_of(style);
-    let first = blocks_between(long, quote, 32, octets);
-    let more = first + blocks_between(long, quote, 8, &octets[first..]);
-    more + each_between(long, quote, &octets[more..])
+    all_between(is_long(style), quote_of(style), octets)
 }
 
 impl Machine {

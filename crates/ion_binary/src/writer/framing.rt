@@ -55,10 +55,13 @@ pub(crate) fn insert_length(place: usize, length: usize, out: &mut Vec<u8>) -> R
         OnOk result (out.new.items ≡ take place out.old.items ++ (var_uint_octets length ++ behind)) }
     ensures memory { IsOkUnless result faults.Memory }
 {
-    let end = out.len();
-    put_length(length, out)?;
-    let count = out.len() - end;
-    out[place..].rotate_right(count);
+    // The last digit first, and each in front of those that stand.
+    out.insert(place, 128 + (length % 128) as u8)?;
+    let mut rest = length / 128;
+    while rest > 0 {
+        out.insert(place, (rest % 128) as u8)?;
+        rest /= 128;
+    }
     Ok(())
 }
 

@@ -1,18 +1,17 @@
-//! Which ids the symbols of a value probably have.
+//! Which ids symbols probably have.
+ghost use Rattle.std.specs.Prelude.{◌+◌, ◌<◌, ◌≤◌, length};
 
+use ion_model::Symbol;
 use std::alloc::Global;
 
 /// How many ids are kept at most.
-const KEPT: usize = 65536;
+const KEPT: usize = 4096;
 
-/// The ids of the symbols looked up last, in the order of their use. The next value often has the same
-/// symbols in the same order, and the octets of a value have those that were numbered just before. Whoever
-/// takes a guess compares the symbol, so no clause speaks of what is kept here.
+/// The ids of symbols that were looked up lately, each at a place that a cheap hash of the text tells. Whoever takes a guess
+/// compares the symbol, so no clause speaks of what is kept here: texts that share a place cost a look by the text.
 #[derive(Drop)]
 pub(crate) struct Guesses {
     ids: Vec<usize>,
-    /// The place of the next symbol's id.
-    next: usize,
 }
 
 impl Guesses {
@@ -20,30 +19,85 @@ impl Guesses {
     pub(crate) fn new(alloc: Global) -> Guesses {
         Guesses {
             ids: Vec::new(alloc),
-            next: 0,
         }
     }
 
-    /// Goes back to the first symbol.
-    pub(crate) fn restart(&mut self) {
-        self.next = 0;
+    /// The place of a symbol's id.
+    #[inline(always)]
+    pub(crate) fn place_of(symbol: &Symbol) -> usize {
+        match symbol.text() {
+            None => 0,
+            Some(text) => place_of_text(text.as_bytes()),
+        }
     }
 
-    /// The id that the next symbol had the last time, or 0.
-    pub(crate) fn guess(&self) -> usize {
-        match self.ids.get(self.next) {
+    /// The id that was noted there last, or 0.
+    #[inline(always)]
+    pub(crate) fn guess(&self, place: usize) -> usize {
+        match self.ids.get(place) {
             Some(id) => *id,
             None => 0,
         }
     }
 
-    /// Notes the id of the next symbol, and goes on behind it. Without memory nothing is kept.
-    pub(crate) fn note(&mut self, id: usize) {
-        if self.next < self.ids.len() {
-            self.ids[self.next] = id;
-        } else if self.next < KEPT {
-            let _kept = self.ids.push(id).is_ok();
+    /// Notes the id of a symbol with this place. Without memory nothing is kept.
+    pub(crate) fn note(&mut self, place: usize, id: usize) {
+        if self.ids.is_empty() && self.ids.resize(KEPT, 0).is_err() {
+            return;
         }
-        self.next = self.next.saturating_add(1);
+        if place < self.ids.len() {
+            self.ids[place] = id;
+        }
     }
+}
+
+// By the first and the last octets, eight or four of them, and the length.
+#[inline(always)]
+fn place_of_text(octets: &[u8]) -> usize {
+    let count = octets.len();
+    let mixed = if count >= 8 {
+        mix(eight_at(octets, 0), eight_at(octets, count - 8), count)
+    } else if count >= 4 {
+        mix(four_at(octets, 0), four_at(octets, count - 4), count)
+    } else {
+        mix(few(octets), 0, count)
+    };
+    (mixed >> 32) as usize % KEPT
+}
+
+#[inline(always)]
+fn mix(first: u64, last: u64, count: usize) -> u64 {
+    (first ^ last.rotate_left(29) ^ count as u64).wrapping_mul(0x9E37_79B9_7F4A_7C15)
+}
+
+#[inline(always)]
+fn eight_at(octets: &[u8], at: usize) -> u64
+    requires { at + 8 ≤ length octets.now }
+{
+    u64::from_le_bytes([
+        octets[at],
+        octets[at + 1],
+        octets[at + 2],
+        octets[at + 3],
+        octets[at + 4],
+        octets[at + 5],
+        octets[at + 6],
+        octets[at + 7],
+    ])
+}
+
+#[inline(always)]
+fn four_at(octets: &[u8], at: usize) -> u64
+    requires { at + 4 ≤ length octets.now }
+{
+    u64::from(u32::from_le_bytes([octets[at], octets[at + 1], octets[at + 2], octets[at + 3]]))
+}
+
+#[inline(always)]
+fn few(octets: &[u8]) -> u64 {
+    let mut number = 0u64;
+    for octet in octets {
+        number = number.wrapping_mul(256).wrapping_add(u64::from(*octet));
+    }
+    number
 }

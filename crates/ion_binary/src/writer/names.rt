@@ -73,13 +73,13 @@ impl<S: BuildHasher + Drop> Names<S> {
         ensures small { IfOk result (λ id. id < 2 ^ 63) }
         ensures cause { IfErr result (IsNumberingFault (with_name self.old symbol.now)) }
     {
-        let guess = guesses.guess();
+        let place = Guesses::place_of(symbol);
+        let guess = guesses.guess(place);
         if self.stands_at(guess, symbol) {
-            guesses.note(guess);
             return Ok(guess as u64);
         }
         let id = self.add_by_text(symbol)?;
-        guesses.note(id);
+        guesses.note(place, id);
         Ok(id as u64)
     }
 

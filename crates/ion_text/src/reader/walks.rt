@@ -20,7 +20,7 @@ ghost use Rattle.ion_text.specs.machine.Walked.{Walked, WalkedContainer, WalkedI
 use super::beside::may_be_rare;
 use super::nested::open_mark;
 use super::symbols::{behind_name, behind_symbol, plain_text};
-use crate::words::is_keyword;
+use crate::words::{is_keyword, may_be_keyword};
 use ion_model::{Kind, Outline};
 use ion_scalar::{Number, number_of};
 use ion_tokens::{
@@ -188,6 +188,9 @@ fn word_kind(word: &str) -> Option<Kind>
     ensures { IfSome result (λ kind. (payload : Payload)
         × (held_payload (held_word word.now) ≡ Ok payload) × IsFlat payload kind) }
 {
+    if !may_be_keyword(word) {
+        return Some(Kind::Symbol);
+    }
     if word == "null" {
         return Some(Kind::Null);
     }

@@ -44,6 +44,7 @@ pub returns-in_ok-encoder-in-Binary-clause-cause : goal.returns-in_ok-encoder-in
 returns-in_ok-encoder-in-Binary-clause-cause g c =
     let under : c.in_ok-items.items.catalog.now ≡ c.args.catalog.now = search rules in
     let within : c.in_ok-items.items.limits ≡ c.args.limits = search rules in
-    let few : c.reads-reads.result ≡ c.in_ok-items.items.limits.reads = search rules in
+    let asked : c.reads-reads.result ≡ c.args.limits.reads = search rules in
+    let few : c.reads-reads.result ≡ c.in_ok-items.items.limits.reads = rw within asked in
     let cause = rw few at c.convert_by.ensures.cause in
     rw (c.in-Binary.is, ← under, ← within) cause

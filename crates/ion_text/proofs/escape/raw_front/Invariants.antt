@@ -1,12 +1,10 @@
-use Rattle.std.proofs.Common.{◌≤◌, ◌-◌, take, length}
-use Rattle.ion_text.specs.laws.writing.RawRuns.{AreRaw}
+use Rattle.std.proofs.Common.{◌-◌, length}
+use Rattle.ion_tokens.proofs.LaneRuns.{GoesOnTo}
+use Rattle.ion_text.specs.laws.writing.RawRuns.{is_raw}
 use Rattle.ion_text.proofs.escape.raw_front.Given as goal
 
-abbrev pub invariant-loop-count : goal.invariant-loop-count
-invariant-loop-count l = record {
-  within : l.count ≤ length l.octets;
-  raw : AreRaw l.quotes (take l.count l.octets);
-}
+abbrev pub invariant-loop-at : goal.invariant-loop-at
+invariant-loop-at l = GoesOnTo (is_raw l.quotes) l.octets l.at
 
-abbrev pub decreases-loop-count : goal.decreases-loop-count
-decreases-loop-count l = length l.octets - l.count
+abbrev pub decreases-loop-at : goal.decreases-loop-at
+decreases-loop-at l = length l.octets - l.at

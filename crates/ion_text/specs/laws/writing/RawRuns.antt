@@ -1,7 +1,8 @@
 -- Octets that stand for themselves between quotes.
-use Rattle.std.proofs.Common.{◌≡◌, ℕ, Bool, true, cond, List, [], ◌∷◌, ◌++◌, take, drop, None, refl, sym, ap, ap₂, ◌∙◌, append_assoc, arith, ◌+◌, ◌<◌, length, get_or, subst}
+use Rattle.std.proofs.Common.{◌≡◌, ℕ, suc, Bool, true, false, cond, List, [], ◌∷◌, ◌++◌, take, drop, None, refl, sym, ap, ap₂, ◌∙◌, append_assoc, arith, ◌+◌, ◌<◌, length, get_or, subst}
 use Rattle.std.specs.Prelude.{◌==◌, ◌&&◌, not, nat_le}
-use Rattle.std.specs.List.{AllByRecursion}
+use Rattle.std.specs.List.{AllByRecursion, prefix_len, take_while}
+use Rattle.std.proofs.lemmas.List.Folds.{length-prefix_len}
 use Rattle.std.proofs.lemmas.Bool.{and_parts}
 use Rattle.std.proofs.lemmas.Bool.Decides.{nat_tests}
 use Rattle.std.proofs.lemmas.Grind.{flat_map-append}
@@ -16,13 +17,17 @@ is_raw quotes o = not (o == 92) && (not (o == quotes.delimiter) && stands_raw qu
 abbrev pub AreRaw : Quotes → List ℕ → Type 0
 AreRaw quotes octets = AllByRecursion (λ o. is_raw quotes o ≡ true) octets
 
-raw_last : (quotes : Quotes) (octets : List ℕ) (o : ℕ) → AreRaw quotes octets → is_raw quotes o ≡ true → AreRaw quotes (octets ++ o ∷ [])
-raw_last quotes [] o h e = (e, tt)
-raw_last quotes (x ∷ octets) o h e = (h.0, raw_last quotes octets o h.1 e)
+-- those that are counted at the front stand for themselves
+raw_prefix : (quotes : Quotes) (octets : List ℕ) → AreRaw quotes (take (prefix_len (is_raw quotes) octets) octets)
+raw_prefix quotes [] = tt
+raw_prefix quotes (o ∷ os) = by (is_raw quotes o) refl (raw_prefix quotes os) where
+  by : (b : Bool) → is_raw quotes o ≡ b → AreRaw quotes (take (prefix_len (is_raw quotes) os) os) → AreRaw quotes (take (cond b (1 + prefix_len (is_raw quotes) os) 0) (o ∷ os))
+  by true e rest = subst (λ (n : ℕ). AreRaw quotes (take n (o ∷ os))) (let next : suc (prefix_len (is_raw quotes) os) ≡ 1 + prefix_len (is_raw quotes) os = omega arith in next) (e, rest)
+  by false e rest = tt
 
--- one more at the front stands for itself
-pub raw_more : (quotes : Quotes) (octets : List ℕ) (at : ℕ) → at < length octets → AreRaw quotes (take at octets) → is_raw quotes (get_or octets at 0) ≡ true → AreRaw quotes (take (at + 1) octets)
-raw_more quotes octets at k h e = subst (AreRaw quotes) (sym (take_more octets at 0 k)) (raw_last quotes (take at octets) (get_or octets at 0) h e)
+pub raw_run : (quotes : Quotes) (octets : List ℕ) (n : ℕ) → n ≡ length (take_while (is_raw quotes) octets) → AreRaw quotes (take n octets)
+raw_run quotes octets n e =
+    subst (λ (k : ℕ). AreRaw quotes (take k octets)) (sym (length-prefix_len (is_raw quotes) octets) ∙ sym e) (raw_prefix quotes octets)
 
 raw_letter : (quotes : Quotes) (o : ℕ) → is_raw quotes o ≡ true → letter_for quotes.delimiter o ≡ None
 raw_letter quotes o h = let a = and_parts _ _ h in let b = and_parts _ _ a.1 in let c = and_parts _ _ b.1 in by a.0 b.0 c.0 where

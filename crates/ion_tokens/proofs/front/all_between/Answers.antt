@@ -1,12 +1,23 @@
-use Rattle.std.proofs.Common.{take, ap, sym, ◌∙◌}
-use Rattle.std.specs.Prelude.{◌&&◌}
-use Rattle.std.specs.List.{list_all}
+use Rattle.std.proofs.Common.{◌∙◌, ap, length, arith}
+use Rattle.std.specs.List.{take_while}
 use Rattle.ion_tokens.specs.machine.AtOnce.{is_between}
-use Rattle.ion_tokens.proofs.Blocks.{all_more}
+use Rattle.ion_tokens.proofs.GoesOn.{rest_is}
+use Rattle.ion_tokens.proofs.LaneRuns.{at_start, goes_through, stops_at, then_each}
 use Rattle.ion_tokens.proofs.front.all_between.Goals as goal
 
-pub loop-octet-preserved : goal.loop-octet-preserved
-loop-octet-preserved c =
+pub loop-at-init : goal.loop-at-init
+loop-at-init c = at_start (is_between c.args.long c.args.quote) c.args.octets.now
+
+pub loop-at-preserved : goal.loop-at-preserved
+loop-at-preserved c =
+    goes_through (is_between c.args.long c.args.quote) c.args.octets.now c.loop-at.at 16 c.text_ends-ends.result c.loop-at.invariant (omega arith) c.text_ends-ends.ensures (omega arith)
+
+pub returns-then-ends-ne0 : goal.returns-then-ends-ne0
+returns-then-ends-ne0 c =
+    stops_at (is_between c.args.long c.args.quote) c.args.octets.now c.loop-at.at 16 c.text_ends-ends.result c.loop-at.invariant (omega arith) (omega arith) c.text_ends-ends.ensures (omega arith)
+
+pub returns : goal.returns
+returns c =
     let class = is_between c.args.long c.args.quote in
-    let i = c.loop-octet.octet-index in
-    ap (λ b. b && c.is_between-all.result) c.loop-octet.invariant ∙ ap (λ b. list_all class (take i c.args.block.now) && b) c.is_between-all.ensures ∙ sym (all_more class c.args.block.now i c.loop-octet-test.true)
+    then_each class c.args.octets.now c.loop-at.at c.each_between.result c.loop-at.invariant
+    (c.each_between.ensures ∙ ap (λ w. length (take_while class w)) (rest_is c.args.octets.now c.loop-at.at))

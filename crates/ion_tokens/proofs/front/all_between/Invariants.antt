@@ -1,7 +1,10 @@
-use Rattle.std.proofs.Common.{◌≡◌, take}
-use Rattle.std.specs.List.{list_all}
+use Rattle.std.proofs.Common.{◌-◌, length}
 use Rattle.ion_tokens.specs.machine.AtOnce.{is_between}
+use Rattle.ion_tokens.proofs.LaneRuns.{GoesOnTo}
 use Rattle.ion_tokens.proofs.front.all_between.Given as goal
 
-abbrev pub invariant-loop-octet : goal.invariant-loop-octet
-invariant-loop-octet l = l.all ≡ list_all (is_between l.long l.quote) (take l.octet-index l.block)
+abbrev pub invariant-loop-at : goal.invariant-loop-at
+invariant-loop-at l = GoesOnTo (is_between l.long l.quote) l.octets l.at
+
+abbrev pub decreases-loop-at : goal.decreases-loop-at
+decreases-loop-at l = length l.octets - l.at

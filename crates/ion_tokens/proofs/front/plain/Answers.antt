@@ -1,15 +1,12 @@
-use Rattle.std.proofs.Common.{◌+◌}
+use Rattle.std.proofs.Common.{Bool, ℕ, length, ap, ◌∙◌}
+use Rattle.std.specs.List.{take_while}
+use Rattle.ion_tokens.specs.machine.Table.{is_long}
 use Rattle.ion_tokens.specs.machine.AtOnce.{is_between}
-use Rattle.ion_tokens.proofs.Blocks.{blocks_then, plain_front}
 use Rattle.ion_tokens.proofs.front.plain.Goals as goal
 
 pub returns : goal.returns
 returns c =
     let octets = c.args.octets.now in
-    let long = c.is_long-long.result in
-    let quote = c.quote_of-quote.result in
-    let first = c.blocks_between-first.result in
-    let more = c.blocks_between.result in
-    let last = c.each_between.result in
-    plain_front c.args.style long quote octets (first + more + last) c.is_long-long.ensures c.quote_of-quote.ensures
-    (blocks_then (is_between long quote) octets first more last c.blocks_between-first.ensures.within c.blocks_between-first.ensures.each c.blocks_between.ensures.within c.blocks_between.ensures.each c.each_between.ensures)
+    c.all_between.ensures
+    ∙ ap (λ (long : Bool). length (take_while (is_between long c.quote_of.result) octets)) c.is_long.ensures
+    ∙ ap (λ (quote : ℕ). length (take_while (is_between (is_long c.args.style) quote) octets)) c.quote_of.ensures

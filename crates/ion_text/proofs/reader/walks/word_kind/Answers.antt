@@ -3,9 +3,14 @@ use Rattle.std.specs.Prelude.{codes}
 use Rattle.std.specs.Str.{bytes_eq}
 use Rattle.ion_atoms.specs.declared.kind.Kind.TheVariants as kinds
 use Rattle.ion_model.specs.declared.value.Payload.TheVariants as payloads
-use Rattle.ion_text.proofs.Walks.{flat_null, flat_truth, flat_symbol, word_null, word_true, word_false, word_symbol}
+use Rattle.ion_text.proofs.Walks.{flat_null, flat_truth, flat_symbol, word_null, word_true, word_false, word_symbol, word_free}
 use Rattle.ion_text.proofs.reader.walks.word_kind.Goals as goal
 use Rattle.ion_text.proofs.reader.walks.word_kind.Goals.{then-eq-2-via-then-eq-2, then-eq-2-via-else-eq-2+then-eq-3}
+
+pub returns-then-not-may_be_keyword : goal.returns-then-not-may_be_keyword
+returns-then-not-may_be_keyword c =
+    let free = c.may_be_keyword.ensures c.if-not-may_be_keyword.true in
+    (payloads.Symbol (Some c.args.word.now), word_free c.args.word.now free, flat_symbol (Some c.args.word.now))
 
 pub returns-then-eq : goal.returns-then-eq
 returns-then-eq c =

@@ -1,0 +1,59 @@
+//! Which of sixteen octets end a run, as the bits of a number, the first octet's lowest.
+ghost use Rattle.std.specs.Prelude.{◌≡◌, map, not, if◌then◌else◌};
+ghost use Rattle.std.specs.Simd.Lanes.{mask_l};
+ghost use Rattle.ion_tokens.specs.Octets.{is_word_octet};
+ghost use Rattle.ion_tokens.specs.machine.AtOnce.{is_between, is_numeric};
+
+use std::simd::prelude::*;
+
+// LF, where it ends the run, and else an octet that does anyway.
+#[inline(always)]
+fn line_end(long: bool) -> u8
+    ensures { result ≡ if long then 92 else 10 }
+{
+    if long { b'\\' } else { b'\n' }
+}
+
+/// The octets that a text in these quotes, long or not, doesn't keep as they are.
+#[inline(always)]
+pub fn text_ends(long: bool, quote: u8, octets: u8x16) -> u64
+    ensures { result ≡ mask_l (map (λ o. not (is_between long quote o)) octets) }
+{
+    let line_end = line_end(long);
+    (octets.simd_lt(u8x16::splat(b'\t'))
+        | octets.simd_eq(u8x16::splat(line_end))
+        | (octets - u8x16::splat(b'\r')).simd_lt(u8x16::splat(b' ' - b'\r'))
+        | octets.simd_ge(u8x16::splat(0x80))
+        | octets.simd_eq(u8x16::splat(b'\\'))
+        | octets.simd_eq(u8x16::splat(quote))).to_bitmask()
+}
+
+/// The octets with which no word goes on.
+#[inline(always)]
+pub fn word_ends(octets: u8x16) -> u64
+    ensures { result ≡ mask_l (map (λ o. not (is_word_octet o)) octets) }
+{
+    let lower = (octets | u8x16::splat(0x20)) - u8x16::splat(b'a');
+    let digit = octets - u8x16::splat(b'0');
+    (lower.simd_ge(u8x16::splat(26))
+        & digit.simd_ge(u8x16::splat(10))
+        & octets.simd_ne(u8x16::splat(b'_'))
+        & octets.simd_ne(u8x16::splat(b'$'))).to_bitmask()
+}
+
+/// The octets with which no number goes on.
+#[inline(always)]
+pub fn number_ends(octets: u8x16) -> u64
+    ensures { result ≡ mask_l (map (λ o. not (is_numeric o)) octets) }
+{
+    // `[` and `{`, and `]` and `}`, are this bit apart
+    let brace = octets | u8x16::splat(0x20);
+    (brace.simd_eq(u8x16::splat(b'{'))
+        | brace.simd_eq(u8x16::splat(b'}'))
+        | (octets - u8x16::splat(b'\'')).simd_lt(u8x16::splat(3))
+        | (octets - u8x16::splat(b'\t')).simd_lt(u8x16::splat(5))
+        | octets.simd_eq(u8x16::splat(b','))
+        | octets.simd_eq(u8x16::splat(b'/'))
+        | octets.simd_eq(u8x16::splat(b'"'))
+        | octets.simd_eq(u8x16::splat(b' '))).to_bitmask()
+}
