@@ -1,0 +1,204 @@
+"""Whole Amazon Ion 1.0 documents in memory, text or binary: check, show, compare, convert.
+
+The answers are those of the command `ion_cmd`, whose code is proved; of this module only tests speak. A document is bytes,
+a bytearray, a memoryview, an mmap, or the path of a file (`pathlib.Path`). Nothing is copied of it.
+
+    >>> compare(b"{a: [1, 2]}", b"{a: [1, 3]}")
+    Different(index=1, path='a [2]')
+
+Each call also takes `catalog`, a document of the shared symbol tables that its documents may import, `depth`, how deep values
+may go (1 to 128), and `item`, how many octets a top-level value may have (1 to 2**30).
+"""
+from __future__ import annotations
+
+from dataclasses import dataclass
+from typing import List, Sequence, Tuple, Union
+
+from . import _library
+from ._library import Document
+
+__all__ = [
+    "Different",
+    "Document",
+    "Equivalent",
+    "Fault",
+    "Refused",
+    "assert_same_ion",
+    "check",
+    "compare",
+    "compare_each",
+    "show",
+    "to_binary",
+    "to_text",
+]
+__version__ = _library.VERSION
+
+_DEPTH, _ITEM = 64, 1 << 24
+_SIDES = ("", "", "left", "right", "catalog")
+
+
+class Refused(ValueError):
+    """Octets that are no document; `compare` returns it of a side, and everything else is raised.
+
+    offset: the octet that decides: no document begins with so many of the first octets, or the input ended there
+    reason: why, as "Malformed"; `man ion_cmd` has each in words
+    side: "left", "right", "catalog", or "" for the only document
+    before: what was written of the values before, by `show`, `to_text` and `to_binary`
+    """
+
+    __match_args__ = ("side", "offset", "reason")
+
+    def __init__(self, side: str, offset: int, reason: str, before: bytes = b"") -> None:
+        super().__init__(side, offset, reason, before)
+        self.side, self.offset, self.reason, self.before = side, offset, reason, before
+
+    def __str__(self) -> str:
+        return " ".join(word for word in ("refused", self.side, str(self.offset), self.reason) if word)
+
+    def __bool__(self) -> bool:
+        return False
+
+
+class Fault(RuntimeError):
+    """No answer, which says nothing of the octets: `reason` is "TooLarge" where binary would need a symbol id above 2**31-1.
+
+    Want of memory is a MemoryError.
+    """
+
+    def __init__(self, reason: str) -> None:
+        super().__init__(reason)
+        self.reason = reason
+
+
+@dataclass(frozen=True)
+class Equivalent:
+    """Two documents of equivalent streams, which have so many values. It is true."""
+
+    values: int
+
+    def __bool__(self) -> bool:
+        return True
+
+
+@dataclass(frozen=True)
+class Different:
+    """Two documents whose streams part: at which value, counted from 1, and the path within it, as "name [2]". It is false.
+
+    The path is empty where only one stream has that value, or where the values differ as a whole.
+    """
+
+    index: int
+    path: str
+
+    def __bool__(self) -> bool:
+        return False
+
+
+def _refusal(answer: _library.Answer, before: bytes = b"") -> Refused:
+    return Refused(_SIDES[answer.whose], answer.number, _library.REASONS[answer.reason], before)
+
+
+def _raise(answer: _library.Answer, before: bytes = b"") -> None:
+    """Raises what an answer is neither a document nor a verdict for."""
+    if answer.status == _library.REFUSED:
+        raise _refusal(answer, before)
+    if answer.status == _library.WRONG_LIMITS:
+        raise ValueError("depth is 1 to 128, and item 1 to 2**30")
+    if answer.status == _library.FAULT:
+        reason = _library.FAULTS[answer.reason]
+        raise MemoryError() if reason == "Memory" else Fault(reason)
+
+
+def check(document: Document, *, catalog: Document = b"", depth: int = _DEPTH, item: int = _ITEM) -> int:
+    """How many values the document has. Raises Refused, Fault, MemoryError; ValueError where the limits are none."""
+    told = _library.call("check", (document,), catalog, depth, item, -1)
+    _raise(told.answer)
+    return told.answer.number
+
+
+def show(document: Document, *, catalog: Document = b"", depth: int = _DEPTH, item: int = _ITEM) -> str:
+    """A line for each value, `INDEX KIND depth DEPTH nodes NODES`, and `accepted VALUES`. Raises what `check` does."""
+    return _written("show", document, catalog, depth, item).decode()
+
+
+def to_text(document: Document, *, catalog: Document = b"", depth: int = _DEPTH, item: int = _ITEM) -> bytes:
+    """A text document of the same stream, a line for each value. Raises what `check` does."""
+    return _written("to_text", document, catalog, depth, item)
+
+
+def to_binary(document: Document, *, catalog: Document = b"", depth: int = _DEPTH, item: int = _ITEM) -> bytes:
+    """A binary document of the same stream, each length in the fewest octets. Raises what `check` does."""
+    return _written("to_binary", document, catalog, depth, item)
+
+
+def _written(name: str, document: Document, catalog: Document, depth: int, item: int) -> bytes:
+    length = 0 if hasattr(document, "__fspath__") else len(document)  # type: ignore[arg-type]
+    told = _library.call(name, (document,), catalog, depth, item, 2 * length + 256)
+    _raise(told.answer, told.text)
+    return told.text
+
+
+def compare(
+    left: Document, right: Document, *, catalog: Document = b"", depth: int = _DEPTH, item: int = _ITEM
+) -> Union[Equivalent, Different, Refused]:
+    """Whether two documents have equivalent streams, where they part, or which side is no document: the left, else the right.
+
+    Only Equivalent is true. Raises Refused of the catalog, Fault, MemoryError; ValueError where the limits are none.
+    """
+    told = _library.call("compare", (left, right), catalog, depth, item, 256)
+    return _verdict(told.answer, told.text)
+
+
+def _verdict(answer: _library.Answer, path: bytes) -> Union[Equivalent, Different, Refused]:
+    if answer.status == _library.ACCEPTED:
+        return Equivalent(answer.number)
+    if answer.status == _library.DIFFERENT:
+        return Different(answer.number, path.decode())
+    if answer.status == _library.REFUSED and _SIDES[answer.whose] != "catalog":
+        return _refusal(answer)
+    _raise(answer)
+    raise AssertionError("an unknown status")
+
+
+def compare_each(
+    pairs: Sequence[Tuple[Document, Document]], *, catalog: Document = b"", depth: int = _DEPTH, item: int = _ITEM
+) -> List[Union[Equivalent, Different, Refused]]:
+    """What `compare` answers of each pair, by one call; a pair that differs is compared once more for its path."""
+    limits = {"catalog": catalog, "depth": depth, "item": item}
+    verdicts: List[Union[Equivalent, Different, Refused]] = []
+    for (left, right), answer in zip(pairs, _library.compare_each(pairs, catalog, depth, item)):
+        if answer.length:
+            verdicts.append(compare(left, right, **limits))  # type: ignore[arg-type]
+        else:
+            verdicts.append(_verdict(answer, b""))
+    return verdicts
+
+
+def assert_same_ion(
+    left: Document, right: Document, *, catalog: Document = b"", depth: int = _DEPTH, item: int = _ITEM
+) -> None:
+    """Fails, as `assert` does, unless the documents have equivalent streams: with the path, and what stands there in both.
+
+    For tests, under pytest or any other runner: `assert_same_ion(pathlib.Path("expected.ion"), writer.octets())`.
+    """
+    __tracebackhide__ = True
+    limits = {"catalog": catalog, "depth": depth, "item": item}
+    verdict = compare(left, right, **limits)  # type: ignore[arg-type]
+    if isinstance(verdict, Equivalent):
+        return
+    if isinstance(verdict, Refused):
+        raise AssertionError(f"{verdict.side} is no Ion document: {verdict.reason} at octet {verdict.offset}")
+    lines = [f"value {verdict.index}" + (f" at {verdict.path}" if verdict.path else "") + " differs"]
+    for side, document in (("left", left), ("right", right)):
+        lines += [f"{side + ':':<6} {text}" for text in _texts_at(to_text(document, **limits), verdict)]  # type: ignore[arg-type]
+    raise AssertionError("\n".join(lines))
+
+
+def _texts_at(text: bytes, difference: Different) -> List[str]:
+    """What stands at a difference, as text: of a name that stands several times each, and `(nothing)` where there is none."""
+    from .ion_lines import texts_at
+
+    lines = text.decode().split("\n")[:-1]
+    if len(lines) < difference.index:
+        return ["(nothing)"]
+    return texts_at(lines[difference.index - 1], difference.path) or ["(nothing)"]

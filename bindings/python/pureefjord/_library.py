@@ -1,0 +1,202 @@
+"""The calls of the shared object, as pureefjord.h declares them, and octets lent to them without a copy."""
+from __future__ import annotations
+
+import ctypes
+import mmap
+import os
+import pathlib
+from typing import Any, Callable, List, NamedTuple, Sequence, Tuple, Union
+
+Document = Union[bytes, bytearray, memoryview, mmap.mmap, "os.PathLike[str]", "os.PathLike[bytes]"]
+
+ACCEPTED, DIFFERENT, REFUSED, WRONG_LIMITS, FAULT = range(5)
+FAULTS = ("", "Memory", "Read", "Write", "TooManyReads", "TooLarge", "Open")
+
+
+class Answer(ctypes.Structure):
+    _fields_ = [
+        ("number", ctypes.c_uint64),
+        ("length", ctypes.c_uint64),
+        ("status", ctypes.c_uint32),
+        ("whose", ctypes.c_uint32),
+        ("reason", ctypes.c_uint32),
+    ]
+
+
+class _Options(ctypes.Structure):
+    _fields_ = [
+        ("catalog", ctypes.c_void_p),
+        ("catalog_length", ctypes.c_size_t),
+        ("item", ctypes.c_uint64),
+        ("depth", ctypes.c_uint32),
+    ]
+
+
+class _Pair(ctypes.Structure):
+    _fields_ = [
+        ("left", ctypes.c_void_p),
+        ("left_length", ctypes.c_size_t),
+        ("right", ctypes.c_void_p),
+        ("right_length", ctypes.c_size_t),
+    ]
+
+
+class _Buffer(ctypes.Structure):
+    """Python's Py_buffer."""
+
+    _fields_ = [
+        ("buf", ctypes.c_void_p),
+        ("obj", ctypes.py_object),
+        ("len", ctypes.c_ssize_t),
+        ("itemsize", ctypes.c_ssize_t),
+        ("readonly", ctypes.c_int),
+        ("ndim", ctypes.c_int),
+        ("format", ctypes.c_char_p),
+        ("shape", ctypes.c_void_p),
+        ("strides", ctypes.c_void_p),
+        ("suboffsets", ctypes.c_void_p),
+        ("internal", ctypes.c_void_p),
+    ]
+
+
+_get_buffer = ctypes.pythonapi.PyObject_GetBuffer
+_get_buffer.argtypes = [ctypes.py_object, ctypes.POINTER(_Buffer), ctypes.c_int]
+_release_buffer = ctypes.pythonapi.PyBuffer_Release
+_release_buffer.argtypes = [ctypes.POINTER(_Buffer)]
+_release_buffer.restype = None
+
+
+def _loaded() -> ctypes.CDLL:
+    name = os.environ.get("PUREEFJORD_LIBRARY")
+    library = ctypes.CDLL(name or str(pathlib.Path(__file__).with_name("libpureefjord.so")))
+    octets = [ctypes.c_void_p, ctypes.c_size_t]
+    options, answer = ctypes.POINTER(_Options), ctypes.POINTER(Answer)
+    library.pureefjord_check.argtypes = [*octets, options, answer]
+    library.pureefjord_show.argtypes = [*octets, options, *octets, answer]
+    library.pureefjord_compare.argtypes = [*octets, *octets, options, *octets, answer]
+    library.pureefjord_to_text.argtypes = [*octets, options, *octets, answer]
+    library.pureefjord_to_binary.argtypes = [*octets, options, *octets, answer]
+    library.pureefjord_compare_each.argtypes = [ctypes.POINTER(_Pair), ctypes.c_size_t, options, answer, ctypes.c_size_t]
+    library.pureefjord_reason_name.argtypes = [ctypes.c_uint32, *octets]
+    library.pureefjord_version.argtypes = octets
+    for name in ("check", "show", "compare", "to_text", "to_binary"):
+        getattr(library, "pureefjord_" + name).restype = ctypes.c_uint32
+    for name in ("compare_each", "reason_name", "version"):
+        getattr(library, "pureefjord_" + name).restype = ctypes.c_size_t
+    return library
+
+
+_library = _loaded()
+
+
+def _short(call: Callable[..., int], *words: int) -> str:
+    buffer = ctypes.create_string_buffer(64)
+    length = call(*words, buffer, 64)
+    return buffer.raw[:length].decode()
+
+
+VERSION = _short(_library.pureefjord_version)
+REASONS = tuple(_short(_library.pureefjord_reason_name, number) for number in range(23))
+
+
+class _Lent:
+    """Octets where they lie: their place and number, until `release`."""
+
+    def __init__(self, document: Document) -> None:
+        self._held: Any = document
+        self._buffer = self._map = None
+        if isinstance(document, str):
+            raise TypeError("a document is bytes or the like, or a pathlib.Path; of Ion in a str take .encode()")
+        if isinstance(document, os.PathLike):
+            document = self._held = self._mapped(document)
+        if isinstance(document, bytes):
+            self.place: Any = ctypes.cast(document, ctypes.c_void_p)
+            self.length = len(document)
+            return
+        self._buffer = _Buffer()
+        _get_buffer(document, self._buffer, 0)
+        self.place, self.length = self._buffer.buf or ctypes.cast(b"", ctypes.c_void_p), self._buffer.len
+
+    def _mapped(self, path: "os.PathLike[Any]") -> Union[bytes, mmap.mmap]:
+        """A file's octets: mapped where it has some and can be, as a pipe can't."""
+        with open(path, "rb") as file:
+            try:
+                self._map = mmap.mmap(file.fileno(), 0, access=mmap.ACCESS_READ)
+            except (ValueError, OSError):
+                return file.read()
+            return self._map
+
+    def release(self) -> None:
+        if self._buffer:
+            _release_buffer(self._buffer)
+            self._buffer = None
+        if self._map:
+            self._map.close()
+        self._held = None
+
+
+class _LentAll:
+    """Several documents lent for as long as a `with` block lasts."""
+
+    def __init__(self, documents: Sequence[Document]) -> None:
+        self._documents = documents
+
+    def __enter__(self) -> List[_Lent]:
+        self.lent: List[_Lent] = []
+        try:
+            for document in self._documents:
+                self.lent.append(_Lent(document))
+        except BaseException:
+            self.__exit__()
+            raise
+        return self.lent
+
+    def __exit__(self, *_: Any) -> None:
+        for lent in self.lent:
+            lent.release()
+
+
+class Told(NamedTuple):
+    """What a call told: its answer and its text."""
+
+    answer: Answer
+    text: bytes
+
+
+def _options(catalog: _Lent, depth: int, item: int) -> _Options:
+    if not (1 <= depth <= 128 and 1 <= item <= 1 << 30):
+        raise ValueError("depth is 1 to 128, and item 1 to 2**30")
+    return _Options(catalog.place, catalog.length, item, depth)
+
+
+def call(name: str, documents: Sequence[Document], catalog: Document, depth: int, item: int, room: int) -> Told:
+    """Makes the call of this name, and again with more room where the text didn't fit; `room` -1 is a call without a text."""
+    function = getattr(_library, "pureefjord_" + name)
+    answer = Answer()
+    with _LentAll([catalog, *documents]) as (lent_catalog, *lent):
+        options = _options(lent_catalog, depth, item)
+        words = [word for it in lent for word in (it.place, it.length)]
+        if room < 0:
+            function(*words, options, answer)
+            return Told(answer, b"")
+        while True:
+            buffer = ctypes.create_string_buffer(room)
+            function(*words, options, buffer, room, answer)
+            if answer.length <= room:
+                return Told(answer, ctypes.string_at(buffer, answer.length))
+            room = answer.length
+
+
+def compare_each(pairs: Sequence[Tuple[Document, Document]], catalog: Document, depth: int, item: int) -> Sequence[Answer]:
+    """The answers about pairs of documents, in one call."""
+    count = len(pairs)
+    answers = (Answer * count)()
+    with _LentAll([catalog, *(document for pair in pairs for document in pair)]) as (lent_catalog, *lent):
+        options = _options(lent_catalog, depth, item)
+        lent_pairs = (_Pair * count)()
+        for at, pair in enumerate(lent_pairs):
+            left, right = lent[2 * at], lent[2 * at + 1]
+            pair.left, pair.left_length = left.place, left.length
+            pair.right, pair.right_length = right.place, right.length
+        _library.pureefjord_compare_each(lent_pairs, count, options, answers, count)
+    return answers

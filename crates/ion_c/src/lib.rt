@@ -1,0 +1,192 @@
+//! Whole Ion documents in memory, for C and for every language that calls C: check, show, compare and convert.
+//!
+//! Each call is given octets, tells what it found by an `Answer`, and returns the status, which is the command's:
+//! 0 accepted or equivalent, 1 different, 2 refused, 3 wrong limits, 4 a fault. Texts go into a buffer of the
+//! caller's, whole or not at all; `Answer::length` tells how long they are either way. `bindings/pureefjord.h`
+//! declares the calls.
+#![tactic(auto)]
+
+mod answer;
+mod buffers;
+mod pairs;
+
+ghost use Rattle.std.specs.Prelude.{◌≡◌, ◌<◌, ◌≤◌, ℕ, List, length, min, slice_get, Option};
+ghost use Rattle.ion_atoms.specs.Reasons.{reason_number, reason_name};
+ghost use Rattle.ion_atoms.specs.declared.refusal.Reason.{Reason as AnyReason};
+ghost use Rattle.ion_docs.specs.declared.conversion.Target.TheVariants.{Text, Binary};
+ghost use Rattle.ion_memory.specs.Outcomes.{IsOutcome, IsChecked, IsShown, IsCompared, IsConverted};
+ghost use Rattle.ion_memory.specs.declared.ending.Ending.{Ending};
+ghost use Rattle.ion_c.specs.Telling.{IsAnsweredPair, Tells, laid};
+ghost use Rattle.ion_c.specs.declared.answer.Answer.{Answer as AnAnswer};
+ghost use Rattle.ion_c.specs.declared.pairs.Pair.{Pair as APair};
+
+use crate::answer::tell;
+use crate::buffers::lay;
+use crate::pairs::compare_each;
+pub use answer::Answer;
+use ion_docs::Target;
+use ion_memory::{checked, compared, converted, reason_of_number, shown};
+pub use pairs::Pair;
+use std::alloc::Global;
+
+/// What a call is given beside its documents.
+#[repr(C)]
+#[derive(Clone, Copy, Debug)]
+pub struct Options<'a> {
+    /// A document of the shared symbol tables that the input may import; no octets for none.
+    pub catalog: &'a [u8],
+    /// The greatest number of octets of a top-level value, 1 to 2^30.
+    pub item: u64,
+    /// The greatest depth, 1 to 128.
+    pub depth: u32,
+}
+
+/// How many values a document has, or its refusal.
+#[unsafe(no_mangle)]
+pub extern "C" fn pureefjord_check(
+    alloc: Global,
+    input: &[u8],
+    options: &Options<'_>,
+    answer: &mut Answer,
+) -> u32
+    ensures { (e : Ending) × (text : List ℕ)
+        × IsOutcome options.now.catalog.now options.now.depth options.now.item
+        (IsChecked input.now) e text
+        × Tells e text answer.new × (result ≡ answer.new.status) }
+{
+    let outcome = checked(alloc, input, options.catalog, options.depth, options.item);
+    tell(&outcome, answer)
+}
+
+/// A line for each value of a document, `INDEX KIND depth DEPTH nodes NODES`, and after them `accepted VALUES`.
+#[unsafe(no_mangle)]
+pub extern "C" fn pureefjord_show(
+    alloc: Global,
+    input: &[u8],
+    options: &Options<'_>,
+    buffer: &mut [u8],
+    answer: &mut Answer,
+) -> u32
+    ensures { (e : Ending) × (text : List ℕ)
+        × IsOutcome options.now.catalog.now options.now.depth options.now.item
+        (IsShown input.now) e text
+        × Tells e text answer.new × (result ≡ answer.new.status)
+        × (buffer.new ≡ laid text buffer.old) }
+{
+    let outcome = shown(alloc, input, options.catalog, options.depth, options.item);
+    lay(outcome.text.as_slice(), buffer);
+    tell(&outcome, answer)
+}
+
+/// Whether two documents have equivalent streams, and else where they part: the number of the value, and in the
+/// buffer the path within it.
+#[unsafe(no_mangle)]
+pub extern "C" fn pureefjord_compare(
+    alloc: Global,
+    left: &[u8],
+    right: &[u8],
+    options: &Options<'_>,
+    buffer: &mut [u8],
+    answer: &mut Answer,
+) -> u32
+    ensures { (e : Ending) × (text : List ℕ)
+        × IsOutcome options.now.catalog.now options.now.depth options.now.item
+        (IsCompared left.now right.now) e text
+        × Tells e text answer.new × (result ≡ answer.new.status)
+        × (buffer.new ≡ laid text buffer.old) }
+{
+    let (catalog, depth, item) = (options.catalog, options.depth, options.item);
+    let outcome = compared(alloc, left, right, catalog, depth, item);
+    lay(outcome.text.as_slice(), buffer);
+    tell(&outcome, answer)
+}
+
+/// Compares as many of the pairs as there is room for answers, under one catalog, and answers how many. The path
+/// of a difference isn't told, but its length is.
+#[unsafe(no_mangle)]
+pub extern "C" fn pureefjord_compare_each(
+    alloc: Global,
+    pairs: &[Pair<'_>],
+    options: &Options<'_>,
+    answers: &mut [Answer],
+) -> usize
+    ensures count { result ≡ min (length pairs.now) (length answers.old) }
+    ensures each { (i : ℕ) (pair : APair) (answer : AnAnswer) → i < result →
+        slice_get pairs.now i ≡ Option.Some pair → slice_get answers.new i ≡ Option.Some answer →
+        IsAnsweredPair options.now.catalog.now options.now.depth options.now.item pair answer }
+{
+    let (catalog, depth, item) = (options.catalog, options.depth, options.item);
+    compare_each(alloc, pairs, catalog, depth, item, answers)
+}
+
+/// A text document of the same stream.
+#[unsafe(no_mangle)]
+pub extern "C" fn pureefjord_to_text(
+    alloc: Global,
+    input: &[u8],
+    options: &Options<'_>,
+    buffer: &mut [u8],
+    answer: &mut Answer,
+) -> u32
+    ensures { (e : Ending) × (text : List ℕ)
+        × IsOutcome options.now.catalog.now options.now.depth options.now.item
+        (IsConverted Text input.now) e text
+        × Tells e text answer.new × (result ≡ answer.new.status)
+        × (buffer.new ≡ laid text buffer.old) }
+{
+    let (catalog, depth, item) = (options.catalog, options.depth, options.item);
+    let outcome = converted(alloc, input, Target::Text, catalog, depth, item);
+    lay(outcome.text.as_slice(), buffer);
+    tell(&outcome, answer)
+}
+
+/// A binary document of the same stream.
+#[unsafe(no_mangle)]
+pub extern "C" fn pureefjord_to_binary(
+    alloc: Global,
+    input: &[u8],
+    options: &Options<'_>,
+    buffer: &mut [u8],
+    answer: &mut Answer,
+) -> u32
+    ensures { (e : Ending) × (text : List ℕ)
+        × IsOutcome options.now.catalog.now options.now.depth options.now.item
+        (IsConverted Binary input.now) e text
+        × Tells e text answer.new × (result ≡ answer.new.status)
+        × (buffer.new ≡ laid text buffer.old) }
+{
+    let (catalog, depth, item) = (options.catalog, options.depth, options.item);
+    let outcome = converted(alloc, input, Target::Binary, catalog, depth, item);
+    lay(outcome.text.as_slice(), buffer);
+    tell(&outcome, answer)
+}
+
+/// The name of the reason of this number into the buffer, whole or not at all, and how long it is; 0 where no
+/// reason has the number.
+#[unsafe(no_mangle)]
+pub extern "C" fn pureefjord_reason_name(number: u32, buffer: &mut [u8]) -> usize
+    ensures named { 1 ≤ number → number ≤ 22 → (reason : AnyReason) × (reason_number reason ≡ number)
+        × (buffer.new ≡ laid (reason_name reason) buffer.old)
+        × (result ≡ length (reason_name reason)) }
+{
+    match reason_of_number(number) {
+        Some(reason) => {
+            let name = reason.name().as_bytes();
+            lay(name, buffer);
+            name.len()
+        }
+        None => 0,
+    }
+}
+
+/// The version of this library into the buffer, whole or not at all, and how long it is.
+#[unsafe(no_mangle)]
+pub extern "C" fn pureefjord_version(buffer: &mut [u8]) -> usize
+    ensures { (text : List ℕ) × (buffer.new ≡ laid text buffer.old) × (result ≡ length text) }
+{
+    let version = VERSION.as_bytes();
+    lay(version, buffer);
+    version.len()
+}
+
+const VERSION: &str = "0.1.0";

@@ -1,0 +1,4 @@
+mod Memory
+mod Ended
+mod Nothing
+mod Faults

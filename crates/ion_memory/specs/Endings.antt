@@ -1,0 +1,63 @@
+-- The numbers that endings are told by.
+use Rattle.std.specs.Prelude.{ℕ, Result, Ok, Err}
+use Rattle.ion_atoms.specs.Reasons.{reason_number}
+use Rattle.ion_atoms.specs.declared.refusal.Refusal.{Refusal}
+use Rattle.ion_symtab.specs.declared.fault.Fault.{Fault}
+use Rattle.ion_symtab.specs.declared.fault.Fault.TheVariants.{Memory, Read, Write, TooManyReads, TooLarge, Open}
+use Rattle.ion_streams.specs.declared.comparison.Side.{Side}
+use Rattle.ion_streams.specs.declared.comparison.Side.TheVariants as sides
+use Rattle.ion_memory.specs.declared.ending.Whose.{Whose}
+use Rattle.ion_memory.specs.declared.ending.Whose.TheVariants.{Only, Left, Right, Catalog}
+use Rattle.ion_memory.specs.declared.ending.Ending.{Ending}
+use Rattle.ion_memory.specs.declared.ending.Ending.TheVariants.{Accepted, Different, Refused, WrongLimits, Faulted}
+
+-- the ending of a call on one document
+abbrev pub ending_of : Result ℕ Refusal → Ending
+ending_of (Ok values) = Accepted values
+ending_of (Err refusal) = Refused Only refusal
+
+abbrev pub whose_side : Side → Whose
+whose_side sides.Left = Left
+whose_side sides.Right = Right
+
+abbrev pub status_of : Ending → ℕ
+status_of (Accepted values) = 0
+status_of (Different index) = 1
+status_of (Refused whose refusal) = 2
+status_of WrongLimits = 3
+status_of (Faulted fault) = 4
+
+abbrev pub number_of : Ending → ℕ
+number_of (Accepted values) = values
+number_of (Different index) = index
+number_of (Refused whose refusal) = refusal.offset
+number_of WrongLimits = 0
+number_of (Faulted fault) = 0
+
+abbrev pub whose_number : Whose → ℕ
+whose_number Only = 1
+whose_number Left = 2
+whose_number Right = 3
+whose_number Catalog = 4
+
+abbrev pub whose_of : Ending → ℕ
+whose_of (Accepted values) = 0
+whose_of (Different index) = 0
+whose_of (Refused whose refusal) = whose_number whose
+whose_of WrongLimits = 0
+whose_of (Faulted fault) = 0
+
+abbrev pub fault_number : Fault → ℕ
+fault_number Memory = 1
+fault_number Read = 2
+fault_number Write = 3
+fault_number TooManyReads = 4
+fault_number TooLarge = 5
+fault_number Open = 6
+
+abbrev pub reason_of : Ending → ℕ
+reason_of (Accepted values) = 0
+reason_of (Different index) = 0
+reason_of (Refused whose refusal) = reason_number refusal.reason
+reason_of WrongLimits = 0
+reason_of (Faulted fault) = fault_number fault

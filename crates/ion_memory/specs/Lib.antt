@@ -1,0 +1,3 @@
+pub mod Octets
+pub mod Endings
+pub mod Outcomes

@@ -1,0 +1,74 @@
+-- How a call ends, and with which text, where the catalog is octets and the limits are numbers.
+use Rattle.std.specs.Prelude.{◌≡◌, ◌^◌, ℕ, List, [], Result, Ok, Err}
+use Rattle.ion_atoms.specs.declared.refusal.Refusal.{Refusal}
+use Rattle.ion_symtab.specs.Limits.{AreLimits}
+use Rattle.ion_symtab.specs.declared.catalog.Catalog.{Catalog as Tables}
+use Rattle.ion_symtab.specs.declared.fault.Fault.{Fault}
+use Rattle.ion_symtab.specs.declared.limits.Limits.{Limits}
+use Rattle.ion_streams.specs.Compared.{IsVerdict}
+use Rattle.ion_streams.specs.Loaded.{IsCatalog}
+use Rattle.ion_streams.specs.declared.comparison.Verdict.{Verdict}
+use Rattle.ion_streams.specs.declared.comparison.Verdict.TheVariants as verdicts
+use Rattle.ion_docs.specs.Encodings.{encoding_of}
+use Rattle.ion_docs.specs.Formats.{documents}
+use Rattle.ion_docs.specs.Paths.{path_text}
+use Rattle.ion_docs.specs.declared.conversion.Target.{Target}
+use Rattle.ion_memory.specs.Endings.{ending_of, whose_side}
+use Rattle.ion_memory.specs.Octets.{IsCount, IsListing, IsConversion}
+use Rattle.ion_memory.specs.declared.ending.Ending.{Ending}
+use Rattle.ion_memory.specs.declared.ending.Ending.TheVariants.{Accepted, Different, Refused, WrongLimits, Faulted}
+use Rattle.ion_memory.specs.declared.ending.Whose.TheVariants.{Catalog}
+
+-- a fault, and no text
+abbrev pub IsFault : Ending → List ℕ → Type 0
+IsFault e text = (fault : Fault) × (e ≡ Faulted fault) × (text ≡ [])
+
+-- which endings and texts are right under a catalog and limits
+abbrev pub IsRight : Type 1
+IsRight = Tables → Limits → Ending → List ℕ → Type 0
+
+-- of a check
+abbrev pub IsChecked : List ℕ → IsRight
+IsChecked input g l e text = (answer : Result ℕ Refusal) × IsCount (documents g l) input answer × (e ≡ ending_of answer) × (text ≡ [])
+
+-- of a listing
+abbrev pub IsShown : List ℕ → IsRight
+IsShown input g l e text = (answer : Result ℕ Refusal) × IsListing (documents g l) input answer text × (e ≡ ending_of answer)
+
+-- of a conversion
+abbrev pub IsConverted : Target → List ℕ → IsRight
+IsConverted target input g l e text = (answer : Result ℕ Refusal) × IsConversion (encoding_of target) (documents g l) input answer text × (e ≡ ending_of answer)
+
+-- a verdict is told by this ending and text
+abbrev pub EndsVerdict : Verdict → Ending → List ℕ → Type 0
+EndsVerdict (verdicts.Equivalent values) e text = (e ≡ Accepted values) × (text ≡ [])
+EndsVerdict (verdicts.Different index path) e text = (e ≡ Different index) × (text ≡ path_text path)
+EndsVerdict (verdicts.Refused side refusal) e text = (e ≡ Refused (whose_side side) refusal) × (text ≡ [])
+
+-- of a comparison
+abbrev pub IsCompared : List ℕ → List ℕ → IsRight
+IsCompared left right g l e text = (verdict : Verdict) × IsVerdict (documents g l) (documents g l) left right verdict × EndsVerdict verdict e text
+
+-- these are the limits that were asked for, with the usual limit of reads
+abbrev pub AreAsked : ℕ → ℕ → Limits → Type 0
+AreAsked depth item l = (l.depth ≡ depth) × (l.item ≡ item) × (l.reads ≡ 2 ^ 32)
+
+-- the octets are a document of these tables, within these limits
+abbrev pub IsSetting : List ℕ → ℕ → ℕ → Tables → Limits → Type 0
+IsSetting catalog depth item g l = AreAsked depth item l × IsCatalog (documents [] l) catalog (Ok g)
+
+-- they are refused as a catalog so
+abbrev pub IsNoCatalog : List ℕ → ℕ → ℕ → Refusal → Type 0
+IsNoCatalog catalog depth item refusal = (l : Limits) × AreAsked depth item l × IsCatalog (documents [] l) catalog (Err refusal)
+
+-- how a call ends that has no limits, no catalog, or not the memory for it
+pub data IsNoSetting (catalog : List ℕ) (depth item : ℕ) (e : Ending) : Type 0 where
+  no_limits : (AreLimits depth item (2 ^ 32) → ⊥) → e ≡ WrongLimits → IsNoSetting catalog depth item e
+  no_catalog : (refusal : Refusal) → IsNoCatalog catalog depth item refusal → e ≡ Refused Catalog refusal → IsNoSetting catalog depth item e
+  faulted : (fault : Fault) → e ≡ Faulted fault → IsNoSetting catalog depth item e
+
+-- how a call ends, and its text: right under the catalog and the limits that were asked for, or a fault
+pub data IsOutcome (catalog : List ℕ) (depth item : ℕ) (Right : IsRight) (e : Ending) (text : List ℕ) : Type 0 where
+  ended : (g : Tables) (l : Limits) → IsSetting catalog depth item g l → Right g l e text → IsOutcome catalog depth item Right e text
+  stopped : IsFault e text → IsOutcome catalog depth item Right e text
+  not_begun : IsNoSetting catalog depth item e → text ≡ [] → IsOutcome catalog depth item Right e text

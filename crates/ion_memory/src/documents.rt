@@ -1,0 +1,151 @@
+//! What octets in memory are as documents: the calls of `ion_docs` on devices that tell just these octets.
+ghost use Rattle.std.specs.Prelude.{◌≡◌, ◌≢◌, [], IfOk, IfErr, Result};
+ghost use Rattle.ion_symtab.specs.declared.fault.Fault.TheVariants as faults;
+ghost use Rattle.ion_docs.specs.Encodings.{encoding_of};
+ghost use Rattle.ion_docs.specs.Formats.{documents};
+ghost use Rattle.ion_streams.specs.Compared.{IsVerdict};
+ghost use Rattle.ion_streams.specs.Loaded.{IsCatalog};
+ghost use Rattle.ion_memory.specs.Octets.{IsCount, IsListing, IsConversion, fault_in_memory};
+
+use ion_docs::laws::catalog_documents;
+use ion_docs::{Target, Verdict};
+use ion_model::Refusal;
+use ion_symtab::{Catalog, Fault, FromRead, Limits, ToWrite};
+use std::alloc::Global;
+
+/// What was written of a document.
+#[derive(Debug, Drop)]
+pub struct Written {
+    /// How many values the document has, or its refusal.
+    pub answer: Result<u64, Refusal>,
+    /// The octets that were written; on a refusal, those of the values before it.
+    pub octets: Vec<u8>,
+}
+
+/// How many values a document has (Ion 1.0, "The Ion Data Model"), or its refusal, where the octets are no
+/// document within `limits`.
+///
+/// The offset of a refusal counts octets with which no document begins, or all of them; it is never `Memory`.
+/// Faults: `Memory`, where a growth was refused, and `TooManyReads`, where `limits` allow too few reads of
+/// 4 KiB each.
+pub fn check(
+    alloc: Global,
+    input: &[u8],
+    catalog: &Catalog,
+    limits: Limits,
+) -> Result<Result<u64, Refusal>, Fault>
+    ensures { IfOk result (IsCount (documents catalog.now limits) input.now) }
+{
+    let mut reader = FromRead::new(input);
+    ion_docs::check(alloc, &mut reader, catalog, limits)
+}
+
+/// A line for each value of a document, `INDEX KIND depth DEPTH nodes NODES`, and after them
+/// `accepted VALUES`, each with LF.
+///
+/// The answer is that of `check`; on a refusal the lines are those of the values before it. Faults are those of
+/// `check`.
+pub fn show(
+    alloc: Global,
+    input: &[u8],
+    catalog: &Catalog,
+    limits: Limits,
+) -> Result<Written, Fault>
+    ensures lines { IfOk result (λ written.
+        IsListing (documents catalog.now limits) input.now written.answer written.octets.items) }
+    ensures no_write { IfErr result (λ fault. fault ≢ faults.Write) }
+{
+    let mut reader = FromRead::new(input);
+    let mut writer = ToWrite::new(Vec::new(alloc));
+    match ion_docs::show(alloc, &mut reader, &mut writer, catalog, limits) {
+        Ok(answer) => {
+            let octets = writer.into_inner();
+            Ok(Written { answer, octets })
+        }
+        Err(fault) => Err(in_memory(fault)),
+    }
+}
+
+/// A document of the same stream in the encoding of `target`, which denotes it under every catalog and all
+/// limits that admit it.
+///
+/// The answer is that of `check`; on a refusal the document is that of the values before it. Faults are those of
+/// `check`, and `TooLarge`, where a symbol in binary would need an id above 2^31-1.
+pub fn convert(
+    alloc: Global,
+    input: &[u8],
+    target: Target,
+    catalog: &Catalog,
+    limits: Limits,
+) -> Result<Written, Fault>
+    ensures document { IfOk result (λ written. IsConversion (encoding_of target)
+        (documents catalog.now limits) input.now written.answer written.octets.items) }
+    ensures no_write { IfErr result (λ fault. fault ≢ faults.Write) }
+{
+    let mut reader = FromRead::new(input);
+    let mut writer = ToWrite::new(Vec::new(alloc));
+    match ion_docs::convert(alloc, &mut reader, &mut writer, target, catalog, limits) {
+        Ok(answer) => {
+            let octets = writer.into_inner();
+            Ok(Written { answer, octets })
+        }
+        Err(fault) => Err(in_memory(fault)),
+    }
+}
+
+/// A write to memory fails where a growth was refused, which is want of memory.
+fn in_memory(fault: Fault) -> Fault
+    ensures { result ≡ fault_in_memory fault }
+{
+    match fault {
+        Fault::Write => Fault::Memory,
+        other => other,
+    }
+}
+
+/// Whether two documents have equivalent streams (Ion 1.0, "The Ion Data Model"); where the streams part, the
+/// number of the first value that isn't equivalent, and the path within the two values of that number.
+///
+/// A left side that is no document is refused; else a right side that is none. Offsets and faults are those of
+/// `check`.
+pub fn compare(
+    alloc: Global,
+    left: &[u8],
+    right: &[u8],
+    catalog: &Catalog,
+    limits: Limits,
+) -> Result<Verdict, Fault>
+    ensures { IfOk result (IsVerdict (documents catalog.now limits) (documents catalog.now limits)
+        left.now right.now) }
+{
+    let mut left = FromRead::new(left);
+    let mut right = FromRead::new(right);
+    ion_docs::compare(alloc, &mut left, &mut right, catalog, limits)
+}
+
+/// The catalog of the shared symbol tables that the values of a document describe (Ion 1.0, "Symbols",
+/// "Shared Symbol Tables"), or its refusal: `BadTable`, `RepeatedField`, `DuplicateTable` of a value, or that
+/// of `check`.
+///
+/// No octets are a document of no tables, for which no reader is made. Faults are those of `check`.
+pub fn load_catalog(
+    alloc: Global,
+    octets: &[u8],
+    limits: Limits,
+) -> Result<Result<Catalog, Refusal>, Fault>
+    ensures { IfOk result (IsCatalog (documents [] limits) octets.now) }
+{
+    if octets.is_empty() {
+        return Ok(Ok(no_tables(alloc, limits)));
+    }
+    let mut reader = FromRead::new(octets);
+    ion_docs::load_catalog(alloc, &mut reader, limits)
+}
+
+/// The catalog that no octets describe.
+fn no_tables(alloc: Global, limits: Limits) -> Catalog
+    ensures { IsCatalog (documents [] limits) [] (Result.Ok result) }
+{
+    catalog_documents();
+    Catalog::new(alloc)
+}
