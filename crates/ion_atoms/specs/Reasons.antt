@@ -1,5 +1,6 @@
 -- What the reasons of a refusal are called.
-use Rattle.std.specs.Prelude.{ℕ, List, codes}
+use Rattle.std.specs.Prelude.{ℕ, List, ◌++◌, Bool, true, false, codes, decimal}
+use Rattle.ion_atoms.specs.declared.refusal.Refusal.{Refusal}
 use Rattle.ion_atoms.specs.declared.refusal.Reason.{Reason}
 use Rattle.ion_atoms.specs.declared.refusal.Reason.TheVariants as reasons
 
@@ -52,3 +53,20 @@ reason_name reasons.Depth = codes "Depth"
 reason_name reasons.ItemTooLong = codes "ItemTooLong"
 reason_name reasons.Version = codes "Version"
 reason_name reasons.KeywordAsName = codes "KeywordAsName"
+
+-- a refusal in a line: the octet that decided, and why
+abbrev pub refusal_text : Refusal → List ℕ
+refusal_text r = decimal r.offset ++ (codes " " ++ reason_name r.reason)
+
+-- whether octets refused for it may be Ion 1.0 that isn't read here
+abbrev pub is_of_profile : Reason → Bool
+is_of_profile reasons.TooLarge = true
+is_of_profile reasons.Float = true
+is_of_profile reasons.ImportGap = true
+is_of_profile reasons.MissingImport = true
+is_of_profile reasons.TableTooLarge = true
+is_of_profile reasons.Ambiguous = true
+is_of_profile reasons.Depth = true
+is_of_profile reasons.ItemTooLong = true
+is_of_profile reasons.Version = true
+is_of_profile _ = false

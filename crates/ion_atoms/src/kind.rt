@@ -2,6 +2,8 @@
 ghost use Rattle.std.specs.Prelude.{◌≡◌};
 ghost use Rattle.ion_atoms.specs.Kinds.{kind_name, kind_rank};
 
+use std::fmt::{self, Display, Formatter};
+
 /// What sort of value a value is (Ion 1.0, "The Ion Data Model"). The derived order is that of the
 /// ranks.
 #[derive(Debug, Clone, Copy, PartialEq, Eq, PartialOrd, Ord)]
@@ -52,5 +54,16 @@ impl Kind {
         ensures { result ≡ kind_rank self }
     {
         self as u8
+    }
+}
+
+impl Display for Kind {
+    ghost use Rattle.std.specs.Prelude.{Some};
+    ghost use Rattle.ion_atoms.specs.Kinds.{kind_name};
+
+    ghost output = { λ k. Some (kind_name k) };
+
+    fn fmt<W: fmt::Write>(&self, f: &mut Formatter<W>) -> fmt::Result {
+        f.write_str(self.name())
     }
 }

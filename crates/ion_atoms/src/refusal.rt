@@ -1,8 +1,9 @@
 //! Why octets are refused, and where.
 ghost use Rattle.std.specs.Prelude.{◌≡◌};
-ghost use Rattle.ion_atoms.specs.Reasons.{reason_number, reason_name};
+ghost use Rattle.ion_atoms.specs.Reasons.{reason_number, reason_name, is_of_profile};
 
 use std::alloc::{AllocError, AllocFailed};
+use std::fmt::{self, Display, Formatter};
 
 /// Why octets are refused. Where two reasons fall on one octet, the one of the smaller number answers.
 #[derive(Clone, Copy, Debug, PartialEq, Eq)]
@@ -90,7 +91,40 @@ impl Reason {
             Reason::KeywordAsName => "KeywordAsName",
         }
     }
+
+    /// Whether octets that are refused for it may be Ion 1.0 all the same, which this project doesn't read
+    /// (`docs/FORMAT.md`), or not within these limits and under this catalog. Octets refused for another
+    /// reason are no Ion 1.0, or want of memory and of further octets says nothing of them.
+    pub fn is_of_profile(self) -> bool
+        ensures { result ≡ is_of_profile self }
+    {
+        matches!(
+            self,
+            Reason::TooLarge
+                | Reason::Float
+                | Reason::ImportGap
+                | Reason::MissingImport
+                | Reason::TableTooLarge
+                | Reason::Ambiguous
+                | Reason::Depth
+                | Reason::ItemTooLong
+                | Reason::Version
+        )
+    }
 }
+
+impl Display for Reason {
+    ghost use Rattle.std.specs.Prelude.{Some};
+    ghost use Rattle.ion_atoms.specs.Reasons.{reason_name};
+
+    ghost output = { λ r. Some (reason_name r) };
+
+    fn fmt<W: fmt::Write>(&self, f: &mut Formatter<W>) -> fmt::Result {
+        f.write_str(self.name())
+    }
+}
+
+impl std::error::Error for Reason {}
 
 /// A refusal: where it came, and why.
 #[derive(Clone, Copy, Debug, PartialEq, Eq)]
@@ -101,6 +135,19 @@ pub struct Refusal {
     pub offset: u64,
     pub reason: Reason,
 }
+
+impl Display for Refusal {
+    ghost use Rattle.std.specs.Prelude.{Some};
+    ghost use Rattle.ion_atoms.specs.Reasons.{refusal_text};
+
+    ghost output = { λ r. Some (refusal_text r) };
+
+    fn fmt<W: fmt::Write>(&self, f: &mut Formatter<W>) -> fmt::Result {
+        write!(f, "{} {}", self.offset, self.reason)
+    }
+}
+
+impl std::error::Error for Refusal {}
 
 impl<T: Drop> From<AllocFailed<T>> for Reason {
     ghost use Rattle.std.specs.Prelude.{◌≡◌};

@@ -3,6 +3,7 @@ pub mod Symbols
 pub mod Measures
 pub mod Kinds
 pub mod Outlines
+pub mod Holds
 pub mod Kept
 pub mod Same
 pub mod Order

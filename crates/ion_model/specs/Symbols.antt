@@ -1,6 +1,6 @@
 -- Texts and symbols: which the types keep, when two are the same, and their order.
-use Rattle.std.specs.Prelude.{ℕ, List, [], ◌∷◌, Bool, Option, IfSome, nat_eq}
-use Rattle.std.specs.Str.{IsUtf8}
+use Rattle.std.specs.Prelude.{ℕ, List, [], ◌∷◌, Bool, false, Option, None, Some, IfSome, nat_eq}
+use Rattle.std.specs.Str.{IsUtf8, bytes_eq}
 use Rattle.std.specs.Ordering.{nat_cmp}
 use Rattle.std.specs.Option.{option_eq, option_cmp}
 use Rattle.std.specs.Cmp.Lexicographic.{slice_cmp}
@@ -30,3 +30,8 @@ text_cmp = slice_cmp nat_cmp
 -- unknown first, then by the text
 abbrev pub symbol_cmp : Option (List ℕ) → Option (List ℕ) → Ordering
 symbol_cmp = option_cmp text_cmp
+
+-- whether a symbol has this text; one of unknown text has none
+abbrev pub has_text : List ℕ → Option (List ℕ) → Bool
+has_text text None = false
+has_text text (Some known) = bytes_eq known text

@@ -2,7 +2,7 @@
 ghost use Rattle.std.specs.Prelude.{◌≡◌, Some, None, MatchResult, option_map};
 ghost use Rattle.ion_atoms.specs.declared.refusal.Reason.TheVariants as reasons;
 ghost use Rattle.ion_model.specs.Kinds.{names_table};
-ghost use Rattle.ion_model.specs.Symbols.{IsText, symbol_same, symbol_cmp};
+ghost use Rattle.ion_model.specs.Symbols.{IsText, has_text, symbol_same, symbol_cmp};
 
 use ion_atoms::Reason;
 use std::alloc::Global;
@@ -60,6 +60,16 @@ impl Symbol {
         match &self.text {
             None => None,
             Some(text) => Some(text.as_str()),
+        }
+    }
+
+    /// Whether the symbol has this text; one of unknown text has none. Takes no memory.
+    pub fn has_text(&self, text: &str) -> bool
+        ensures { result ≡ has_text text.now self.now }
+    {
+        match self.text() {
+            None => false,
+            Some(known) => known == text,
         }
     }
 

@@ -7,17 +7,8 @@ use Rattle.ion_model.specs.declared.value.Value.{Value}
 use Rattle.ion_model.specs.declared.value.Field.{Field}
 use Rattle.ion_model.specs.declared.value.Payload.TheOpen.{Payload-F}
 use Rattle.ion_model.specs.declared.value.Payload.TheViews.{out-Payload}
+use Rattle.ion_model.specs.Holds.{values_of}
 use Rattle.ion_model.specs.Measures.{Layer}
-
--- whether a symbol has this text
-abbrev pub is_text : List ℕ → Option (List ℕ) → Bool
-is_text text None = false
-is_text text (Some known) = bytes_eq known text
-
--- the values of the fields of this name
-abbrev pub values_of : List ℕ → List Field → List Value
-values_of name [] = []
-values_of name (f ∷ fs) = if is_text name f.name then f.value ∷ values_of name fs else values_of name fs
 
 -- at most one value: two are a repeated field
 abbrev pub at_most_one : List Value → Result (Option Value) Reason

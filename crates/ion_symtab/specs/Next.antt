@@ -8,7 +8,8 @@ use Rattle.ion_model.specs.declared.value.Payload.TheOpen.{Payload-F}
 use Rattle.ion_model.specs.declared.value.Payload.TheViews.{out-Payload}
 use Rattle.ion_model.specs.Measures.{Layer}
 use Rattle.ion_symtab.specs.Slots.{Slot, text, unknown, gap, greatest_id, system_slots}
-use Rattle.ion_symtab.specs.Fields.{is_text, only, payload_of, elements, table_name, count_of, version_of, symbol_of}
+use Rattle.ion_model.specs.Symbols.{has_text}
+use Rattle.ion_symtab.specs.Fields.{only, payload_of, elements, table_name, count_of, version_of, symbol_of}
 use Rattle.ion_symtab.specs.Tables.{Table, find, newest}
 
 -- what follows, unless there is a reason already
@@ -23,7 +24,7 @@ joined slots more = if nat_le (length slots + length more) greatest_id then Ok (
 -- 1. The base: the system slots, or all old slots where `imports` is the symbol `$ion_symbol_table`.
 
 abbrev pub appends_in : Option Layer → Bool
-appends_in (Some (Payload-F.Symbol s)) = is_text (codes "$ion_symbol_table") s
+appends_in (Some (Payload-F.Symbol s)) = has_text (codes "$ion_symbol_table") s
 appends_in _ = false
 
 abbrev pub appends : Option Value → Bool

@@ -8,14 +8,15 @@ use Rattle.ion_model.specs.declared.value.Field.{Field}
 use Rattle.ion_model.specs.declared.value.Payload.TheOpen.{Payload-F}
 use Rattle.ion_model.specs.declared.value.Payload.TheViews.{out-Payload}
 use Rattle.ion_model.specs.Measures.{Layer}
-use Rattle.ion_symtab.specs.Fields.{is_text, only, payload_of, elements, table_name, version_of, symbol_of}
+use Rattle.ion_model.specs.Symbols.{has_text}
+use Rattle.ion_symtab.specs.Fields.{only, payload_of, elements, table_name, version_of, symbol_of}
 use Rattle.ion_symtab.specs.Tables.{Table, table_of}
 use Rattle.ion_symtab.specs.Next.{and_then}
 
 -- the first annotation names shared tables
 abbrev pub is_shared : List (Option (List ℕ)) → Bool
 is_shared [] = false
-is_shared (s ∷ ss) = is_text (codes "$ion_shared_symbol_table") s
+is_shared (s ∷ ss) = has_text (codes "$ion_shared_symbol_table") s
 
 -- `imports` is there, and neither null nor an empty list
 abbrev pub imports_any : Option Layer → Bool

@@ -9,7 +9,7 @@ ghost use Rattle.ion_symtab.specs.kept.Segments.{Fills};
 
 use crate::added::Added;
 use crate::catalog::Catalog;
-use crate::fields::{elements, is_text, only};
+use crate::fields::{elements, only};
 use crate::segments::Segments;
 use ion_model::{Payload, Reason, Symbol, Value};
 use std::alloc::Global;
@@ -188,7 +188,7 @@ fn appends(imports: Option<&Value>) -> bool
     match imports {
         None => false,
         Some(value) => match &value.payload {
-            Payload::Symbol(symbol) => is_text(symbol, "$ion_symbol_table"),
+            Payload::Symbol(symbol) => symbol.has_text("$ion_symbol_table"),
             _ => false,
         },
     }

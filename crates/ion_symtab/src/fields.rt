@@ -1,20 +1,10 @@
 //! The fields of symbol tables.
 ghost use Rattle.std.specs.Prelude.{◌≡◌, Ok, Err, MatchResult, map, option_map, option_copied};
 ghost use Rattle.ion_atoms.specs.declared.refusal.Reason.TheVariants as reasons;
-ghost use Rattle.ion_symtab.specs.Fields.{is_text, only, elements, is_table_name, table_name, natural, count_of, version_of, symbol_of};
+ghost use Rattle.ion_symtab.specs.Fields.{only, elements, is_table_name, table_name, natural, count_of, version_of, symbol_of};
 
 use ion_model::{Field, Payload, Reason, Symbol, Value};
 use std::alloc::Global;
-
-/// Whether a symbol has this text.
-pub(crate) fn is_text(symbol: &Symbol, text: &str) -> bool
-    ensures { result ≡ is_text text.now symbol.now }
-{
-    match symbol.text() {
-        None => false,
-        Some(known) => known == text,
-    }
-}
 
 /// The value of the one field of this name, `None` where there is none. `RepeatedField` where there
 /// are several.
@@ -25,7 +15,7 @@ pub(crate) fn only<'v>(fields: &'v [Field], name: &str) -> Result<Option<&'v Val
 {
     let mut found: Option<&'v Value> = None;
     for field in fields {
-        if is_text(&field.name, name) {
+        if field.name.has_text(name) {
             if found.is_some() {
                 return Err(Reason::RepeatedField);
             }

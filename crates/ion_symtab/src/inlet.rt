@@ -96,6 +96,27 @@ impl<R: Read> FromRead<R> {
             ends: History::new(),
         }
     }
+
+    /// The reader, which goes on with what it hasn't handed over yet.
+    pub fn into_inner(self) -> R
+        ensures { result ≡ reader_of self }
+    {
+        let FromRead {
+            inner,
+            calls: _,
+            failed: _,
+            handed: _,
+            ends: _,
+        } = self;
+        inner
+    }
+
+    /// The reader.
+    pub fn get_ref(&self) -> &R
+        ensures { result.now ≡ reader_of self.now }
+    {
+        &self.inner
+    }
 }
 
 impl<R: Read> Inlet for FromRead<R> {

@@ -96,3 +96,14 @@ impl Limits {
         self.reads
     }
 }
+
+impl Default for Limits {
+    ghost use Rattle.std.specs.Prelude.{◌≡◌, ◌^◌};
+
+    ghost is_default = { λ l. (l.depth ≡ 64) × (l.item ≡ 2 ^ 24) × (l.reads ≡ 2 ^ 32) };
+
+    /// The usual limits.
+    fn default() -> Limits {
+        Limits::usual()
+    }
+}

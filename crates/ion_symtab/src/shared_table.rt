@@ -7,7 +7,7 @@ ghost use Rattle.ion_symtab.specs.Fields.{payload_of};
 ghost use Rattle.ion_symtab.specs.Tables.{is_usable, table_of};
 ghost use Rattle.ion_symtab.specs.Shared.{is_shared, imports_any, shared_fields, shared_table};
 
-use crate::fields::{elements, is_table_name, is_text, only, symbols_of, table_name, version_of};
+use crate::fields::{elements, is_table_name, only, symbols_of, table_name, version_of};
 use crate::segments::GREATEST_ID;
 use crate::symbols::Symbols;
 use ion_model::{Field, Payload, Reason, Symbol, Text, Value};
@@ -110,7 +110,7 @@ fn is_shared(value: &Value) -> bool
 {
     match value.annotations.as_slice().first() {
         None => false,
-        Some(symbol) => is_text(symbol, "$ion_shared_symbol_table"),
+        Some(symbol) => symbol.has_text("$ion_shared_symbol_table"),
     }
 }
 

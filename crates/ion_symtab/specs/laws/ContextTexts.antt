@@ -13,7 +13,9 @@ use Rattle.ion_model.specs.declared.value.Payload.TheOpen.{Payload-F}
 use Rattle.ion_model.specs.Measures.{Layer}
 use Rattle.ion_model.specs.Kept.{IsText, AreTexts, IsKept, kept, KeptPayload, kept_null, kept_truth, kept_int, kept_decimal, kept_timestamp, kept_symbol, kept_string, kept_clob, kept_blob, kept_list, kept_sexp, kept_fields, KeptItems, no_items, an_item, KeptFields, no_fields, a_field}
 use Rattle.ion_symtab.specs.Slots.{Slot, text, unknown, gap, greatest_id, system_texts, system_slots, symbol_at, resolve}
-use Rattle.ion_symtab.specs.Fields.{is_text, values_of, at_most_one, only, elements_in, elements, table_name, count_of, version_of, layer_symbol, symbol_of}
+use Rattle.ion_model.specs.Holds.{values_of}
+use Rattle.ion_model.specs.Symbols.{has_text}
+use Rattle.ion_symtab.specs.Fields.{at_most_one, only, elements_in, elements, table_name, count_of, version_of, layer_symbol, symbol_of}
 use Rattle.ion_symtab.specs.Tables.{Table, is_named, find, newer, newest}
 use Rattle.ion_symtab.specs.Next.{and_then, joined, appends, base, shared_slot, Import, import_slots, chosen, import_named, import_of, element_import, import_added, element_added, imported, local_slot, local_slots, extended, next_fields, next_layer, next}
 
@@ -87,7 +89,7 @@ kept_either false v vs h hs = hs
 
 values_kept : (name : List ℕ) (ms : List Field) → KeptFields ms → KeptItems (values_of name ms)
 values_kept name _ no_fields = no_items
-values_kept name _ (a_field s v ms t h hs) = kept_either (is_text name s) v (values_of name ms) h (values_kept name ms hs)
+values_kept name _ (a_field s v ms t h hs) = kept_either (has_text name s) v (values_of name ms) h (values_kept name ms hs)
 
 abbrev KeptAnswer : Result (Option Value) Reason → Type 0
 KeptAnswer (Ok o) = KeptOption o

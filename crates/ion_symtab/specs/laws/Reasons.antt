@@ -10,7 +10,8 @@ use Rattle.ion_atoms.specs.declared.refusal.Reason.TheVariants.{RepeatedField}
 use Rattle.ion_model.specs.Measures.{Layer}
 use Rattle.ion_symtab.specs.Reasons.{IsIdReason, IsTableReason, IsSharedReason}
 use Rattle.ion_symtab.specs.Slots.{Slot, text, unknown, gap, resolve, slot_symbol, symbol_at, greatest_id}
-use Rattle.ion_symtab.specs.Fields.{only, at_most_one, values_of, payload_of, table_name, version_of, count_of, symbol_of, elements}
+use Rattle.ion_model.specs.Holds.{values_of}
+use Rattle.ion_symtab.specs.Fields.{only, at_most_one, payload_of, table_name, version_of, count_of, symbol_of, elements}
 use Rattle.ion_symtab.specs.Tables.{Table, find, newest, is_usable}
 use Rattle.ion_symtab.specs.Next.{and_then, joined, Import, import_slots, chosen, instead, import_named, import_of, element_import, import_added, element_added, imported, local_slots, base, extended, next_fields, next_layer, next}
 use Rattle.ion_symtab.specs.Shared.{is_shared, imports_any, described, shared_fields, shared_layer, shared_table}
