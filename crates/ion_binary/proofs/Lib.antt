@@ -20,3 +20,4 @@ pub mod Transcribed
 pub mod Compared
 pub mod KnownNames
 pub mod Alikes
+pub mod Calls

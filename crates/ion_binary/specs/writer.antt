@@ -2,3 +2,4 @@
 pub mod Later
 pub mod Puts
 pub mod Names
+pub mod Calls

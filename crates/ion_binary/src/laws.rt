@@ -12,8 +12,16 @@ ghost use Rattle.ion_symtab.specs.laws.ContextTexts.{AreTextTables};
 ghost use Rattle.ion_binary.specs.declared.form.Form.{Form};
 ghost use Rattle.ion_binary.specs.Grammar.{Binary, Document, Header};
 ghost use Rattle.ion_binary.specs.HeaderRows.{IsHeader};
-ghost use Rattle.ion_binary.specs.Output.{bin_of};
-ghost use Rattle.std.specs.Prelude.{◌≡◌, ◌≤◌, length, take, Some, None, Err};
+ghost use Rattle.ion_atoms.specs.declared.kind.Kind.{Kind};
+ghost use Rattle.ion_atoms.specs.declared.kind.Kind.TheVariants as kinds;
+ghost use Rattle.ion_symtab.specs.Took.{Took};
+ghost use Rattle.ion_binary.specs.declared.form.Opening.TheVariants.{Null, Truth};
+ghost use Rattle.ion_binary.specs.Opening.{opening_of};
+ghost use Rattle.ion_binary.specs.Output.{bin_of, nothing_yet, null_octet, truth_octet};
+ghost use Rattle.ion_binary.specs.writer.Calls.{WritesEach};
+ghost use Rattle.ion_binary.specs.laws.reading.Rows.{AreDocuments, worked_documents};
+ghost use Rattle.ion_binary.specs.laws.writing.Rows.{worked};
+ghost use Rattle.std.specs.Prelude.{◌≡◌, ◌⊎◌, ◌<◌, ◌≤◌, ◌++◌, Bool, length, map, take, Some, None, Err};
 ghost use Rattle.ion_atoms.specs.declared.refusal.Refusal.{Refusal};
 ghost use Rattle.ion_atoms.specs.declared.refusal.Reason.{Reason};
 ghost use Rattle.ion_atoms.specs.declared.refusal.Reason.TheVariants.{Incomplete};
@@ -21,10 +29,18 @@ ghost use Rattle.ion_binary.specs.machine.Run.{trace};
 ghost use Rattle.ion_binary.specs.Deciding.{Decides, Answers};
 ghost use Rattle.ion_binary.specs.laws.writing.RoundTrip.{FitsIn};
 
+use ion_symtab::Outlet;
+
 /// The headers of the grammar are the descriptors and lengths that the specification's table of type
-/// codes and length codes has.
+/// codes and length codes has, and its nulls and bools are the octets there. Those of negative ints have
+/// a null of their own, which is the null of ints.
 pub fn headers()
-    ensures { (form : Form) (n : ℕ) (octets : List ℕ) → Header form n octets ↔ IsHeader form n octets }
+    ensures sized { (form : Form) (n : ℕ) (octets : List ℕ) →
+        Header form n octets ↔ IsHeader form n octets }
+    ensures nulls { (b : ℕ) (k : Kind) → b < 256 →
+        (opening_of b ≡ Null k) ↔ ((b ≡ null_octet k) ⊎ ((k ≡ kinds.Int) × (b ≡ 0x3F))) }
+    ensures truths { (b : ℕ) (t : Bool) → b < 256 →
+        (opening_of b ≡ Truth t) ↔ (b ≡ truth_octet t) }
 {}
 
 /// What is written of values that the types keep, none of them a local symbol table, is a document
@@ -50,4 +66,39 @@ pub fn refusals()
 /// A value has at most as many nodes as octets.
 pub fn values_are_small()
     ensures { (c : List Slot) (w : List ℕ) (v : Value) → Binary c w v → nodes v ≤ length w }
+{}
+
+/// Octets are a document with one list of values at most.
+pub fn one_stream()
+    ensures { (g : List Table) (l : Limits) (u : List ℕ) (s t : List Value) →
+        Document g l u s → Document g l u t → s ≡ t }
+{}
+
+/// The values of a document of octets are such as the types keep, where the catalog's texts are UTF-8, and
+/// none of them is a local symbol table.
+pub fn document_values()
+    ensures kept { (g : List Table) (l : Limits) (u : List ℕ) (s : List Value) →
+        AreTextTables g → AreOctets u → Document g l u s → AreKept s }
+    ensures no_tables { (g : List Table) (l : Limits) (u : List ℕ) (s : List Value) →
+        Document g l u s → NoTables s }
+{}
+
+/// Where `put` was called with each value of a stream in turn, and then `finish`, and all answered `Ok`, the
+/// device took the document of the stream.
+pub fn written<W: Outlet>()
+    ensures { (s : List Value) (old new : W) → WritesEach W.Outlet nothing_yet old s new →
+        Took W.took W.written old new (bin_of s) }
+{}
+
+/// What is written of worked streams: of no value, symbols with ids of their own and ids that a table gives
+/// in the order of first use, a list, a year, the sign of a zero, a field.
+pub fn worked_binary()
+    ensures { map (λ row. bin_of row.0) worked ≡ map (λ row. row.1) worked }
+{}
+
+/// Worked documents denote their streams, under every catalog and all limits whose items may have as many
+/// octets: lengths in more octets than are needed, a pad behind a field name, an annotation, the greatest id
+/// of the system symbols.
+pub fn worked_documents()
+    ensures { (g : List Table) (l : Limits) → AreDocuments g l worked_documents }
 {}

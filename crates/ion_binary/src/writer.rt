@@ -1,9 +1,10 @@
 //! The writer of binary documents.
-ghost use Rattle.std.specs.Prelude.{◌≡◌, ◌++◌, Some, None, Ok, Err, true, false, MatchResult, OnOk, OnErr, IfErr, IfSome, IsNone, IsOkUnless};
+ghost use Rattle.std.specs.Prelude.{◌≡◌, ◌≤◌, ◌++◌, suc, length, Some, None, Ok, Err, true, false, MatchResult, OnOk, OnErr, IfErr, IfSome, IsNone, IsOkUnless};
 ghost use Rattle.ion_model.specs.Kept.{IsKept};
 ghost use Rattle.ion_model.specs.declared.value.Value.{Value as AnyValue};
 ghost use Rattle.ion_symtab.specs.declared.fault.Fault.{Fault as AnyFault};
 ghost use Rattle.ion_symtab.specs.declared.fault.Fault.TheVariants as faults;
+ghost use Rattle.ion_symtab.specs.Slots.{greatest_id};
 ghost use Rattle.ion_symtab.specs.Took.{Took, TookFront};
 ghost use Rattle.ion_binary.specs.Output.{nothing_yet, adds, after, opening, names_after, table_from};
 ghost use Rattle.ion_binary.specs.Writing.{IsWritingFault};
@@ -99,11 +100,13 @@ impl<S: BuildHasher + Drop> BinaryWriter<S> {
     /// Writes a value; before the first one the version marker. A local symbol table isn't one: it would be
     /// written as it stands and read as a table. A value that is written is one that the types keep.
     ///
-    /// `Memory`; `Write` where the device failed; `TooLarge` where a symbol would need an id above 2^31-1.
-    /// After a fault each later call answers the same.
+    /// `Memory`; `Write` where the device failed; `TooLarge` where a symbol would need an id above 2^31-1, so
+    /// that no value that is written has one. After a fault each later call answers the same.
     pub fn put<W: Outlet>(&mut self, out: &mut W, value: &Value) -> Result<(), Fault>
         ensures ok { OnOk result (Took W.took W.written out.old out.new (adds self.old.progress value.now)) }
         ensures after { OnOk result (self.new ≡ record { progress = after self.old.progress value.now; failed = None }) }
+        ensures in_range { OnOk result
+            (length (names_after self.old.progress.names value.now) ≤ suc greatest_id) }
         ensures kept { OnOk result (IsKept value.now) }
         ensures front { OnErr result (TookFront W.took W.written out.old out.new (adds self.old.progress value.now)) }
         ensures cause { self.old.failed ≡ None → IfErr result (IsWritingFault (names_after self.old.progress.names value.now) (W.has_failed out.new)) }
@@ -185,6 +188,8 @@ impl<S: BuildHasher + Drop> BinaryWriter<S> {
     fn put_next<W: Outlet>(&mut self, out: &mut W, value: &Value) -> Result<(), Fault>
         ensures ok { OnOk result (Took W.took W.written out.old out.new (adds self.old.progress value.now)) }
         ensures after { OnOk result (self.new ≡ record { progress = after self.old.progress value.now; failed = self.old.failed }) }
+        ensures in_range { OnOk result
+            (length (names_after self.old.progress.names value.now) ≤ suc greatest_id) }
         ensures kept { OnOk result (IsKept value.now) }
         ensures front { OnErr result (TookFront W.took W.written out.old out.new (adds self.old.progress value.now)) }
         ensures cause { IfErr result (IsWritingFault (names_after self.old.progress.names value.now) (W.has_failed out.new)) }
@@ -225,12 +230,14 @@ fn put_front<S: BuildHasher + Drop>(
 ) -> Result<(), Fault>
     ensures ok { OnOk result (front.new.items ≡
         front.old.items ++ (opening begun ++ table_from known names.now)) }
+    ensures in_range { length names.now ≤ suc greatest_id }
     ensures memory { IsOkUnless result faults.Memory }
 {
+    let count = names.len();
     if !begun {
         front.extend_from_slice(&MARKER)?;
     }
-    if names.len() > known {
+    if count > known {
         put_table(alloc, names, known, front)?;
     }
     Ok(())

@@ -4,3 +4,6 @@ pub mod Conversions
 pub mod Described
 pub mod Tables
 pub mod Carrying
+pub mod Headline
+pub mod Told
+pub mod Converses

@@ -2,6 +2,7 @@ pub mod Documents
 pub mod Formats
 pub mod Carried
 pub mod Paths
+pub mod Headline
 pub mod Encodings
 pub mod Converted
 pub mod Conversion

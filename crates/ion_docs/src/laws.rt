@@ -1,5 +1,5 @@
 //! Laws of documents and verdicts. Each stands on a function that does nothing: its contract is the law.
-ghost use Rattle.std.specs.Prelude.{◌≡◌, ◌↔◌, ℕ, List, [], map, Option, Result, Ok};
+ghost use Rattle.std.specs.Prelude.{◌≡◌, ◌↔◌, ℕ, List, [], length, map, Option, Result, Ok};
 ghost use Rattle.ion_atoms.specs.declared.refusal.Refusal.{Refusal};
 ghost use Rattle.ion_model.specs.declared.value.Value.{Value};
 ghost use Rattle.ion_atoms.specs.Octets.{AreOctets};
@@ -15,12 +15,67 @@ ghost use Rattle.ion_docs.specs.Conversion.{DenotesAnywhere};
 ghost use Rattle.ion_docs.specs.Documents.{Denotes};
 ghost use Rattle.ion_docs.specs.Encodings.{encoding_of};
 ghost use Rattle.ion_docs.specs.Formats.{documents};
-ghost use Rattle.ion_streams.specs.Compared.{IsVerdict};
+ghost use Rattle.ion_docs.specs.Headline.{AreEquivalent, PartFirst, AreDocuments, IsDocument, IsNoDocument, IsVerdictOn, SaysEquivalent, SaysDifferent, RefusesLeft, RefusesRight, IsCheckOf, IsListingOf, IsConversionOf, TellsOnly};
+ghost use Rattle.ion_model.specs.declared.path.Part.{Part};
+ghost use Rattle.ion_symtab.specs.Took.{Took};
+ghost use Rattle.ion_docs.specs.Conversion.{KeepsStream};
+ghost use Rattle.ion_docs.specs.Converted.{IsConverted};
+ghost use Rattle.ion_streams.specs.Checked.{IsChecked};
+ghost use Rattle.ion_streams.specs.Compared.{IsCompared, IsVerdict};
+ghost use Rattle.ion_streams.specs.Listing.{IsShown};
 ghost use Rattle.ion_docs.specs.declared.conversion.Target.{Target};
 ghost use Rattle.ion_streams.specs.Loaded.{catalog_of, AreApart, DescribesUnder, IsDocumentOf, IsCatalog};
 ghost use Rattle.ion_streams.specs.declared.comparison.Verdict.{Verdict};
 
-use ion_model::laws::paths;
+use ion_model::laws::{equivalence, paths};
+use ion_symtab::{Inlet, Outlet};
+
+/// The promise of `compare` over two octet strings in memory, in the words of `specs/Headline.antt`. They have a
+/// verdict, and one alone. It is `Equivalent` exactly where both are documents of equivalent streams, with the
+/// number of their values, and `Different` exactly where both are documents whose streams part, at the first
+/// value where they do and the path within it. It refuses the left exactly where that is no document, and the
+/// right exactly where the left is one and the right is none.
+pub fn headline()
+    ensures some { (g : Catalog) (k : Limits) (l r : List ℕ) →
+        (v : Verdict) × IsVerdictOn g k l r v }
+    ensures one { (g : Catalog) (k : Limits) (l r : List ℕ) (v w : Verdict) →
+        IsVerdictOn g k l r v → IsVerdictOn g k l r w → v ≡ w }
+    ensures equivalent { (g : Catalog) (k : Limits) (l r : List ℕ) (values : ℕ) →
+        SaysEquivalent g k l r values ↔ AreDocuments g k l r (AreEquivalent values) }
+    ensures different { (g : Catalog) (k : Limits) (l r : List ℕ) (index : ℕ) (path : List Part) →
+        SaysDifferent g k l r index path ↔ AreDocuments g k l r (PartFirst index path) }
+    ensures left { (g : Catalog) (k : Limits) (l r : List ℕ) →
+        RefusesLeft g k l r ↔ IsNoDocument g k l }
+    ensures right { (g : Catalog) (k : Limits) (l r : List ℕ) →
+        RefusesRight g k l r ↔ (IsDocument g k l × IsNoDocument g k r) }
+{
+    paths();
+    one_verdict();
+}
+
+/// The promise of `convert` over octets in memory, in the words of `specs/Headline.antt`. What is written, and
+/// the answer, are one alone. A document of octets has a conversion: what is the document of its stream in the
+/// encoding of `target`, where the texts of the catalog are UTF-8. It denotes that stream, under every catalog and all
+/// limits that admit it, and so `compare` says that both are equivalent.
+pub fn conversions()
+    ensures exact { (target : Target) (g : Catalog) (k : Limits) (u w : List ℕ) (values : ℕ) →
+        AreTextTables g → AreOctets u →
+        IsConversionOf g k (encoding_of target) u w (Ok values)
+        ↔ ((s : List Value) × Denotes g k u s × (length s ≡ values)
+        × (w ≡ (encoding_of target).document s)) }
+    ensures one { (target : Target) (g : Catalog) (k : Limits) (u w x : List ℕ)
+        (p q : Result ℕ Refusal) → IsConversionOf g k (encoding_of target) u w p →
+        IsConversionOf g k (encoding_of target) u x q → (w ≡ x) × (p ≡ q) }
+    ensures same { (target : Target) (g h : Catalog) (k m : Limits) (u w : List ℕ) (values : ℕ)
+        (s : List Value) → IsConversionOf g k (encoding_of target) u w (Ok values) →
+        Denotes g k u s → (encoding_of target).admits m s → Denotes h m w s }
+    ensures equivalent { (target : Target) (g : Catalog) (k : Limits) (u w : List ℕ) (values : ℕ) →
+        IsConversionOf g k (encoding_of target) u w (Ok values) →
+        ((s : List Value) → Denotes g k u s → (encoding_of target).admits k s) →
+        SaysEquivalent g k u w values }
+{
+    equivalence();
+}
 
 /// A document denotes one stream.
 pub fn one_stream()
@@ -89,4 +144,39 @@ pub fn catalogs_find()
         IsCatalog (documents [] l) octets (Ok tables) → Denotes [] l octets s →
         (name : List ℕ) (version : ℕ) → ((t : Table) → DescribesUnder s name version t → ⊥) →
         find tables name version ≡ Option.None }
+{}
+
+/// Where two devices tell only certain octets, as those over octets in memory, what `compare` answers of them
+/// is the verdict on these octets: with `headline` that is the promise outright.
+pub fn verdict_of_told<L: Inlet, R: Inlet>()
+    ensures { (g : Catalog) (k : Limits) (a b : L) (c d : R) (v : Verdict) →
+        IsCompared L.Inlet R.Inlet (documents g k) (documents g k) a b c d v →
+        (l r : List ℕ) → TellsOnly L.Inlet a l → TellsOnly R.Inlet c r → IsVerdictOn g k l r v }
+{}
+
+/// What `check` answers of a device that tells only certain octets is what they are.
+pub fn check_of_told<R: Inlet>()
+    ensures { (g : Catalog) (k : Limits) (a b : R) (answer : Result ℕ Refusal) →
+        IsChecked R.Inlet (documents g k) a b answer →
+        (u : List ℕ) → TellsOnly R.Inlet a u → IsCheckOf g k u answer }
+{}
+
+/// What `show` answers of a device that tells only certain octets, and what it writes, is what they are.
+pub fn listing_of_told<R: Inlet, W: Outlet>()
+    ensures { (g : Catalog) (k : Limits) (a b : R) (old new : W) (answer : Result ℕ Refusal) →
+        IsShown R.Inlet W.Outlet (documents g k) a b old new answer →
+        (u : List ℕ) → TellsOnly R.Inlet a u →
+        (w : List ℕ) × Took W.took W.written old new w × IsListingOf g k u w answer }
+{}
+
+/// What `convert` answers of a device that tells only certain octets is what they are, and what it writes
+/// denotes the stream that they denote, or the values before the refusal.
+pub fn conversion_of_told<R: Inlet, W: Outlet>()
+    ensures { (target : Target) (g : Catalog) (k : Limits) (a b : R) (old new : W)
+        (answer : Result ℕ Refusal) →
+        IsConverted R.Inlet W.Outlet (encoding_of target) (documents g k) a b old new answer →
+        KeepsStream R.Inlet W.Outlet (encoding_of target) g k a b old new answer →
+        (u : List ℕ) → TellsOnly R.Inlet a u →
+        (w : List ℕ) × Took W.took W.written old new w
+        × IsConversionOf g k (encoding_of target) u w answer }
 {}

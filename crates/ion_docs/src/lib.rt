@@ -9,6 +9,7 @@ mod conversion;
 mod doc_reader;
 mod documents;
 pub mod laws;
+mod memory;
 mod paths;
 mod whole;
 mod writers;
@@ -20,6 +21,7 @@ pub use documents::{check, compare, convert, convert_with_hasher, show};
 pub use ion_streams::{
     Side, Verdict, check_items, compare_items, load_items, read_items, read_octets, show_items,
 };
+pub use memory::in_memory;
 pub use paths::path_text;
 pub use whole::{read_all, read_document};
 pub use writers::Encoder;

@@ -20,3 +20,4 @@ pub mod Innermost
 pub mod Walks
 pub mod Walking
 pub mod Tops
+pub mod Calls

@@ -1,5 +1,6 @@
 pub mod Grammar
 pub mod Output
+pub mod Calls
 pub mod Writing
 pub mod machine
 pub mod laws

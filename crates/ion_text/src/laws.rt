@@ -17,8 +17,13 @@ ghost use Rattle.ion_tokens.specs.Lexed.{LexesTo, Placed};
 ghost use Rattle.ion_text.specs.Grammar.{Document, Means, OpenRest, Whole, span};
 ghost use Rattle.ion_text.specs.Output.{text_of};
 ghost use Rattle.ion_text.specs.laws.writing.RoundTrip.{FitsIn};
+ghost use Rattle.ion_text.specs.laws.reading.Rows.{AreDocuments, worked_documents};
 ghost use Rattle.ion_text.specs.laws.writing.Rows.{worked};
+ghost use Rattle.ion_text.specs.Calls.{WritesEach};
+ghost use Rattle.ion_symtab.specs.Took.{Took};
 ghost use Rattle.ion_text.specs.machine.Run.{trace};
+
+use ion_symtab::Outlet;
 
 /// What is written of values that the types keep, none of them a local symbol table, is a document
 /// with these values, under every catalog and all limits that admit it; so what is written of the
@@ -125,4 +130,25 @@ pub fn whole_pieces()
 pub fn first_refused()
     ensures { (g : List Table) (l : Limits) (u : List ℕ) (r : Refusal) →
         (trace g l u).refused ≡ Some r → IsFirst (trace g l) u r }
+{}
+
+/// Worked documents denote their streams, under every catalog and all limits of at least two levels and items
+/// of 100 octets: a long string in segments, operators, comments behind an annotation, a symbol table that
+/// another one appends to.
+pub fn worked_documents()
+    ensures { (g : List Table) (l : Limits) → 2 ≤ l.depth → 100 ≤ l.item →
+        AreDocuments g l worked_documents }
+{}
+
+/// A document within limits is one with the same values within wider ones.
+pub fn wider_limits()
+    ensures { (g : List Table) (l m : Limits) → l.depth ≤ m.depth → l.item ≤ m.item →
+        (u : List ℕ) (s : List Value) → Document g l u s → Document g m u s }
+{}
+
+/// Where `put` was called with each value of a stream in turn, and then `finish`, and all answered `Ok`, the
+/// device took the document of the stream.
+pub fn written<W: Outlet>()
+    ensures { (s : List Value) (old new : W) → WritesEach W.Outlet old s new →
+        Took W.took W.written old new (text_of s) }
 {}

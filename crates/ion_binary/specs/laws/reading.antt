@@ -8,6 +8,8 @@ pub mod Small
 pub mod Steady
 pub mod OpenRests
 pub mod HeaderRows
+pub mod PlainRows
+pub mod Rows
 pub mod Documents
 pub mod Stops
 pub mod Promises

@@ -5,3 +5,4 @@ pub mod TableWritten
 pub mod RoundTrip
 pub mod KeptTexts
 pub mod Headers
+pub mod Rows

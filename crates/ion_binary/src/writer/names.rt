@@ -1,6 +1,7 @@
 //! The ids that a writer has given to symbols (Ion 1.0, "Symbols", "Symbol IDs").
-ghost use Rattle.std.specs.Prelude.{◌≡◌, ◌<◌, ◌≤◌, ◌^◌, Some, true, length, map, drop, MatchResult, IfErr, IfOk, IfSome, OnOk};
+ghost use Rattle.std.specs.Prelude.{◌≡◌, ◌<◌, ◌≤◌, ◌^◌, ◌+◌, Some, suc, true, length, map, drop, MatchResult, IfErr, IfOk, IfSome, OnOk};
 ghost use Rattle.ion_model.specs.Symbols.{symbol_same};
+ghost use Rattle.ion_symtab.specs.Slots.{greatest_id};
 ghost use Rattle.ion_symtab.specs.declared.fault.Fault.TheVariants as faults;
 ghost use Rattle.ion_binary.specs.Output.{Names as SymbolsById, system_names, id_of, with_name, with_names};
 ghost use Rattle.ion_binary.specs.Writing.{IsNumberingFault};
@@ -23,11 +24,15 @@ pub(crate) struct Names<S: BuildHasher> {
 }
 
 impl<S: BuildHasher> Model for Names<S> {
+    ghost use Rattle.std.specs.Prelude.{◌≤◌, suc, length};
+    ghost use Rattle.ion_symtab.specs.Slots.{greatest_id};
     ghost use Rattle.ion_binary.specs.Output.{Names as SymbolsById};
 
     ghost Value = { SymbolsById };
 
     ghost view = { λ n. n.symbols.keys };
+
+    ghost invariant = { λ n. length n.symbols.keys ≤ suc greatest_id };
 }
 
 impl<S: BuildHasher + Drop> Names<S> {
@@ -46,6 +51,7 @@ impl<S: BuildHasher + Drop> Names<S> {
 
     // Gives each of the texts the next id, if it has none. The only fault is `Memory`.
     fn insert_texts(&mut self, alloc: Global, texts: &[&str]) -> Result<(), Fault>
+        requires room { length self.old + length texts.now ≤ suc greatest_id }
         ensures { MatchResult result (λ _. self.new ≡ with_names self.old (map (λ t. Some t.now) texts.now)) (λ f. f ≡ faults.Memory) }
     {
         for text in texts {
@@ -59,6 +65,7 @@ impl<S: BuildHasher + Drop> Names<S> {
     pub(crate) fn len(&self) -> usize
         ensures count { result ≡ length self.now }
         ensures small { result < 2 ^ 63 }
+        ensures in_range { length self.now ≤ suc greatest_id }
     {
         self.symbols.len()
     }
@@ -112,6 +119,7 @@ impl<S: BuildHasher + Drop> Names<S> {
 
     // Gives the symbol the next id, if it has none, and answers its id. The only fault is `Memory`.
     fn insert(&mut self, key: Symbol) -> Result<usize, Fault>
+        requires room { length (with_name self.old key) ≤ suc greatest_id }
         ensures ok { MatchResult result (λ _. self.new ≡ with_name self.old key) (λ f. f ≡ faults.Memory) }
         ensures id { IfOk result (λ id. id ≡ id_of self.new key) }
         ensures small { IfOk result (λ id. id < 2 ^ 63) }

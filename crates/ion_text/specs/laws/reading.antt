@@ -30,3 +30,4 @@ pub mod FrontTokens
 pub mod Lengths
 pub mod Small
 pub mod Bounded
+pub mod Rows

@@ -1,0 +1,5 @@
+use Rattle.ion_text.proofs.Calls.{writes_each}
+use Rattle.ion_text.proofs.laws.written.Goals as goal
+
+pub returns : goal.returns
+returns g c = writes_each g.W.Outlet
