@@ -13,6 +13,8 @@ mod faults;
 #[cfg(test)]
 mod lines;
 #[cfg(test)]
+mod memory;
+#[cfg(test)]
 mod streams;
 mod wanted;
 #[cfg(test)]

@@ -12,6 +12,8 @@ mod held;
 #[cfg(test)]
 mod model;
 #[cfg(test)]
+mod parts;
+#[cfg(test)]
 mod readers;
 #[cfg(test)]
 mod scanner;
