@@ -275,7 +275,7 @@ no_last : (now : Result Machine Refusal) (v : Value) → ends_of now ≡ Ok (Som
 no_last (Ok m) v h = cond_last (whole m.phase m.frames) _ v h
 no_last (Err e) v h = cc
 
--- a value has at most as many nodes as its item has octets
+-- a value has at most as many nodes as octets were used since the value before it, and as an item may have
 pub small : (g : Catalog) (l : Limits) (u : List ℕ) → IsSmall l.item u (trace g l u)
 small g l u = record { given = spaced_now g l u (run g l 0 initial u).now refl; last = λ v h. absurd (no_last (run g l 0 initial u).now v h) }
 

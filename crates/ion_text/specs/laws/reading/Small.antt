@@ -1,4 +1,4 @@
--- Each value has at most as many nodes as its item has octets, and its item at most as many octets as the limit on items.
+-- Each value has at most as many nodes as octets were used since the value before it, and as the limit on items allows octets.
 use Rattle.std.proofs.Common.{◌≡◌, ℕ, zero, suc, ◌+◌, ◌≤◌, max, nat_le, List, [], ◌∷◌, ◌++◌, length, Bool, true, false, ◌&&◌, ◌||◌, not, Result, Ok, Err, Option, Some, None, refl, ap, sym, ◌∙◌, subst, arith, if◌then◌else◌, ◌⊎◌, inl, inr}
 use Rattle.ion_model.specs.declared.value.Value.{Value}
 use Rattle.ion_atoms.specs.declared.refusal.Reason.{Reason}
@@ -574,7 +574,7 @@ module _ (g : Catalog) (l : Limits) where
   last_spaced from n [] (Err x) v h e = absurd cc
   last_spaced from n ((w, at) ∷ given) now v h e = (h.0, last_spaced at n given now v h.1 e)
 
-  -- A value has at most as many nodes as its item has octets, and its item at most as many as the limit allows.
+  -- A value has at most as many nodes as octets were used since the value before it, and as the limit allows octets.
   pub is_small : (u : List ℕ) → IsSmall l.item u (trace g l u)
   is_small u =
       let x = run g l 0 begun u in
