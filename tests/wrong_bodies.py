@@ -4,7 +4,9 @@
 The gate tries those of crates/CRATE/must-fail. Those of crates/CRATE/wrong-bodies were refused too when they were
 written; the gate would take hours more with them, so they are tried here: all, or those named. A check is mostly
 loading, so wrong bodies of different functions share one: each whose function is said not to be proved is refused, and
-the others are tried by a check of their own. The crate's sources have to be as they were committed, and are put back.
+the others are tried by a check of their own. What counts is a goal that isn't proved: a check that stops for want of
+memory, or for a form that it doesn't cover, says nothing of the contract, and neither does a proof file that names what
+the edit took away. The crate's sources have to be as they were committed, and are put back.
 """
 import os
 import re
@@ -12,6 +14,7 @@ import subprocess
 import sys
 
 TOGETHER = 12
+GOAL = re.compile(r"^note: (src/\S+?):(\d+):\d+: it is not proved", re.M)
 
 
 class Edit:
@@ -81,7 +84,12 @@ def by_itself(edit):
     said = complaints([edit])
     if said is None:
         return "did not reach the prover"
-    return "" if said else "NOT REFUSED"
+    if not said:
+        return "NOT REFUSED"
+    if GOAL.search(said):
+        return ""
+    first = next((line for line in said.splitlines() if re.match(r"(note: )?\S+:\d+:\d+: error|fn .*: no proof:", line)), "")
+    return f"refused by no goal: {first[:200]}"
 
 
 def together(edits):
@@ -99,7 +107,7 @@ def judged(group):
     """Each edit of the group with why it isn't refused."""
     ranges = {edit.name: edit.functions() for edit in group}
     said = complaints(group) if len(group) > 1 else None
-    places = re.findall(r"^note: (src/\S+?):(\d+):\d+: it is not proved", said or "", re.M)
+    places = GOAL.findall(said or "")
     for edit in group:
         is_refused = any(source == file and first <= int(line) <= last for file, first, last in ranges[edit.name] for source, line in places)
         yield edit, "" if is_refused else by_itself(edit)
