@@ -1,5 +1,5 @@
 //! Whether two documents have equivalent streams.
-ghost use Rattle.std.specs.Prelude.{◌≡◌, ℕ, ◌+◌, ◌*◌, ◌^◌, ◌<◌, ◌≤◌, ◌⊎◌, [], true, false, IfOk, IfErr, MatchResult};
+ghost use Rattle.std.specs.Prelude.{◌≡◌, ℕ, ◌+◌, ◌*◌, ◌^◌, ◌<◌, ◌≤◌, ◌⊎◌, [], true, false, IfOk, IfErr, MatchResult, length};
 ghost use Rattle.ion_symtab.specs.declared.catalog.Catalog.{Catalog};
 ghost use Rattle.ion_symtab.specs.declared.limits.Limits.{Limits};
 ghost use Rattle.ion_symtab.specs.Cause.{IsReadCause};
@@ -180,6 +180,9 @@ fn compare_places<A: Alike<I, J>, I: Items + Drop, J: Items + Drop, L: Inlet, R:
         left.old left.new right.old right.new verdict) }
     ensures few_calls { (L.calls_made left.new ≤ L.calls_made left.old + reads_of left_place.old)
         × (R.calls_made right.new ≤ R.calls_made right.old + reads_of right_place.old) }
+    ensures few_octets { (length (L.handed left.new)
+        ≤ length (L.handed left.old) + 4096 * reads_of left_place.old)
+        × (length (R.handed right.new) ≤ length (R.handed right.old) + 4096 * reads_of right_place.old) }
     ensures cause { IfErr result (λ fault. (reads : ℕ) →
         IfOpen left_place.old (IsWithin L.Inlet reads left.old left.old) →
         IfOpen right_place.old (IsWithin R.Inlet reads right.old right.old) →
@@ -241,6 +244,8 @@ pub fn compare_items<I: Items + Drop, J: Items + Drop, L: Inlet, R: Inlet>(
         left.old left.new right.old right.new) }
     ensures few_calls { (L.calls_made left.new ≤ L.calls_made left.old + reads)
         × (R.calls_made right.new ≤ R.calls_made right.old + reads) }
+    ensures few_octets { (length (L.handed left.new) ≤ length (L.handed left.old) + 4096 * reads)
+        × (length (R.handed right.new) ≤ length (R.handed right.old) + 4096 * reads) }
     ensures cause { IfErr result (λ fault.
         IsReadCause L.Inlet reads left.old left.new fault
         ⊎ IsReadCause R.Inlet reads right.old right.new fault) }
@@ -266,6 +271,8 @@ pub fn compare_by<A: Alike<I, J>, I: Items + Drop, J: Items + Drop, L: Inlet, R:
         left.old left.new right.old right.new) }
     ensures few_calls { (L.calls_made left.new ≤ L.calls_made left.old + reads)
         × (R.calls_made right.new ≤ R.calls_made right.old + reads) }
+    ensures few_octets { (length (L.handed left.new) ≤ length (L.handed left.old) + 4096 * reads)
+        × (length (R.handed right.new) ≤ length (R.handed right.old) + 4096 * reads) }
     ensures cause { IfErr result (λ fault.
         IsReadCause L.Inlet reads left.old left.new fault
         ⊎ IsReadCause R.Inlet reads right.old right.new fault) }

@@ -1,5 +1,5 @@
 //! A line for each value of a document.
-ghost use Rattle.std.specs.Prelude.{◌≡◌, ℕ, ◌+◌, ◌^◌, ◌<◌, ◌≤◌, ◌⊎◌, ◌++◌, List, length, true, false, IfOk, IfErr, OnOk, OnErr, Option, option_to_list, string_bytes};
+ghost use Rattle.std.specs.Prelude.{◌≡◌, ℕ, ◌+◌, ◌^◌, ◌<◌, ◌≤◌, ◌⊎◌, ◌++◌, List, length, true, false, IfOk, IfErr, OnOk, OnErr, Option, option_to_list, string_bytes, ◌*◌};
 ghost use Rattle.std.specs.Fmt.{decimal};
 ghost use Rattle.ion_model.specs.declared.value.Value.{Value};
 ghost use Rattle.ion_symtab.specs.Took.{Took, TookFront};
@@ -132,6 +132,7 @@ pub fn show_items<I: Items + Drop, R: Inlet, W: Outlet>(
     ensures so_far { OnErr result (ShowsSoFar R.Inlet I.Items W.Outlet (I.catalog items)
         (I.limits items) reader.old reader.new writer.old writer.new) }
     ensures few_calls { R.calls_made reader.new ≤ R.calls_made reader.old + reads }
+    ensures few_octets { length (R.handed reader.new) ≤ length (R.handed reader.old) + 4096 * reads }
     ensures cause { IfErr result (λ fault.
         IsReadCause R.Inlet reads reader.old reader.new fault
         ⊎ IsWriteCause W.Outlet writer.new fault) }

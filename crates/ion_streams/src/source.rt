@@ -121,6 +121,7 @@ impl<I: Items + Drop> Source<I> {
             WereMade R.Inlet made first reader.old → WereMade R.Inlet (made + 1) first reader.new) }
         ensures kept { OnErr result (Heard R.Inlet reader.old reader.new [] false) }
         ensures few_calls { R.calls_made reader.new ≤ R.calls_made reader.old + 1 }
+        ensures few_octets { length (R.handed reader.new) ≤ length (R.handed reader.old) + 4096 }
         ensures cause { IfErr result (λ fault. (fault ≡ Fault.Read) × (R.has_failed reader.new ≡ true)) }
     {
         self.reads -= 1;
@@ -160,6 +161,8 @@ impl<I: Items + Drop> Source<I> {
         ensures spent { IfOk result (λ more. more ≡ false → IsSpent I.Items self.new) }
         ensures few_calls { R.calls_made reader.new + self.new.reads
             ≤ R.calls_made reader.old + self.old.reads }
+        ensures few_octets { length (R.handed reader.new) + 4096 * self.new.reads
+            ≤ length (R.handed reader.old) + 4096 * self.old.reads }
         ensures cause { IfErr result (λ fault. (first : R) (reads : ℕ) →
             IsWithin R.Inlet reads first reader.old self.old →
             IsReadCause R.Inlet reads first reader.new fault) }
@@ -194,6 +197,8 @@ impl<I: Items + Drop> Source<I> {
         ensures ended { IfOk result (λ reached. IfEnd reached (IsSpent I.Items self.new)) }
         ensures few_calls { R.calls_made reader.new + self.new.reads
             ≤ R.calls_made reader.old + self.old.reads }
+        ensures few_octets { length (R.handed reader.new) + 4096 * self.new.reads
+            ≤ length (R.handed reader.old) + 4096 * self.old.reads }
         ensures cause { IfErr result (λ fault. (first : R) (reads : ℕ) →
             IsWithin R.Inlet reads first reader.old self.old →
             IsReadCause R.Inlet reads first reader.new fault) }
@@ -278,6 +283,10 @@ impl<I: Items + Drop> Standing<I> {
         ensures fewer_calls { OnOk result (R.calls_made reader.new + reads_of self.new
             ≤ R.calls_made reader.old + reads_of self.old) }
         ensures few_calls { R.calls_made reader.new ≤ R.calls_made reader.old + reads_of self.old }
+        ensures fewer_octets { OnOk result (length (R.handed reader.new) + 4096 * reads_of self.new
+            ≤ length (R.handed reader.old) + 4096 * reads_of self.old) }
+        ensures few_octets { length (R.handed reader.new)
+            ≤ length (R.handed reader.old) + 4096 * reads_of self.old }
         ensures cause { IfErr result (λ fault. (first : R) (reads : ℕ) →
             IfOpen self.old (IsWithin R.Inlet reads first reader.old) →
             IsReadCause R.Inlet reads first reader.new fault) }

@@ -1,5 +1,5 @@
 //! Documents of which nobody asks for the values.
-ghost use Rattle.std.specs.Prelude.{◌≡◌, ◌≢◌, ℕ, ◌+◌, ◌*◌, ◌^◌, ◌<◌, ◌≤◌, List, [], ◌++◌, IfOk, IfErr, OnErr, Option, IsSome, option_map};
+ghost use Rattle.std.specs.Prelude.{◌≡◌, ◌≢◌, ℕ, ◌+◌, ◌*◌, ◌^◌, ◌<◌, ◌≤◌, List, [], ◌++◌, IfOk, IfErr, OnErr, Option, IsSome, option_map, length};
 ghost use Rattle.ion_model.specs.Outlines.{outline_of};
 ghost use Rattle.ion_model.specs.declared.value.Value.{Value};
 ghost use Rattle.ion_atoms.specs.declared.refusal.Reason.TheVariants as reasons;
@@ -65,6 +65,8 @@ impl<I: Items + Drop> Source<I> {
         ensures ended { IfOk result (λ reached. IfEnd reached (IsSpent I.Items self.new)) }
         ensures few_calls { R.calls_made reader.new + self.new.reads
             ≤ R.calls_made reader.old + self.old.reads }
+        ensures few_octets { length (R.handed reader.new) + 4096 * self.new.reads
+            ≤ length (R.handed reader.old) + 4096 * self.old.reads }
         ensures cause { IfErr result (λ fault. (first : R) (reads : ℕ) →
             IsWithin R.Inlet reads first reader.old self.old →
             IsReadCause R.Inlet reads first reader.new fault) }
@@ -104,6 +106,8 @@ pub(crate) fn pass_all<I: Items + Drop, R: Inlet>(
         ReadsEach R.Inlet I.Items g l first reader.old source [] →
         IsChecked R.Inlet (format_of I.Items g l) first reader.new verdict) }
     ensures few_calls { R.calls_made reader.new ≤ R.calls_made reader.old + source.reads }
+    ensures few_octets { length (R.handed reader.new)
+        ≤ length (R.handed reader.old) + 4096 * source.reads }
     ensures cause { IfErr result (λ fault. (first : R) (reads : ℕ) →
         IsWithin R.Inlet reads first reader.old source →
         IsReadCause R.Inlet reads first reader.new fault) }

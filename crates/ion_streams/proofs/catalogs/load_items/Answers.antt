@@ -16,6 +16,7 @@ loop-catalog-init g c =
     record {
       ready = ready_begun g.I.Items source c.args.items (g.met.I.Items.counted c.args.items [] [] fresh.stood) fresh.awaited new.items new.nothing new.piece (omega (arith, new.reads));
       asked = omega (arith, new.reads);
+      handed = omega (arith, new.reads);
       within = within_begun g.R.Inlet c.args.reader.now source c.args.reads new.reads;
       reads = (
         [],
@@ -35,6 +36,7 @@ loop-catalog-preserved g c =
     let i = c.loop-catalog.invariant in
     let r = i.reads in
     let asked = i.asked in
+    let handed = i.handed in
     let next = c.in_ok-value.ensures in
     let source = c.read_on.new.self in
     let found : List (Value × ℕ) = (c.in-Value.value, source.used) ∷ [] in
@@ -42,6 +44,7 @@ loop-catalog-preserved g c =
     record {
       ready = rw c.in-Value.is at next.ready;
       asked = omega (arith, asked, next.few_calls);
+      handed = omega (arith, handed, next.few_octets);
       within = (rw c.in-Value.is at next.within) c.args.reader.now c.args.reads i.within;
       reads = (
         r.0 ++ found,

@@ -1,4 +1,4 @@
-use Rattle.std.proofs.Common.{◌≡◌, ℕ, ◌+◌, ◌≤◌, List, [], Ok}
+use Rattle.std.proofs.Common.{◌≡◌, ℕ, ◌+◌, ◌≤◌, List, [], Ok, length, ◌*◌}
 use Rattle.ion_model.specs.declared.value.Value.{Value}
 use Rattle.ion_streams.specs.reading.Read.{IsReady, IsWithin, work, ReadsEach}
 use Rattle.ion_streams.specs.Loaded.{catalog_of}
@@ -8,6 +8,7 @@ abbrev pub invariant-loop-catalog : goal.invariant-loop-catalog
 invariant-loop-catalog g l = record {
   ready : IsReady g.I.Items l.source;
   asked : g.R.Inlet.calls_made l.reader + l.source.reads ≤ g.R.Inlet.calls_made l.fn.reader + l.fn.reads;
+  handed : length (g.R.Inlet.handed l.reader) + 4096 * l.source.reads ≤ length (g.R.Inlet.handed l.fn.reader) + 4096 * l.fn.reads;
   within : IsWithin g.R.Inlet l.fn.reads l.fn.reader l.reader l.source;
   reads : (given : List (Value × ℕ)) × ReadsEach g.R.Inlet g.I.Items (g.I.Items.catalog l.fn.items) (g.I.Items.limits l.fn.items) l.fn.reader l.reader l.source given × (catalog_of [] given ≡ Ok l.catalog);
 }

@@ -44,3 +44,12 @@ returns-clause-few_calls g c =
     let left = few.0 in
     let right = few.1 in
     (omega (arith, left, l), omega (arith, right, r))
+
+pub returns-clause-few_octets : goal.returns-clause-few_octets
+returns-clause-few_octets g c =
+    let few = c.compare_places-verdict.ensures.few_octets in
+    let l = c.in_ok-left_source.ensures.reads in
+    let r = c.in_ok-right_source.ensures.reads in
+    let left = few.0 in
+    let right = few.1 in
+    (omega (arith, left, l), omega (arith, right, r))

@@ -19,6 +19,8 @@ loop-left_place-init g c =
       right_within = λ reads h. h;
       left_asked = omega arith;
       right_asked = omega arith;
+      left_handed = omega arith;
+      right_handed = omega arith;
       bound = omega (arith, few, none);
       open_still = inl c.requires.opened;
       stood = λ left_catalog right_catalog left_limits right_limits a b. ([], [], a, b, subst (λ x. Meets x c.args.left_place.now c.args.right_place.now [] []) (sym c.requires.begun) (meets_begun _ _));
@@ -75,6 +77,8 @@ loop-left_place-preserved-then-go_alike g c =
       right_within = λ reads h. past_within g.J.Items g.R.Inlet reads c.args.right.now c.loop-left_place.right right right_now both.value both.right_past (i.right_within reads h);
       left_asked = let asked = i.left_asked in omega (arith, asked, past_reads g.I.Items left left_now both.value both.left_past);
       right_asked = let asked = i.right_asked in omega (arith, asked, past_reads g.J.Items right right_now both.value both.right_past);
+      left_handed = let handed = i.left_handed in omega (arith, handed, past_reads g.I.Items left left_now both.value both.left_past);
+      right_handed = let handed = i.right_handed in omega (arith, handed, past_reads g.J.Items right right_now both.value both.right_past);
       bound = omega (arith, bound, left_less, right_less, count);
       open_still = inl (past_open g.I.Items left left_now both.value both.left_past);
       stood = λ left_catalog right_catalog left_limits right_limits a b.
@@ -114,6 +118,8 @@ loop-left_place-preserved g c =
           r.within c.args.right.now reads within;
       left_asked = let asked = i.left_asked in omega (arith, asked, l.fewer_calls, left_reads);
       right_asked = let asked = i.right_asked in omega (arith, asked, r.fewer_calls, right_reads);
+      left_handed = let handed = i.left_handed in omega (arith, handed, l.fewer_octets, left_reads);
+      right_handed = let handed = i.right_handed in omega (arith, handed, r.fewer_octets, right_reads);
       bound = omega (arith, bound, less, count, left_work, right_work, counted);
       open_still = elim c.else-not-is_open.branch [
         | else-not-is_open-via-then-not-is_open+else-not-is_open-2 w ↦ inr (true_case w.is_open-then-not-is_open.result _ _ w.is_open-then-not-is_open.ensures (search rules))

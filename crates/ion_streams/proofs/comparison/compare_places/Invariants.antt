@@ -1,4 +1,4 @@
-use Rattle.std.proofs.Common.{ℕ, ◌+◌, ◌*◌, ◌≤◌, ◌^◌, ◌⊎◌, List, []}
+use Rattle.std.proofs.Common.{ℕ, ◌+◌, ◌*◌, ◌≤◌, ◌^◌, ◌⊎◌, List, [], length}
 use Rattle.ion_model.specs.declared.value.Value.{Value}
 use Rattle.ion_symtab.specs.declared.catalog.Catalog.{Catalog}
 use Rattle.ion_symtab.specs.declared.limits.Limits.{Limits}
@@ -16,6 +16,8 @@ invariant-loop-left_place g l = record {
   right_within : (reads : ℕ) → IfOpen l.fn.right_place (IsWithin g.R.Inlet reads l.fn.right l.fn.right) → IfOpen l.right_place (IsWithin g.R.Inlet reads l.fn.right l.right);
   left_asked : g.L.Inlet.calls_made l.left + reads_of l.left_place ≤ g.L.Inlet.calls_made l.fn.left + reads_of l.fn.left_place;
   right_asked : g.R.Inlet.calls_made l.right + reads_of l.right_place ≤ g.R.Inlet.calls_made l.fn.right + reads_of l.fn.right_place;
+  left_handed : length (g.L.Inlet.handed l.left) + 4096 * reads_of l.left_place ≤ length (g.L.Inlet.handed l.fn.left) + 4096 * reads_of l.fn.left_place;
+  right_handed : length (g.R.Inlet.handed l.right) + 4096 * reads_of l.right_place ≤ length (g.R.Inlet.handed l.fn.right) + 4096 * reads_of l.fn.right_place;
   bound : count_of l.course + work_of g.I.Items l.left_place + work_of g.J.Items l.right_place ≤ 2 * (8193 * 2 ^ 32 + 1);
   open_still : IsOpen l.left_place ⊎ IsOpen l.right_place;
   stood : (left_catalog right_catalog : Catalog) (left_limits right_limits : Limits)

@@ -20,6 +20,7 @@ loop-text-init g c =
       ready = ready_begun g.I.Items source c.args.items (g.met.I.Items.counted c.args.items [] [] fresh.stood) fresh.awaited new.items new.nothing new.piece (omega (arith, new.reads));
       bound = omega (arith, new.reads, new.nothing.0, new.nothing.1);
       asked = omega (arith, new.reads);
+      handed = omega (arith, new.reads);
       within = within_begun g.R.Inlet c.args.reader.now source c.args.reads new.reads;
       reads = (
         [],
@@ -56,6 +57,7 @@ loop-text-preserved g c =
     let r = i.reads in
     let bound = i.bound in
     let asked = i.asked in
+    let handed = i.handed in
     let next = c.in_ok-outline.ensures in
     let less = rw c.in-Value.is at next.less in
     let on = reads_more g.R.Inlet g.I.Items _ _ outline_of _ _ _ c.loop-text.source c.pass_on.new.self r.0 c.in-Value.outline r.1 (rw c.in-Value.is at (next.gives _ _ _ r.1.given r.1.each)) in
@@ -64,6 +66,7 @@ loop-text-preserved g c =
       ready = rw c.in-Value.is at next.ready;
       bound = omega (arith, bound, less);
       asked = omega (arith, asked, next.few_calls);
+      handed = omega (arith, handed, next.few_octets);
       within = (rw c.in-Value.is at next.within) c.args.reader.now c.args.reads i.within;
       reads = (
         r.0 ++ on.0 ∷ [],

@@ -10,6 +10,7 @@ invariant-loop-text g l = record {
   ready : IsReady g.I.Items l.source;
   bound : l.values + work g.I.Items l.source ≤ 8193 * 2 ^ 32;
   asked : g.R.Inlet.calls_made l.reader + l.source.reads ≤ g.R.Inlet.calls_made l.fn.reader + l.fn.reads;
+  handed : length (g.R.Inlet.handed l.reader) + 4096 * l.source.reads ≤ length (g.R.Inlet.handed l.fn.reader) + 4096 * l.fn.reads;
   within : IsWithin g.R.Inlet l.fn.reads l.fn.reader l.reader l.source;
   reads : (s : List Value) × Reads g.R.Inlet g.I.Items (g.I.Items.catalog l.fn.items) (g.I.Items.limits l.fn.items) l.fn.reader l.reader l.source s
       × (length s ≡ l.values) × Took g.W.Outlet.took g.W.Outlet.written l.fn.writer l.writer (lines_of s);

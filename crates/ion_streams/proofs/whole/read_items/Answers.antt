@@ -12,6 +12,7 @@ loop-values-init g c =
     record {
       ready = ready_begun g.I.Items source c.args.items (g.met.I.Items.counted c.args.items [] [] fresh.stood) fresh.awaited new.items new.nothing new.piece (omega (arith, new.reads));
       asked = omega (arith, new.reads);
+      handed = omega (arith, new.reads);
       within = within_begun g.R.Inlet c.args.reader.now source c.args.reads new.reads;
       reads = rw c.new-values.ensures.items
           (reads_begun g.R.Inlet g.I.Items c.args.reader.now source c.args.items fresh.stood new.items
@@ -29,9 +30,11 @@ loop-values-preserved g c =
     let next = c.in_ok-value.ensures in
     let values = c.loop-values.values.items in
     let asked = i.asked in
+    let handed = i.handed in
     record {
       ready = rw c.in-Value.is at next.ready;
       asked = omega (arith, asked, next.few_calls);
+      handed = omega (arith, handed, next.few_octets);
       within = (rw c.in-Value.is at next.within) c.args.reader.now c.args.reads i.within;
       reads = rw c.in_ok-keep_next-in-Value.ensures.more
           (reads_next g.R.Inlet g.I.Items _ _ _ _ _ c.loop-values.source c.read_on.new.self values c.in-Value.value i.reads (rw c.in-Value.is at (next.gives _ _ _ i.reads.given i.reads.each)));

@@ -56,10 +56,12 @@ loop-refusal-preserved g c =
     let gives = none_went g.I.Items from mid _ c.in-Ok-None.field-0-is t.gives in
     let less = i.less in
     let asked = i.asked in
+    let handed = i.handed in
     record {
       ready = f.ready (search rules);
       less = omega (arith, less, t.pending, f.less (search rules));
       asked = omega (arith, asked, t.reads, f.few_calls);
+      handed = omega (arith, handed, t.reads, f.few_octets);
       within = λ first reads h. f.within (search rules) first reads (within_kept g.R.Inlet reads first c.loop-refusal.reader from mid t.reads (i.within first reads h));
       reads = λ catalog limits first given h.
           f.goes_on (search rules) catalog limits first given (reads_none g.R.Inlet g.I.Items catalog limits first c.loop-refusal.reader from mid given (i.reads catalog limits first given h) gives t.catalog t.limits);

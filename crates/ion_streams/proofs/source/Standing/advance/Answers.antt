@@ -95,3 +95,31 @@ returns-in_ok-close-in-End-clause-fewer_calls g c =
 
 pub returns-in_ok-close-in-End-clause-few_calls : goal.returns-in_ok-close-in-End-clause-few_calls
 returns-in_ok-close-in-End-clause-few_calls g c = let few = c.in_ok-value-in-Open.ensures.few_calls in rw c.in-Open.is (omega (arith, few))
+
+-- the octets that were handed over
+pub returns-in_err-value-in-Open-clause-few_octets : goal.returns-in_err-value-in-Open-clause-few_octets
+returns-in_err-value-in-Open-clause-few_octets g c = let few = c.in_err-value-in-Open.ensures.few_octets in rw c.in-Open.is (omega (arith, few))
+
+pub returns-in-Value-clause-fewer_octets : goal.returns-in-Value-clause-fewer_octets
+returns-in-Value-clause-fewer_octets g c = let few = c.in_ok-value-in-Open.ensures.few_octets in rw c.in-Open.is (omega (arith, few))
+
+pub returns-in-Value-clause-few_octets : goal.returns-in-Value-clause-few_octets
+returns-in-Value-clause-few_octets g c = let few = c.in_ok-value-in-Open.ensures.few_octets in rw c.in-Open.is (omega (arith, few))
+
+pub returns-in-Refused-2-clause-fewer_octets : goal.returns-in-Refused-2-clause-fewer_octets
+returns-in-Refused-2-clause-fewer_octets g c = let few = c.in_ok-value-in-Open.ensures.few_octets in rw c.in-Open.is (omega (arith, few))
+
+pub returns-in-Refused-2-clause-few_octets : goal.returns-in-Refused-2-clause-few_octets
+returns-in-Refused-2-clause-few_octets g c = let few = c.in_ok-value-in-Open.ensures.few_octets in rw c.in-Open.is (omega (arith, few))
+
+pub returns-in_err-close-in-End-clause-few_octets : goal.returns-in_err-close-in-End-clause-few_octets
+returns-in_err-close-in-End-clause-few_octets g c = let few = c.in_ok-value-in-Open.ensures.few_octets in rw c.in-Open.is (omega (arith, few))
+
+pub returns-in_ok-close-in-End-clause-fewer_octets : goal.returns-in_ok-close-in-End-clause-fewer_octets
+returns-in_ok-close-in-End-clause-fewer_octets g c =
+    let few = c.in_ok-value-in-Open.ensures.few_octets in
+    let none = closed_reads c.close.new.self c.in_ok-close-in-End.ensures.closed in
+    rw c.in-Open.is (omega (arith, few, none))
+
+pub returns-in_ok-close-in-End-clause-few_octets : goal.returns-in_ok-close-in-End-clause-few_octets
+returns-in_ok-close-in-End-clause-few_octets g c = let few = c.in_ok-value-in-Open.ensures.few_octets in rw c.in-Open.is (omega (arith, few))

@@ -9,10 +9,12 @@ loop-source-preserved g c =
     let bound = i.bound in
     let less = rw c.in-Value.is at on.less in
     let asked = i.asked in
+    let handed = i.handed in
     record {
       ready = rw c.in-Value.is at on.ready;
       bound = omega (arith, bound, less);
       asked = omega (arith, asked, c.in_ok-pass_on.ensures.few_calls);
+      handed = omega (arith, handed, c.in_ok-pass_on.ensures.few_octets);
       within = λ first reads h. (rw c.in-Value.is at on.within) first reads (i.within first reads h);
       reads = λ catalog limits first h.
           let r = i.reads catalog limits first h in
