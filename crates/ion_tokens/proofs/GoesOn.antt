@@ -215,6 +215,16 @@ counts piece at k s t n m h =
     let f = front_within (goes_on s.mode) rest in
     omega arith
 
+-- So each is looked at once.
+pub looks_on : (piece : List ℕ) (at k : ℕ) (s t : Known) (n m : ℕ) → TakesFront piece at k s t n m → m ≡ min (n + k) (2 ^ 64 - 1)
+looks_on piece at k s t n m h =
+    let rest = take (length piece - at) (drop at piece) in
+    let l = length-take k rest in
+    let e = h.counted in
+    let f = front_within (goes_on s.mode) rest in
+    let looked = h.looked in
+    omega arith
+
 -- Octets with which the mode goes on keep a scanner steady.
 pub going_steady : (w : List ℕ) (s t : Known) (n m : ℕ) → 0 < length w → Each (goes_on s.mode) w → t ≡ gone_on s w → s.used + length w < 2 ^ 63 → m ≡ min (n + length w) (2 ^ 64 - 1) → IsSteady s n → IsSteady t m
 going_steady w s t n m some each is room looked steady = steady_from places.Top w s t n m (run_on places.Top s w some each ∙ ap Next (sym is)) steady room looked

@@ -12,6 +12,7 @@ pub mod Ended
 pub mod EndsShown
 pub mod Escapes
 pub mod Fits
+pub mod Foresights
 pub mod Found
 pub mod GoesOn
 pub mod Histories
@@ -21,9 +22,11 @@ pub mod HoldsStep
 pub mod LaneMasks
 pub mod LaneRuns
 pub mod LastOctets
+pub mod Lendings
 pub mod Moves
 pub mod OneBegun
 pub mod Opens
+pub mod Pending
 pub mod Reaches
 pub mod Runs
 pub mod Scans
@@ -48,6 +51,7 @@ pub mod TextsRead
 pub mod TextsSound
 pub mod Told
 pub mod Traced
+pub mod TraceTokens
 pub mod TurnsBlanks
 pub mod TurnsLobs
 pub mod TurnsOperators

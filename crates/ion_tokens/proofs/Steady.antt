@@ -67,18 +67,18 @@ within_fresh modes.Blank r u f h k = omega arith
 within_fresh modes.Slash r u f h k = omega arith
 within_fresh _ r u f h k = cc f
 
-went_well : (a b c d : ℕ) (x : Bool) → (nat_le a b && nat_le c d && x) ≡ true → (a ≤ b) × (c ≤ d) × (x ≡ true)
+pub went_well : (a b c d : ℕ) (x : Bool) → (nat_le a b && nat_le c d && x) ≡ true → (a ≤ b) × (c ≤ d) × (x ≡ true)
 went_well a b c d true h = (grind (arith, nat_tests), grind (arith, nat_tests), refl)
 went_well a b c d false h = (grind (arith, nat_tests), grind (arith, nat_tests), grind (arith, nat_tests))
 
-ended_well : (a b c d : ℕ) (x : Bool) → (nat_lt a b && nat_le c d && x) ≡ true → (a < b) × (c ≤ d) × (x ≡ true)
+pub ended_well : (a b c d : ℕ) (x : Bool) → (nat_lt a b && nat_le c d && x) ≡ true → (a < b) × (c ≤ d) × (x ≡ true)
 ended_well a b c d true h = (grind (arith, nat_tests), grind (arith, nat_tests), refl)
 ended_well a b c d false h = (grind (arith, nat_tests), grind (arith, nat_tests), grind (arith, nat_tests))
 
-le_of : (a b : ℕ) → nat_le a b ≡ true → a ≤ b
+pub le_of : (a b : ℕ) → nat_le a b ≡ true → a ≤ b
 le_of a b h = grind (arith, nat_tests)
 
-les_of : (a b c d : ℕ) → (nat_le a b && nat_le c d) ≡ true → (a ≤ b) × (c ≤ d)
+pub les_of : (a b c d : ℕ) → (nat_le a b && nat_le c d) ≡ true → (a ≤ b) × (c ≤ d)
 les_of a b c d h = (grind (arith, nat_tests), grind (arith, nat_tests))
 
 -- behind a token and nothing else

@@ -50,7 +50,7 @@ begins p s e = record { behind = initial; front = []; left = []; since = []; tol
 
 module _ (p : Place) (s : Known) (u : List ℕ) (ts : List Placed) (ahead : List ℕ) (h : Scanned p s u ts ahead) where
   -- the octets since the last token and those of a piece begin with what was left
-  from_left : (piece octets rest : List ℕ) → Continues piece ahead → piece ≡ octets ++ rest → 1 ≤ length octets → Continues (h.since ++ octets) h.left
+  pub from_left : (piece octets rest : List ℕ) → Continues piece ahead → piece ≡ octets ++ rest → 1 ≤ length octets → Continues (h.since ++ octets) h.left
   from_left piece octets rest (more, c) e some = by h.next where
     by : IsAhead h.since h.left ahead → Continues (h.since ++ octets) h.left
     by (inl (none, same)) =
@@ -64,13 +64,13 @@ module _ (p : Place) (s : Known) (u : List ℕ) (ts : List Placed) (ahead : List
     by (inl (none, same)) = (more, ap (λ l. l ++ piece) none ∙ c ∙ ap (λ l. l ++ more) same)
     by (inr (front, since, none)) = (front ++ piece, ap (λ l. l ++ piece) since ∙ append_assoc h.left front piece)
 
-  behind_since : (piece : List ℕ) (x : Outcome) → run p piece s ≡ x → run p (h.since ++ piece) h.behind ≡ x
+  pub behind_since : (piece : List ℕ) (x : Outcome) → run p piece s ≡ x → run p (h.since ++ piece) h.behind ≡ x
   behind_since piece x e = run_behind p h.since piece h.behind s h.ran ∙ e
 
   cut_there : (piece rest : List ℕ) → u ++ (piece ++ rest) ≡ h.front ++ ((h.since ++ piece) ++ rest)
   cut_there piece rest = ap (λ l. l ++ (piece ++ rest)) h.cut ∙ append_assoc h.front h.since (piece ++ rest) ∙ ap (λ l. h.front ++ l) (sym (append_assoc h.since piece rest))
 
-  there : (octets rest : List ℕ) → (u ++ octets) ++ rest ≡ h.front ++ ((h.since ++ octets) ++ rest)
+  pub there : (octets rest : List ℕ) → (u ++ octets) ++ rest ≡ h.front ++ ((h.since ++ octets) ++ rest)
   there octets rest = append_assoc u octets rest ∙ cut_there octets rest
 
   pub goes_on : (piece : List ℕ) (s' : Known) → Continues piece ahead → run p piece s ≡ Next s' → Scanned p s' (u ++ piece) ts []
@@ -86,11 +86,11 @@ module _ (p : Place) (s : Known) (u : List ℕ) (ts : List Placed) (ahead : List
     next = let w = whole_piece piece c in inr (w.0, w.1, refl);
   }
 
-  since_used : s.used ≡ h.behind.used + length h.since
+  pub since_used : s.used ≡ h.behind.used + length h.since
   since_used = next_used p h.since h.behind s (sym h.ran)
 
   -- behind a token
-  told_more : (octets : List ℕ) (t : Placed) (now : Known) (next : List ℕ) → Stands now (h.front ++ (h.since ++ octets)) (ts ++ t ∷ []) next → Passes t.lexeme.kind t.lexeme.octets → (q : Place) → Scanned q now (u ++ octets) (ts ++ t ∷ []) next
+  pub told_more : (octets : List ℕ) (t : Placed) (now : Known) (next : List ℕ) → Stands now (h.front ++ (h.since ++ octets)) (ts ++ t ∷ []) next → Passes t.lexeme.kind t.lexeme.octets → (q : Place) → Scanned q now (u ++ octets) (ts ++ t ∷ []) next
   told_more octets t now next stands pass q = record {
     behind = now;
     front = u ++ octets;

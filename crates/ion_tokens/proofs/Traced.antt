@@ -59,14 +59,14 @@ acts_owe p s o actions.EndBlob f = by (blob_of s.kept) where
   by (Some octets) = tt
 acts_owe p s o (actions.Refuse e) f = tt
 
-debt_small : (m : Mode) → debt m < 3
+pub debt_small : (m : Mode) → debt m < 3
 debt_small modes.Blank = omega arith
 debt_small modes.NumberSlash = omega arith
 debt_small modes.OperatorSlash = omega arith
 debt_small (modes.Infinity _) = omega arith
 debt_small _ = omega arith
 
-left_owes : (p : Place) (s t : Known) (o : ℕ) (l : Lexeme) → feed p s o ≡ Left l t → debt t.mode < debt s.mode
+pub left_owes : (p : Place) (s t : Known) (o : ℕ) (l : Lexeme) → feed p s o ≡ Left l t → debt t.mode < debt s.mode
 unfolding OwesLess
 left_owes p s t o l e = subst (λ x. OwesLess (debt s.mode) x) e (acts_owe p s o (next p s.colon s.mode o) (table_fits p s.colon s.mode o))
 

@@ -2,6 +2,8 @@
 pub mod Ahead
 pub mod Bounds
 pub mod AtOnce
+pub mod Foreseen
+pub mod Lent
 pub mod Rests
 pub mod Said
 pub mod Scanned

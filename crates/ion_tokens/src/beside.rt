@@ -1,11 +1,10 @@
 //! Tokens of any form that lie whole in memory: those with escapes or beyond ASCII, typed nulls, clobs and blobs, read by a
 //! machine beside the scanner's.
-ghost use Rattle.std.specs.Prelude.{◌≡◌, ◌≢◌, ◌+◌, ◌<◌, ◌^◌, length, Ok, Err, IfOk, IfErr, IfSome};
+ghost use Rattle.std.specs.Prelude.{◌≡◌, ◌≢◌, ◌+◌, ◌<◌, ◌^◌, [], length, Ok, Err, IfOk, IfErr, IfSome};
 ghost use Rattle.ion_atoms.specs.declared.refusal.Reason.TheVariants.{Memory};
 ghost use Rattle.ion_tokens.specs.Bodies.{content};
 ghost use Rattle.ion_tokens.specs.machine.Rests.{resting, past_token, lexeme_at, IsFound};
 ghost use Rattle.ion_tokens.specs.machine.Said.{said};
-ghost use Rattle.ion_tokens.specs.machine.Views.{known, lexeme_in, octets_in};
 
 use crate::body::body_of;
 use crate::machine::{Lexeme, Machine, Taken, takes_colon};
@@ -16,10 +15,12 @@ use ion_atoms::Reason;
 use std::alloc::Global;
 use std::fmt::{self, Debug, Formatter};
 
-/// Reads tokens beside a scanner; it keeps the octets of the last one.
+/// Reads tokens beside a scanner; it keeps the octets of the last one, and none of a token that it didn't find.
 #[derive(Drop)]
 pub struct TokenReader {
     machine: Machine,
+    /// No octets are kept of a token that is open.
+    ghost none_open: { machine.kept.items ≡ [] },
 }
 
 impl Debug for TokenReader {
@@ -39,6 +40,8 @@ pub struct FoundToken {
 }
 
 impl TokenReader {
+    ghost use Rattle.ion_tokens.specs.machine.Views.{octets_in};
+
     /// It takes no memory yet.
     pub fn new(alloc: Global) -> TokenReader {
         TokenReader {
@@ -47,19 +50,14 @@ impl TokenReader {
     }
 
     /// The token at the front of these octets, where a scanner rests, if its end shows in them. `None` also where it is refused
-    /// or unusual, where a comment stands before it, and where memory runs out.
+    /// or unusual, where a comment stands before it, and where memory runs out. Of a token that isn't found nothing is kept.
     #[inline(never)]
     pub fn token(&mut self, place: Place, rest: Rest, octets: &[u8]) -> Option<FoundToken>
         requires { rest.used + length octets.now < 2 ^ 63 }
         ensures { IfSome result (λ found. IsFound place rest octets.now found.kind
             (octets_in self.new) found.count found.left) }
     {
-        self.rest(rest);
-        match self.machine.run(place, octets) {
-            Ok(Taken::Given(lexeme)) => self.found(place, rest, lexeme, false),
-            Ok(Taken::Left(lexeme)) => self.found(place, rest, lexeme, true),
-            _ => None,
-        }
+        self.machine.token(place, rest, octets)
     }
 
     /// What the token found last says as one of this kind. What is kept of it is taken.
@@ -72,36 +70,62 @@ impl TokenReader {
     }
 }
 
-impl TokenReader {
+impl Machine {
+    ghost use Rattle.ion_tokens.specs.machine.Views.{known, lexeme_in};
+
+    // The token at the front of octets, where it rests. Then no octets are kept of an open one.
+    fn token(&mut self, place: Place, rest: Rest, octets: &[u8]) -> Option<FoundToken>
+        requires { rest.used + length octets.now < 2 ^ 63 }
+        ensures found { IfSome result (λ found. IsFound place rest octets.now found.kind
+            self.new.ended.items found.count found.left) }
+        ensures none_open { self.new.kept.items ≡ [] }
+    {
+        let found = self.find(place, rest, octets);
+        self.kept.clear();
+        found
+    }
+
+    // The same, which keeps octets of one that it didn't find.
+    fn find(&mut self, place: Place, rest: Rest, octets: &[u8]) -> Option<FoundToken>
+        requires { rest.used + length octets.now < 2 ^ 63 }
+        ensures { IfSome result (λ found. IsFound place rest octets.now found.kind
+            self.new.ended.items found.count found.left) }
+    {
+        self.rest(rest);
+        match self.run(place, octets) {
+            Ok(Taken::Given(lexeme)) => self.found(place, rest, lexeme, false),
+            Ok(Taken::Left(lexeme)) => self.found(place, rest, lexeme, true),
+            _ => None,
+        }
+    }
+
     // It rests there.
     fn rest(&mut self, rest: Rest)
-        ensures { known self.new.machine ≡ resting rest }
+        ensures { known self.new ≡ resting rest }
     {
-        let machine = &mut self.machine;
-        machine.kept.clear();
-        machine.mode = Mode::Blank;
-        machine.colon = rest.colon;
-        machine.start = rest.start;
-        machine.used = rest.used;
+        self.kept.clear();
+        self.mode = Mode::Blank;
+        self.colon = rest.colon;
+        self.start = rest.start;
+        self.used = rest.used;
     }
 
     // The token that ended, if it began where the machine rested and the machine rests behind it.
     fn found(&self, place: Place, rest: Rest, lexeme: Lexeme, left: bool) -> Option<FoundToken>
         ensures some { IfSome result (λ found. 0 < found.count) }
-        ensures known { IfSome result (λ found. known self.now.machine
+        ensures known { IfSome result (λ found. known self.now
             ≡ resting (past_token place rest found.kind found.count)) }
-        ensures lexeme { IfSome result (λ found. lexeme_in lexeme self.now.machine
-            ≡ lexeme_at rest found.kind (octets_in self.now) found.count) }
+        ensures lexeme { IfSome result (λ found. lexeme_in lexeme self.now
+            ≡ lexeme_at rest found.kind self.now.ended.items found.count) }
         ensures left { IfSome result (λ found. found.left ≡ left) }
     {
         let Lexeme { start, end, kind } = lexeme;
-        let machine = &self.machine;
-        if start != rest.used || end <= start || machine.start != end || machine.used != end {
+        if start != rest.used || end <= start || self.start != end || self.used != end {
             return None;
         }
-        if !matches!(machine.mode, Mode::Blank)
-            || !machine.kept.is_empty()
-            || machine.colon != takes_colon(place, kind)
+        if !matches!(self.mode, Mode::Blank)
+            || !self.kept.is_empty()
+            || self.colon != takes_colon(place, kind)
         {
             return None;
         }

@@ -1,11 +1,12 @@
 //! What the octets of a token say (Ion 1.0, "Ion Text Encoding").
-ghost use Rattle.std.specs.Prelude.{◌≡◌, ◌≢◌, ◌^◌, ◌-◌, min, MatchResult, IfOk, IfErr, IsUtf8};
-ghost use Rattle.std.specs.Cow.{cow_str_bytes};
+ghost use Rattle.std.specs.Prelude.{◌≡◌, ◌≢◌, ◌^◌, ◌-◌, ℕ, List, min, MatchResult, IfOk, IfErr, IsUtf8};
+ghost use Rattle.std.specs.Cow.{cow_str_bytes, IsBorrowedStr, IsOwnedStr};
 ghost use Rattle.std.specs.List.{list_all};
 ghost use Rattle.ion_atoms.specs.declared.refusal.Reason.TheVariants.{Memory, BadUtf8};
 ghost use Rattle.ion_tokens.specs.Octets.{is_digit};
 ghost use Rattle.ion_tokens.specs.Bodies.{content, kind_named, id_of, number_in, IsBody};
 ghost use Rattle.ion_tokens.specs.Lexed.{Passes};
+ghost use Rattle.ion_tokens.specs.machine.Lent.{BorrowsFrom};
 
 use crate::mode::TokenKind;
 use crate::octets::is_digit;
@@ -87,6 +88,8 @@ fn text_of(octets: Vec<u8>) -> Result<Text, Reason>
 fn word_of<'p>(alloc: Global, octets: &[u8], lent: &'p [u8]) -> Result<CowStr<'p>, Reason>
     ensures ok { IfOk result (λ word. (cow_str_bytes word ≡ octets.now) × IsUtf8 octets.now) }
     ensures err { IfErr result (λ e. e ≢ Memory → (e ≡ BadUtf8) × ¬ (IsUtf8 octets.now)) }
+    ensures borrowed { IfOk result (λ word. cow_str_bytes word ≡ lent.now → IsBorrowedStr word) }
+    ensures owned { IfOk result (λ word. cow_str_bytes word ≢ lent.now → IsOwnedStr word) }
 {
     if octets == lent {
         match simdutf8::basic::from_utf8(lent) {
@@ -105,6 +108,7 @@ fn word_of<'p>(alloc: Global, octets: &[u8], lent: &'p [u8]) -> Result<CowStr<'p
 fn word_body<'p>(alloc: Global, octets: &[u8], lent: &'p [u8]) -> Result<Body<'p>, Reason>
     ensures ok { IfOk result (λ body. IsBody TokenKind.Word octets.now (Ok (content body))) }
     ensures err { IfErr result (λ e. e ≢ Memory → IsBody TokenKind.Word octets.now (Err e)) }
+    ensures lends { IfOk result (λ body. BorrowsFrom lent.now body) }
 {
     match id_of(octets) {
         Some(id) => Ok(Body::Id(id)),
@@ -116,6 +120,7 @@ fn word_body<'p>(alloc: Global, octets: &[u8], lent: &'p [u8]) -> Result<Body<'p
 fn null_body<'p>(name: &[u8]) -> Result<Body<'p>, Reason>
     ensures ok { IfOk result (λ body. IsBody TokenKind.KindName name.now (Ok (content body))) }
     ensures err { IfErr result (λ e. IsBody TokenKind.KindName name.now (Err e)) }
+    ensures lends { (lent : List ℕ) → IfOk result (λ body. BorrowsFrom lent body) }
 {
     match kind_named(name) {
         Some(kind) => Ok(Body::TypedNull(kind)),
@@ -142,6 +147,7 @@ pub fn body_of<'p>(
     ensures ok { IfOk result (λ body. IsBody kind octets.old.items (Ok (content body))) }
     ensures err { IfErr result (λ e. e ≢ Memory → IsBody kind octets.old.items (Err e)) }
     ensures passes { IfOk result (λ _. Passes kind octets.old.items) }
+    ensures lends { IfOk result (λ body. BorrowsFrom lent.now body) }
 {
     match kind {
         TokenKind::Word => word_body(alloc, octets.as_slice(), lent),

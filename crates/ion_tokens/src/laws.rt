@@ -8,7 +8,7 @@ ghost use Rattle.ion_tokens.specs.Blobs.{AreOctets, base64_of, blob_of};
 ghost use Rattle.ion_tokens.specs.Bodies.{Content, IsBody};
 ghost use Rattle.ion_tokens.specs.machine.Scanning.{Known, feed, follow, run};
 ghost use Rattle.ion_tokens.specs.machine.Traces.{Told, Places, over, over_pieces, IsTraced};
-ghost use Rattle.ion_tokens.specs.laws.Tokens.{TellsRightly, ToldAll, OneBegun};
+ghost use Rattle.ion_tokens.specs.laws.Tokens.{TellsRightly, ToldAll, OneBegun, TracesTokens};
 
 /// It doesn't matter how octets are cut: pieces lead to the tokens, totals and refusal to which the whole leads; and what comes of octets
 /// in one place is what comes of the second part behind the first, unless a token or a refusal came of the first.
@@ -42,6 +42,12 @@ pub fn blobs()
 /// The octets used begin with the tokens told, each at its span, with blanks alone between them, however they go on.
 pub fn tokens_told()
     ensures { TellsRightly }
+{}
+
+/// Where the trace of octets ends well, the octets are the tokens that it tells, with blanks between, each in the place to which those before
+/// it lead, at its span and saying what it says.
+pub fn trace_is_exact()
+    ensures { TracesTokens }
 {}
 
 /// None but the tokens told has ended whatever octets follow.

@@ -3,7 +3,7 @@ ghost use Rattle.std.specs.Prelude.{◌≡◌, ℕ, ◌+◌, ◌-◌, ◌<◌, �
 ghost use Rattle.ion_atoms.specs.declared.refusal.Reason.TheVariants.{Memory};
 ghost use Rattle.ion_tokens.specs.machine.Scanning.{feed, run, at_end, kept_after, start_of, left_of, takes_colon, cut, past, go_to, initial, acts, blob_ends, split_at};
 ghost use Rattle.ion_tokens.specs.Blobs.{blob_of};
-ghost use Rattle.ion_tokens.specs.machine.Bounds.{IsSteady, StaysSteady};
+ghost use Rattle.ion_tokens.specs.machine.Bounds.{IsSteady, StaysSteady, taken_up};
 ghost use Rattle.ion_tokens.specs.machine.Views.{known, lexeme_in, outcome_in, found_in};
 
 use crate::blob::decoded;
@@ -268,6 +268,8 @@ impl Machine {
     pub fn run(&mut self, place: Place, piece: &[u8]) -> Result<Taken, AllocError>
         requires { self.old.used + length piece.now < 2 ^ 63 }
         ensures does { IfOk result (λ taken. outcome_in taken self.new ≡ run place piece.now (known self.old)) }
+        ensures looked { IfOk result (λ taken. self.new.looked
+            ≡ min (self.old.looked + taken_up self.old.used (outcome_in taken self.new)) (2 ^ 64 - 1)) }
         ensures steady { IfOk result (λ taken. IsSteady (known self.old) self.old.looked → StaysSteady (outcome_in taken self.new) self.new.looked) }
     {
         let mut at = 0;

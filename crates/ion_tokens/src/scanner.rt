@@ -1,14 +1,16 @@
 //! The scanner, to which the octets come in pieces.
-ghost use Rattle.std.specs.Prelude.{◌≡◌, ◌≢◌, ◌+◌, ◌-◌, ◌*◌, ◌≤◌, ◌<◌, ◌^◌, length, ◌++◌, [], OnOk, IfOk, IfErr, IfSome, IfNone, IsNone, None, List, ℕ, true, false, take};
+ghost use Rattle.std.specs.Prelude.{◌≡◌, ◌≢◌, ◌+◌, ◌-◌, ◌*◌, ◌≤◌, ◌<◌, ◌^◌, length, ◌++◌, [], OnOk, IfOk, IfErr, IfSome, IfNone, IsNone, None, List, ℕ, true, false, take, min};
 ghost use Rattle.ion_atoms.specs.declared.refusal.Reason.TheVariants.{Memory};
 ghost use Rattle.ion_tokens.specs.declared.mode.Place.{Place};
 ghost use Rattle.ion_tokens.specs.machine.Scanning.{Known, Next, run, at_end, initial, cut, acts, feed, start_of};
-ghost use Rattle.ion_tokens.specs.machine.Bounds.{is_idle, IsSteady, StaysSteady};
+ghost use Rattle.ion_tokens.specs.machine.Bounds.{is_idle, debt, IsSteady, StaysSteady};
 ghost use Rattle.ion_tokens.specs.Bodies.{content, IsBody};
 ghost use Rattle.ion_tokens.specs.machine.Views.{known, lexeme_in, scanned, failure, left_in, looks, behind, form_of, begun_in, held_in, open_in, foresight};
 ghost use Rattle.ion_tokens.specs.machine.AtOnce.{goes_on};
 ghost use Rattle.ion_tokens.specs.Lexemes.{Each};
 ghost use Rattle.ion_tokens.specs.Lexed.{Placed};
+ghost use Rattle.ion_tokens.specs.machine.Foreseen.{Foresees};
+ghost use Rattle.ion_tokens.specs.machine.Lent.{StandIn, BorrowsAt, LendsWhole, OwnsLast};
 ghost use Rattle.ion_tokens.specs.machine.Rests.{resting};
 ghost use Rattle.ion_tokens.specs.machine.Scanned.{Scanned, Goes, RefusesAt, EndsWith, NeverEnds, EndsFor, AlwaysShows};
 ghost use Rattle.ion_tokens.specs.machine.Traces.{Places, IsTraced, AnswersTrace, EndsTrace};
@@ -42,7 +44,9 @@ impl Debug for Scanner {
 }
 
 // Where a token's octets stand in the piece behind `before` octets, if they stand there.
-fn lent<'p>(piece: &'p [u8], before: u64, lexeme: Lexeme) -> &'p [u8] {
+fn lent<'p>(piece: &'p [u8], before: u64, lexeme: Lexeme) -> &'p [u8]
+    ensures { StandIn before lexeme.start lexeme.end piece.now result.now }
+{
     match (
         lexeme.start.checked_sub(before),
         lexeme.end.checked_sub(before),
@@ -70,6 +74,8 @@ impl Machine {
         ensures known { known self.new ≡ known self.old }
         ensures looked { self.new.looked ≡ self.old.looked }
         ensures left { self.new.left ≡ self.old.left }
+        ensures lends { IfOk result (λ token.
+            BorrowsAt before token.start token.end piece.now token.body) }
     {
         let Lexeme { start, end, kind } = lexeme;
         let lent = lent(piece, before, lexeme);
@@ -105,6 +111,8 @@ impl Machine {
         ensures known { known self.new ≡ known self.old }
         ensures looked { self.new.looked ≡ self.old.looked }
         ensures left { self.new.left ≡ left }
+        ensures lends { IfOk result (λ scan. IfSome scan.token (λ token.
+            BorrowsAt before token.start token.end piece.now token.body)) }
     {
         self.left = left;
         let used = (self.used - before) as usize;
@@ -134,6 +142,12 @@ impl Machine {
             (answered result self.new.left) (known self.new) }
         ensures steady { IfOk result (λ _. IsSteady (known self.old) self.old.looked →
             IsSteady (known self.new) self.new.looked) }
+        ensures lends { IfOk result (λ scan. IfSome scan.token (λ token.
+            BorrowsAt self.old.used token.start token.end piece.now token.body)) }
+        ensures looked { IfOk result (λ scan. self.new.looked
+            ≡ min (self.old.looked + deciding scan.used self.new.left) (2 ^ 64 - 1)) }
+        ensures looked_at { IfErr result (λ refusal. refusal.reason ≢ Memory → self.new.looked
+            ≡ min (self.old.looked + (refusal.offset - self.old.used)) (2 ^ 64 - 1)) }
         ensures memory { IfErr result (λ refusal. refusal.reason ≡ Memory →
             refusal.offset ≡ self.old.used) }
     {
@@ -177,6 +191,8 @@ impl Machine {
         ensures ends { Ends self.old.used (at_end place (known self.old)) result }
         ensures memory { IfErr result (λ refusal. refusal.reason ≡ Memory →
             refusal.offset ≡ self.old.used) }
+        ensures lends { IfOk result (λ token. IfSome token (λ token.
+            BorrowsAt self.old.used token.start token.end [] token.body)) }
     {
         let used = self.used;
         match self.end(place) {
@@ -230,6 +246,17 @@ impl Scanner {
             ≡ (scanned self.old).used + scan.used) }
         ensures steady { IfOk result (λ _. IsSteady (scanned self.old) (looks self.old) →
             IsSteady (scanned self.new) (looks self.new)) }
+        ensures lends { IsNone (failure self.old) → IfOk result (λ scan. IfSome scan.token
+            (λ token. LendsWhole place (scanned self.old) piece.now token)) }
+        ensures looked { IfOk result (λ scan. looks self.new
+            ≡ min (looks self.old + deciding scan.used (left_in self.new)) (2 ^ 64 - 1)) }
+        ensures looked_at { IsNone (failure self.old) →
+            IfErr result (λ refusal. refusal.reason ≢ Memory → looks self.new
+            ≡ min (looks self.old + (refusal.offset - (scanned self.old).used)) (2 ^ 64 - 1)) }
+        ensures few_pending { IfOk result (λ scan. debt (scanned self.new).mode
+            ≤ debt (scanned self.old).mode + scan.used) }
+        ensures progress { IfOk result (λ scan. IfSome scan.token (λ _.
+            debt (scanned self.new).mode < debt (scanned self.old).mode + scan.used)) }
         ensures memory { IfErr result (λ refusal. refusal.reason ≡ Memory →
             IsNone (failure self.old) →
             refusal.offset ≡ (scanned self.old).used) }
@@ -276,6 +303,8 @@ impl Scanner {
         ensures reasons { IsNone (failure self) →
             IfErr result (λ refusal. EndsFor place (scanned self) refusal.reason) }
         ensures traced { IsNone (failure self) → EndsTrace place (scanned self) result }
+        ensures owns { IsNone (failure self) → IfOk result (λ token. IfSome token
+            (λ token. OwnsLast place (scanned self) token)) }
         ensures memory { IfErr result (λ refusal. refusal.reason ≡ Memory → IsNone (failure self) →
             refusal.offset ≡ (scanned self).used) }
         ensures again { IfSome (failure self) (λ refusal. result ≡ Err refusal) }
@@ -312,6 +341,8 @@ impl Scanner {
         requires room { rest.used < 2 ^ 63 }
         ensures rests { scanned self.new ≡ resting rest }
         ensures failure { failure self.new ≡ failure self.old }
+        ensures looked { looks self.new
+            ≡ min (looks self.old + (rest.used - (scanned self.old).used)) (2 ^ 64 - 1) }
         ensures steady { IsSteady (scanned self.old) (looks self.old) →
             IsSteady (scanned self.new) (looks self.new) }
     {
@@ -345,6 +376,10 @@ impl Scanner {
             run place octets.now (scanned self.old) ≡ Next (scanned self.new)) }
         ensures steady { OnOk result (IsSteady (scanned self.old) (looks self.old) →
             IsSteady (scanned self.new) (looks self.new)) }
+        ensures looked { OnOk result (looks self.new
+            ≡ min (looks self.old + length octets.now) (2 ^ 64 - 1)) }
+        ensures few_pending { OnOk result (debt (scanned self.new).mode
+            ≡ debt (scanned self.old).mode) }
         ensures memory { IsNone (failure self.old) → IfErr result (λ refusal.
             (refusal.reason ≡ Memory) × (refusal.offset ≡ (scanned self.old).used)) }
         ensures fails { IfErr result (λ refusal. failure self.new ≡ Some refusal) }
@@ -424,7 +459,8 @@ impl Scanner {
 
     /// What an octet would show of a token that may go on. It isn't taken up.
     pub fn foresee(&self, place: Place, octet: u8) -> Foresight
-        ensures { result ≡ foresight (feed place (scanned self.now) octet) }
+        ensures shows { result ≡ foresight (feed place (scanned self.now) octet) }
+        ensures foresees { Foresees place (scanned self.now) octet result }
     {
         shown(next(place, self.machine.colon, self.machine.mode, octet))
     }

@@ -1,9 +1,11 @@
 -- What the scanner's calls have to do with the grammar of tokens.
-use Rattle.std.specs.Prelude.{◌≡◌, ℕ, false, List, [], ◌∷◌, ◌++◌, Option}
+use Rattle.std.specs.Prelude.{◌≡◌, ℕ, false, List, [], ◌∷◌, ◌++◌, Option, Ok, option_to_list}
 use Rattle.ion_tokens.specs.declared.mode.Place.{Place}
 use Rattle.ion_tokens.specs.declared.token.Begun.{Begun}
 use Rattle.ion_tokens.specs.Blobs.{AreOctets}
-use Rattle.ion_tokens.specs.machine.Scanning.{Known}
+use Rattle.ion_tokens.specs.Bodies.{IsBody}
+use Rattle.ion_tokens.specs.machine.Scanning.{Known, Lexeme}
+use Rattle.ion_tokens.specs.machine.Traces.{Told, Places, trace}
 use Rattle.ion_tokens.specs.Lexed.{Placed, Lexes, BeginsLexed, LooksIn}
 use Rattle.ion_tokens.specs.machine.Scanned.{Scanned, Continues, ShowsBegun}
 
@@ -19,3 +21,21 @@ ToldAll = (p : Place) (s : Known) (u : List ℕ) (ts : List Placed) → Scanned 
 abbrev pub OneBegun : Type 0
 OneBegun = (p : Place) (u : List ℕ) (ts : List Placed) (a b : Option Begun) → ShowsBegun p u ts a → ShowsBegun p u ts b
     → (rest : List ℕ) (others : List Placed) → LooksIn p others → Lexes false 0 (u ++ rest) (ts ++ others) → a ≡ b
+
+-- a token says so, with its span
+pub record IsTold (l : Lexeme) (x : Told) : Type 0 where
+  pub start : x.start ≡ l.start
+  pub end : x.end ≡ l.end
+  pub says : IsBody l.kind l.octets (Ok x.says)
+
+-- Behind tokens told before, these are told of those tokens, one by one: each is looked for where those before it lead.
+abbrev pub AreTold : Places → List Told → List Placed → List Told → Type 0
+AreTold places before [] [] = Unit {0}
+AreTold places before (t ∷ ts) (x ∷ xs) = (t.place ≡ places before) × IsTold t.lexeme x × AreTold places (before ++ x ∷ []) ts xs
+AreTold places before _ _ = ⊥
+
+-- A trace that ends well tells the tokens that the octets are, with blanks between, and what each says; its end tells the last one, where
+-- that shows it.
+abbrev pub TracesTokens : Type 0
+TracesTokens = (places : Places) (u : List ℕ) (last : Option Told) → (trace places u).ends ≡ Ok last
+    → (ts : List Placed) × Lexes false 0 u ts × AreTold places [] ts ((trace places u).told ++ option_to_list last)

@@ -62,3 +62,11 @@ StaysSteady (Next s) looked = IsSteady s looked
 StaysSteady (Given l s) looked = IsSteady s looked
 StaysSteady (Left l s) looked = IsSteady s looked
 StaysSteady (Refused at reason) looked = Unit {0}
+
+-- So many octets were taken up from a piece, behind `before` that were used, for what came of it: those used, and the one that was left
+-- or refused.
+abbrev pub taken_up : ℕ → Outcome → ℕ
+taken_up before (Next s) = s.used - before
+taken_up before (Given l s) = s.used - before
+taken_up before (Left l s) = (s.used - before) + 1
+taken_up before (Refused at reason) = at - before

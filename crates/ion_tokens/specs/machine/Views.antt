@@ -43,6 +43,10 @@ found_in (Some l) m = Some (lexeme_in l m)
 abbrev pub octets_in : TokenReader → List ℕ
 octets_in t = t.machine.ended.items
 
+-- and what it keeps of one that is open: nothing, as each of them says of itself
+abbrev pub open_in_reader : TokenReader → List ℕ
+open_in_reader t = t.machine.kept.items
+
 -- what a scanner knows between two octets
 abbrev pub scanned : Scanner → Known
 scanned s = known s.machine

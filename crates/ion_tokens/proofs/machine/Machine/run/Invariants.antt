@@ -1,4 +1,4 @@
-use Rattle.std.proofs.Common.{◌≡◌, ◌+◌, ◌-◌, ◌≤◌, length, drop}
+use Rattle.std.proofs.Common.{◌≡◌, ◌+◌, ◌-◌, ◌^◌, ◌≤◌, min, length, drop}
 use Rattle.ion_tokens.specs.machine.Scanning.{run}
 use Rattle.ion_tokens.specs.machine.Bounds.{IsSteady}
 use Rattle.ion_tokens.specs.machine.Views.{known}
@@ -9,6 +9,7 @@ abbrev pub invariant-loop-at : goal.invariant-loop-at
 invariant-loop-at l = record {
   within : l.at ≤ length l.piece;
   used : l.self.used ≡ l.fn.self.used + l.at;
+  looked : l.self.looked ≡ min (l.fn.self.looked + l.at) (2 ^ 64 - 1);
   same : run l.place (drop l.at l.piece) (known l.self) ≡ run l.place l.piece (known l.fn.self);
   steady : IsSteady (known l.fn.self) l.fn.self.looked → IsSteady (known l.self) l.self.looked;
 }

@@ -1,8 +1,11 @@
-use Rattle.std.proofs.Common.{length, subst, refl, arith}
-use Rattle.std.specs.Prelude.{Ok, None, false}
-use Rattle.ion_tokens.specs.machine.Scanning.{Outcome}
-use Rattle.ion_tokens.specs.machine.Views.{known}
-use Rattle.ion_tokens.specs.machine.Steps.{Answers}
+use Rattle.std.proofs.Common.{◌≡◌, ◌≢◌, ℕ, ◌+◌, ◌-◌, ◌^◌, ◌≤◌, min, length, subst, refl, arith, IfErr}
+use Rattle.std.specs.Prelude.{Result, Ok, Err, None, false}
+use Rattle.ion_atoms.specs.declared.refusal.Refusal.{Refusal}
+use Rattle.ion_atoms.specs.declared.refusal.Reason.TheVariants.{Memory}
+use Rattle.ion_tokens.specs.declared.token.Scan.{Scan}
+use Rattle.ion_tokens.specs.machine.Scanning.{Lexeme, Outcome}
+use Rattle.ion_tokens.specs.machine.Views.{known, lexeme_in}
+use Rattle.ion_tokens.specs.machine.Steps.{Answers, RefusesToken}
 use Rattle.ion_tokens.proofs.Runs.{next_used, given_used, left_used}
 use Rattle.ion_tokens.proofs.Causes.{refused_fair}
 use Rattle.ion_tokens.proofs.machine.Machine.scan.Goals as goal
@@ -30,3 +33,26 @@ pub returns-in-Ok-Refused-clause-memory : goal.returns-in-Ok-Refused-clause-memo
 returns-in-Ok-Refused-clause-memory c =
     let e = rw c.in-Ok-Refused.field-0-is at c.in-Ok-Refused.ensures.does in
     λ memory. absurd (refused_fair c.args.place c.args.piece.now (known c.args.self.now) _ _ e memory)
+
+pub returns-in-Ok-Next-clause-looked : goal.returns-in-Ok-Next-clause-looked
+returns-in-Ok-Next-clause-looked c =
+    let e = rw c.in-Ok-Next.field-0-is at c.in-Ok-Next.ensures.does in
+    let used = next_used c.args.place c.args.piece.now (known c.args.self.now) (known c.run.new.self) e in
+    let more = rw c.in-Ok-Next.field-0-is at c.in-Ok-Next.ensures.looked in
+    omega arith
+
+-- an octet that was left is looked at, too
+looked_at : (r : Result Scan Refusal) (l : Lexeme) (used before old now : ℕ) → before ≤ used → now ≡ min (old + ((used - before) + 1)) (2 ^ 64 - 1)
+    → IfErr r (λ refusal. refusal.reason ≢ Memory → RefusesToken l (used + 1) refusal)
+    → IfErr r (λ refusal. refusal.reason ≢ Memory → now ≡ min (old + (refusal.offset - before)) (2 ^ 64 - 1))
+looked_at (Ok scan) l used before old now le e h = tt
+looked_at (Err refusal) l used before old now le e h = λ other. let at = (h other).offset in omega arith
+
+pub returns-in-Ok-Left-clause-looked_at : goal.returns-in-Ok-Left-clause-looked_at
+returns-in-Ok-Left-clause-looked_at c =
+    let e = rw c.in-Ok-Left.field-0-is at c.in-Ok-Left.ensures.does in
+    let used = left_used c.args.place c.args.piece.now (known c.args.self.now) (known c.run.new.self) _ e in
+    let more = rw c.in-Ok-Left.field-0-is at c.in-Ok-Left.ensures.looked in
+    let same = c.given-in-Ok-Left.ensures.looked in
+    looked_at c.given-in-Ok-Left.result (lexeme_in c.in-Ok-Left.lexeme c.run.new.self) c.run.new.self.used c.args.self.now.used c.args.self.now.looked c.given-in-Ok-Left.new.self.looked
+    (omega arith) (omega arith) c.given-in-Ok-Left.ensures.err

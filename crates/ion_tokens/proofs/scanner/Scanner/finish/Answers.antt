@@ -1,14 +1,16 @@
-use Rattle.std.proofs.Common.{ℕ, List, [], ◌≢◌, refl, IfOk, IfErr}
-use Rattle.std.specs.Prelude.{Option, Result, Ok, Err}
+use Rattle.std.proofs.Common.{ℕ, List, [], ◌≢◌, refl, IfOk, IfErr, IfSome}
+use Rattle.std.specs.Prelude.{Option, Some, None, Result, Ok, Err}
 use Rattle.ion_atoms.specs.declared.refusal.Refusal.{Refusal}
 use Rattle.ion_atoms.specs.declared.refusal.Reason.TheVariants.{Memory}
 use Rattle.ion_tokens.specs.declared.token.Token.{Token}
-use Rattle.ion_tokens.specs.machine.Scanning.{at_end}
+use Rattle.ion_tokens.specs.machine.Scanning.{Known, at_end}
 use Rattle.ion_tokens.specs.Lexed.{Placed}
 use Rattle.ion_tokens.specs.machine.Scanned.{Scanned, EndsSo, NoEnd, EndsFor}
+use Rattle.ion_tokens.specs.machine.Lent.{BorrowsAt, OwnsLast}
 use Rattle.ion_tokens.specs.machine.Steps.{Ends}
 use Rattle.ion_tokens.specs.machine.Views.{known}
 use Rattle.ion_tokens.proofs.EndCauses.{end_fair, end_reason}
+use Rattle.ion_tokens.proofs.Lendings.{end_owns}
 use Rattle.ion_tokens.proofs.Stepped.{end_goes, end_refuses}
 use Rattle.ion_tokens.proofs.Traced.{end_traced}
 use Rattle.ion_tokens.proofs.scanner.Scanner.finish.Goals as goal
@@ -36,3 +38,17 @@ returns-clause-reasons c = λ none. by c.finish.result c.finish.ensures.ends whe
 
 pub returns-clause-traced : goal.returns-clause-traced
 returns-clause-traced c = λ none. end_traced c.args.place (known c.args.self.machine) _ c.finish.result refl c.finish.ensures.ends
+
+pub returns-clause-owns : goal.returns-clause-owns
+returns-clause-owns c = λ none. by c.finish.result c.finish.ensures.ends c.finish.ensures.lends where
+  s : Known
+  s = known c.args.self.machine
+
+  so : (token : Option Token) → ((u : List ℕ) (ts : List Placed) → Scanned c.args.place s u ts [] → EndsSo c.args.place u ts token) → IfSome token (λ t. BorrowsAt s.used t.start t.end [] t.body)
+      → IfSome token (λ t. OwnsLast c.args.place s t)
+  so None h b = tt
+  so (Some t) h b = λ u ts stood. end_owns c.args.place s u ts stood t (h u ts stood) b
+
+  by : (r : Result (Option Token) Refusal) → Ends s.used (at_end c.args.place s) r → IfOk r (λ token. IfSome token (λ t. BorrowsAt s.used t.start t.end [] t.body)) → IfOk r (λ token. IfSome token (λ t. OwnsLast c.args.place s t))
+  by (Ok token) a b = so token (λ u ts h. end_goes c.args.place s u ts h _ token refl a) b
+  by (Err r) a b = tt

@@ -1,17 +1,23 @@
-use Rattle.std.proofs.Common.{length, refl, ◌≢◌, IfOk, IfErr}
-use Rattle.std.specs.Prelude.{Result, Ok, Err, Bool}
+use Rattle.std.proofs.Common.{ℕ, List, length, refl, ◌≢◌, IfOk, IfErr, IfSome}
+use Rattle.std.specs.Prelude.{Result, Ok, Err, Option, Some, None, Bool}
 use Rattle.ion_atoms.specs.declared.refusal.Refusal.{Refusal}
 use Rattle.ion_atoms.specs.declared.refusal.Reason.TheVariants.{Memory}
 use Rattle.ion_tokens.specs.declared.token.Scan.{Scan}
-use Rattle.ion_tokens.specs.machine.Scanned.{Goes, RefusesAt}
-use Rattle.ion_tokens.specs.machine.Steps.{answered, stepped, Answers}
+use Rattle.ion_tokens.specs.declared.token.Token.{Token}
+use Rattle.ion_tokens.specs.Lexed.{Placed}
+use Rattle.ion_tokens.specs.machine.Lent.{BorrowsAt, LendsWhole}
+use Rattle.ion_tokens.specs.machine.Scanned.{Scanned, Continues, Goes, GoesWith, RefusesAt}
+use Rattle.ion_tokens.specs.machine.Steps.{Stepped, answered, stepped, Answers}
 use Rattle.ion_tokens.specs.machine.Scanning.{Known, run}
 use Rattle.ion_tokens.specs.machine.Views.{known}
 use Rattle.ion_tokens.proofs.Runs.{run_between}
 use Rattle.ion_tokens.proofs.Causes.{answer_reason, run_fair}
 use Rattle.ion_tokens.proofs.Answered.{used_within, used_whole, refused_within}
 use Rattle.ion_tokens.proofs.Stepped.{step_goes, step_refuses}
+use Rattle.ion_tokens.specs.machine.Bounds.{debt}
 use Rattle.ion_tokens.specs.machine.Traces.{AnswersTrace}
+use Rattle.ion_tokens.proofs.Lendings.{step_lends}
+use Rattle.ion_tokens.proofs.Pending.{few_owed, fewer_owed, run_owes}
 use Rattle.ion_tokens.proofs.Traced.{step_traced, step_stops}
 use Rattle.ion_tokens.proofs.scanner.Scanner.step.Goals as goal
 
@@ -102,3 +108,38 @@ returns-in-Err-clause-traced c = λ none. by c.scan-result.result c.scan-result.
   by : (r : Result Scan Refusal) → Answers s.used (run c.args.place c.args.piece.now s) (answered r left) now → AnswersTrace c.args.place s c.args.piece.now (answered r left) now
   by (Ok scan) a = step_traced c.args.place s c.args.piece.now _ (stepped scan left) now refl a
   by (Err r) a = step_stops c.args.place s c.args.piece.now _ r now refl a
+
+pub returns-in_default-result-clause-few_pending : goal.returns-in_default-result-clause-few_pending
+returns-in_default-result-clause-few_pending c =
+    let s = known c.args.self.now.machine in
+    few_owed (run c.args.place c.args.piece.now s) c.scan-result.result c.scan-result.new.self.left (debt s.mode) s.used (known c.scan-result.new.self)
+    (run_owes c.args.place c.args.piece.now s) c.scan-result.ensures.answers
+
+pub returns-in_default-result-clause-progress : goal.returns-in_default-result-clause-progress
+returns-in_default-result-clause-progress c =
+    let s = known c.args.self.now.machine in
+    fewer_owed (run c.args.place c.args.piece.now s) c.scan-result.result c.scan-result.new.self.left (debt s.mode) s.used (known c.scan-result.new.self)
+    (run_owes c.args.place c.args.piece.now s) c.scan-result.ensures.answers
+
+pub returns-in_default-result-clause-lends : goal.returns-in_default-result-clause-lends
+returns-in_default-result-clause-lends c = λ none. by c.scan-result.result c.scan-result.ensures.answers c.scan-result.ensures.lends where
+  s : Known
+  s = known c.args.self.now.machine
+
+  left : Bool
+  left = c.scan-result.new.self.left
+
+  now : Known
+  now = known c.scan-result.new.self
+
+  Goes' : Stepped → Option Token → Type 0
+  Goes' scan token = (u : List ℕ) (ts : List Placed) (ahead : List ℕ) → Scanned c.args.place s u ts ahead → Continues c.args.piece.now ahead → GoesWith c.args.place u c.args.piece.now ts scan now token
+
+  so : (scan : Stepped) (token : Option Token) → Goes' scan token → IfSome token (λ t. BorrowsAt s.used t.start t.end c.args.piece.now t.body) → IfSome token (λ t. LendsWhole c.args.place s c.args.piece.now t)
+  so scan None h b = tt
+  so scan (Some t) h b = λ u ts ahead stood goes. step_lends c.args.place s u ts ahead stood c.args.piece.now scan t now (h u ts ahead stood goes) b
+
+  by : (r : Result Scan Refusal) → Answers s.used (run c.args.place c.args.piece.now s) (answered r left) now
+      → IfOk r (λ scan. IfSome scan.token (λ t. BorrowsAt s.used t.start t.end c.args.piece.now t.body)) → IfOk r (λ scan. IfSome scan.token (λ t. LendsWhole c.args.place s c.args.piece.now t))
+  by (Ok scan) a b = so (stepped scan left) scan.token (λ u ts ahead h goes. step_goes c.args.place s u ts ahead h c.args.piece.now _ (stepped scan left) now goes refl a) b
+  by (Err r) a b = tt

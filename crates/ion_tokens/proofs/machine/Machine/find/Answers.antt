@@ -1,7 +1,7 @@
 use Rattle.std.proofs.Common.{sym, ap, ◌∙◌, true, false}
 use Rattle.ion_tokens.proofs.EndsShown.{found_if}
 use Rattle.ion_tokens.specs.machine.Scanning.{run}
-use Rattle.ion_tokens.proofs.beside.TokenReader.token.Goals as goal
+use Rattle.ion_tokens.proofs.machine.Machine.find.Goals as goal
 
 pub returns-in-Ok-Given : goal.returns-in-Ok-Given
 returns-in-Ok-Given c =

@@ -1,0 +1,110 @@
+-- What an octet shows of a token that may go on is so in the words of the grammar.
+use Rattle.std.proofs.Common.{◌≡◌, ℕ, ◌+◌, ◌-◌, ◌≤◌, inl, inr, Bool, true, false, cond, List, [], ◌∷◌, ◌++◌, length, refl, sym, ap, ◌∙◌, subst, arith, append-nil}
+use Rattle.std.specs.Prelude.{◌==◌, ◌&&◌, bytes_eq, codes, Option, Some, None, if◌then◌else◌}
+use Rattle.ion_tokens.specs.declared.mode.Place.{Place}
+use Rattle.ion_tokens.specs.declared.mode.Mode.TheVariants as modes
+use Rattle.ion_tokens.specs.declared.mode.Mark.TheVariants as marks
+use Rattle.ion_tokens.specs.declared.mode.TokenKind.{TokenKind}
+use Rattle.ion_tokens.specs.declared.mode.TokenKind.TheVariants as kinds
+use Rattle.ion_tokens.specs.declared.mode.Action.{Action}
+use Rattle.ion_tokens.specs.declared.mode.Action.TheVariants as actions
+use Rattle.ion_tokens.specs.declared.token.Begun.{Begun}
+use Rattle.ion_tokens.specs.declared.token.Form.{Form}
+use Rattle.ion_tokens.specs.declared.token.Form.TheVariants as forms
+use Rattle.ion_tokens.specs.declared.token.Foresight.TheVariants as foresights
+use Rattle.ion_tokens.specs.Blobs.{blob_of}
+use Rattle.ion_tokens.specs.machine.Table.{next}
+use Rattle.ion_tokens.specs.machine.Bounds.{is_idle}
+use Rattle.ion_tokens.specs.machine.Scanning.{Known, Lexeme, Outcome, Next, Given, Left, Refused, cut, past, go_to, blob_ends, acts, feed, follow, run}
+use Rattle.ion_tokens.specs.machine.Views.{behind, form_of, foresight_by, foresight_at, foresight_behind, foresight}
+use Rattle.ion_tokens.specs.Lexed.{Placed, Lexes}
+use Rattle.ion_tokens.specs.machine.Scanned.{Scanned, Continues, ShowsBegun}
+use Rattle.ion_tokens.specs.machine.Foreseen.{NextIs, ForeseenSo}
+use Rattle.ion_tokens.proofs.Histories.{given_next, left_next}
+use Rattle.ion_tokens.proofs.Begins.{begun_right}
+use Rattle.ion_tokens.proofs.Stepped.{from_left, behind_since, there, scanned_used, goes_on}
+
+lexeme_or : Lexeme → Outcome → Lexeme
+lexeme_or d (Given l s) = l
+lexeme_or d (Left l s) = l
+lexeme_or d _ = d
+
+-- where a token ends that an octet ends, and one that it leaves
+Ends : ℕ → Outcome → Type 0
+Ends used (Given l s) = l.end ≡ used + 1
+Ends used (Left l s) = l.end ≤ used
+Ends used _ = Unit {0}
+
+acts_ends : (p : Place) (s : Known) (o : ℕ) (a : Action) → Ends s.used (acts p s o a)
+unfolding Ends
+acts_ends p s o (actions.Go m k) = tt
+acts_ends p s o (actions.Give kind k) = refl
+acts_ends p s o (actions.Before kind k m) = omega arith
+acts_ends p s o actions.EndWord = by ((o == 46) && bytes_eq s.kept (codes "null")) where
+  by : (b : Bool) → Ends s.used (cond b (Next (go_to s modes.KindName [])) (Left (cut s kinds.Word s.kept s.used) (past p kinds.Word modes.Blank [] s.used s.used)))
+  by true = tt
+  by false = omega arith
+acts_ends p s o (actions.Split n) = omega arith
+acts_ends p s o actions.EndBlob = by (blob_of s.kept) where
+  by : (b : Option (List ℕ)) → Ends s.used (blob_ends s b)
+  by None = tt
+  by (Some octets) = tt
+acts_ends p s o (actions.Refuse e) = tt
+
+feed_ends : (p : Place) (s : Known) (o : ℕ) (x : Outcome) → feed p s o ≡ x → Ends s.used x
+feed_ends p s o x e = subst (λ y. Ends s.used y) e (acts_ends p s o (next p s.colon s.mode o))
+
+given_end : (p : Place) (s t : Known) (o : ℕ) (l : Lexeme) → feed p s o ≡ Given l t → l.end ≡ s.used + 1
+unfolding Ends
+given_end p s t o l e = feed_ends p s o (Given l t) e
+
+left_end : (p : Place) (s t : Known) (o : ℕ) (l : Lexeme) → feed p s o ≡ Left l t → l.end ≤ s.used
+unfolding Ends
+left_end p s t o l e = feed_ends p s o (Left l t) e
+
+module _ (p : Place) (s : Known) (u : List ℕ) (ts : List Placed) (h : Scanned p s u ts []) (o : ℕ) where
+  ran : (x : Outcome) → feed p s o ≡ x → run p (o ∷ []) s ≡ follow x (λ t. Next t)
+  ran x e = ap (λ y. follow y (λ t. Next t)) e
+
+  from : Continues (h.since ++ o ∷ []) h.left
+  from = from_left p s u ts [] h (o ∷ []) (o ∷ []) [] (o ∷ [], refl) (sym (append-nil (o ∷ []))) (omega arith)
+
+  used : s.used ≡ length u
+  used = scanned_used p s u ts [] h
+
+  next_given : (t : Known) (l : Lexeme) → feed p s o ≡ Given l t → NextIs p (u ++ o ∷ []) ts l
+  next_given t l e = λ rest others looks lexes.
+      given_next h.behind t h.front ts h.left (h.since ++ o ∷ []) from.0 p l h.told from.1 (behind_since p s u ts [] h (o ∷ []) (Given l t) (ran (Given l t) e)) rest others looks
+      (subst (λ v. Lexes false 0 v (ts ++ others)) (there p s u ts [] h (o ∷ []) rest) lexes)
+
+  next_left : (t : Known) (l : Lexeme) → feed p s o ≡ Left l t → NextIs p (u ++ o ∷ []) ts l
+  next_left t l e = λ rest others looks lexes.
+      left_next h.behind t h.front ts h.left (h.since ++ o ∷ []) from.0 p l h.told from.1 (behind_since p s u ts [] h (o ∷ []) (Left l t) (ran (Left l t) e)) rest others looks
+      (subst (λ v. Lexes false 0 v (ts ++ others)) (there p s u ts [] h (o ∷ []) rest) lexes)
+
+  goes : (b : Bool) (f : Form) (begun : Begun) → begun.form ≡ f → ShowsBegun p (u ++ o ∷ []) ts (if b then None else Some begun) → ForeseenSo p u ts o (if b then foresights.Blank else foresight_by f)
+  goes true f begun e k = k
+  goes false forms.Other begun e k = tt
+  goes false forms.Quote begun e k = inl (begun, (λ n. cc), k)
+  goes false forms.Long begun e k = inl (begun, (λ n. cc), k)
+
+  gives : (t : Known) (l : Lexeme) (k : TokenKind) → l.kind ≡ k → feed p s o ≡ Given l t → ForeseenSo p u ts o (foresight_at k)
+  gives t l (kinds.Mark marks.Colons) i e = (l, i, (given_end p s t o l e ∙ ap (λ (n : ℕ). n + 1) used), next_given t l e)
+  gives t l kinds.LongString i e = inr (l, i, (given_end p s t o l e ∙ ap (λ (n : ℕ). n + 1) used), next_given t l e)
+  gives t l _ i e = tt
+
+  leaves : (t : Known) (l : Lexeme) (k : TokenKind) → l.kind ≡ k → feed p s o ≡ Left l t → ForeseenSo p u ts o (foresight_behind k)
+  leaves t l kinds.QuotedSymbol i e = let at = left_end p s t o l e in (l, i, (omega (arith, at, used)), next_left t l e)
+  leaves t l _ i e = tt
+
+  -- What an octet shows.
+  pub foreseen : ForeseenSo p u ts o (foresight (feed p s o))
+  foreseen = by (feed p s o) refl
+    where
+      by : (x : Outcome) → feed p s o ≡ x → ForeseenSo p u ts o (foresight x)
+      by (Next t) e =
+          let after : Scanned p t (u ++ o ∷ []) ts [] = goes_on p s u ts [] h (o ∷ []) t (o ∷ [], refl) (ran (Next t) e) in
+          goes (is_idle t.mode) (form_of t.mode) (record { start = t.start; end = t.used - behind t.mode; form = form_of t.mode }) refl (begun_right p t (u ++ o ∷ []) ts after)
+      by (Given l t) e = gives t l l.kind refl e
+      by (Left l t) e = leaves t l l.kind refl e
+      by (Refused n r) e = tt

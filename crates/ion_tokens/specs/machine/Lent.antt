@@ -1,0 +1,48 @@
+-- What is borrowed of a piece.
+use Rattle.std.specs.Prelude.{◌≡◌, ◌≢◌, ℕ, ◌+◌, ◌-◌, ◌<◌, ◌≤◌, List, [], length, take, drop}
+use Rattle.std.specs.Cow.{cow_str_bytes, IsBorrowedStr, IsOwnedStr}
+use Rattle.ion_tokens.specs.declared.mode.Place.{Place}
+use Rattle.ion_tokens.specs.declared.token.Body.{Body}
+use Rattle.ion_tokens.specs.declared.token.Body.TheVariants as bodies
+use Rattle.ion_tokens.specs.declared.token.Token.{Token}
+use Rattle.ion_tokens.specs.machine.Scanning.{Known}
+use Rattle.ion_tokens.specs.Lexed.{Placed}
+use Rattle.ion_tokens.specs.machine.Scanned.{Scanned, Continues}
+
+-- A word or an operator that begins at `start` is borrowed where it lies whole in the piece behind `before` octets, and else owned.
+abbrev pub IsLentBody : ℕ → ℕ → Body → Type 0
+IsLentBody before start (bodies.Word w) = (before ≤ start → IsBorrowedStr w) × (start < before → IsOwnedStr w)
+IsLentBody before start (bodies.Operator w) = (before ≤ start → IsBorrowedStr w) × (start < before → IsOwnedStr w)
+IsLentBody before start _ = Unit {0}
+
+-- So of the token that a step over a piece gave, behind all octets and tokens told that led to what the scanner knew.
+abbrev pub LendsWhole : Place → Known → List ℕ → Token → Type 0
+LendsWhole p s piece t =
+    (u : List ℕ) (ts : List Placed) (ahead : List ℕ) → Scanned p s u ts ahead → Continues piece ahead → IsLentBody s.used t.start t.body
+
+-- a word or an operator is owned
+abbrev pub IsOwnedBody : Body → Type 0
+IsOwnedBody (bodies.Word w) = IsOwnedStr w
+IsOwnedBody (bodies.Operator w) = IsOwnedStr w
+IsOwnedBody _ = Unit {0}
+
+-- so of the token that an end gave
+abbrev pub OwnsLast : Place → Known → Token → Type 0
+OwnsLast p s t = (u : List ℕ) (ts : List Placed) → Scanned p s u ts [] → IsOwnedBody t.body
+
+-- these octets of the piece behind `before` octets stand there from `start` to `end`, and none are of it where that begins before it
+pub record StandIn (before start end : ℕ) (piece lent : List ℕ) : Type 0 where
+  pub here : before ≤ start → start ≤ end → end ≤ before + length piece → lent ≡ take (end - start) (drop (start - before) piece)
+  pub none : start < before → lent ≡ []
+
+-- a word or an operator with the octets that are lent is borrowed, and with others owned
+abbrev pub BorrowsFrom : List ℕ → Body → Type 0
+BorrowsFrom lent (bodies.Word w) = (cow_str_bytes w ≡ lent → IsBorrowedStr w) × (cow_str_bytes w ≢ lent → IsOwnedStr w)
+BorrowsFrom lent (bodies.Operator w) = (cow_str_bytes w ≡ lent → IsBorrowedStr w) × (cow_str_bytes w ≢ lent → IsOwnedStr w)
+BorrowsFrom lent _ = Unit {0}
+
+-- so with the octets that stand in the piece where the token does
+abbrev pub BorrowsAt : ℕ → ℕ → ℕ → List ℕ → Body → Type 0
+BorrowsAt before start end piece (bodies.Word w) = (lent : List ℕ) × StandIn before start end piece lent × BorrowsFrom lent (bodies.Word w)
+BorrowsAt before start end piece (bodies.Operator w) = (lent : List ℕ) × StandIn before start end piece lent × BorrowsFrom lent (bodies.Operator w)
+BorrowsAt before start end piece _ = Unit {0}
