@@ -1,5 +1,5 @@
 -- What the visitor finds in the other octets is the value.
-use Rattle.std.proofs.Common.{◌≡◌, ℕ, suc, Bool, get_or, ◌+◌, ◌-◌, ◌<◌, ◌≤◌, List, [], ◌∷◌, ◌++◌, length, take, drop, Option, Ok, refl, ap, sym, subst, ◌∙◌, arith, append_assoc, length-append}
+use Rattle.std.proofs.Common.{◌≡◌, ℕ, suc, Bool, get_or, ◌+◌, ◌-◌, ◌<◌, ◌≤◌, List, [], ◌∷◌, ◌++◌, length, take, drop, Option, Ok, ap, sym, subst, ◌∙◌, arith}
 use Rattle.std.proofs.lemmas.Grind.{common_steps}
 use Rattle.std.proofs.Math.Seq.{take-add}
 use Rattle.std.proofs.lemmas.List.{drop_more}
@@ -14,18 +14,17 @@ use Rattle.ion_model.specs.declared.value.Value.{Value}
 use Rattle.ion_model.specs.declared.value.Field.{Field}
 use Rattle.ion_model.specs.declared.value.Payload.{Payload}
 use Rattle.ion_model.specs.declared.value.Payload.TheVariants as payloads
-use Rattle.ion_model.specs.Measures.{bare, annotated, field_of}
+use Rattle.ion_model.specs.Measures.{annotated, field_of}
 use Rattle.ion_scalar.specs.binary.Fields.{VarUInt}
 use Rattle.ion_symtab.specs.Slots.{Slot, resolve}
 use Rattle.ion_binary.specs.declared.comparison.Comparison.{Comparison}
 use Rattle.ion_binary.specs.declared.form.Form.{Form}
 use Rattle.ion_binary.specs.declared.form.Form.TheVariants as forms
-use Rattle.ion_binary.specs.declared.form.Listing.{Listing}
 use Rattle.ion_binary.specs.declared.form.Listing.TheVariants as listings
 use Rattle.ion_binary.specs.visiting.Visits.{Visited, bare_visited, annotated_visited, VisitedPayload, in_one, in_list, in_sexp, in_struct, VisitedItems, no_items, one_item, VisitedFields, no_fields, one_field, VisitedAnnotations, no_annotations, one_annotation}
 use Rattle.ion_binary.specs.Grammar as grammar
 use Rattle.ion_binary.specs.Grammar.{Header, Ids, no_ids, one_id, IsScalar, Plain, is_null, is_truth, is_scalar, is_listing, is_struct, Binary, unannotated, wrapped, Sequence, nothing, one_more, Fields, listed}
-use Rattle.ion_binary.specs.visiting.Comparing.{comparing, between, Moves, Enters, IsOne, IsIdOf, IsPlain, Wraps, StandsAt}
+use Rattle.ion_binary.specs.visiting.Comparing.{comparing, between, Moves, Enters, IsOne, IsIdOf, IsPlain, StandsAt}
 
 -- parts of octets
 

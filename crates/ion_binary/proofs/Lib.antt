@@ -17,6 +17,7 @@ pub mod Visited
 pub mod Measured
 pub mod Transcriptions
 pub mod Transcribed
+pub mod Shortest
 pub mod Compared
 pub mod KnownNames
 pub mod Alikes

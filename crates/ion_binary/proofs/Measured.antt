@@ -1,10 +1,8 @@
 -- The visitor that counts has the outline of the value.
-use Rattle.std.proofs.Common.{◌≡◌, ℕ, suc, ◌+◌, ◌-◌, ◌^◌, ◌%◌, ◌<◌, ◌≤◌, max, min, List, [], ◌∷◌, ◌++◌, length, map, sum, Option, refl, ap, sym, subst, ◌∙◌, arith, length-append}
-use Rattle.ion_atoms.specs.declared.kind.Kind.{Kind}
+use Rattle.std.proofs.Common.{◌≡◌, ℕ, suc, ◌+◌, ◌-◌, ◌^◌, ◌<◌, ◌≤◌, max, min, List, [], ◌∷◌, length, map, sum, Option, refl, ap, sym, subst, ◌∙◌, arith, length-append}
 use Rattle.ion_model.specs.declared.value.Value.{Value}
 use Rattle.ion_model.specs.declared.value.Field.{Field}
 use Rattle.ion_model.specs.declared.value.Payload.{Payload}
-use Rattle.ion_model.specs.declared.value.Payload.TheVariants as payloads
 use Rattle.ion_model.specs.declared.value.Payload.TheViews as views
 use Rattle.ion_model.specs.Kinds.{kind_of, layer_kind}
 use Rattle.ion_model.specs.Outlines.{outline_of}
@@ -14,9 +12,8 @@ use Rattle.ion_binary.specs.declared.form.Bracket.{Bracket}
 use Rattle.ion_binary.specs.declared.form.Bracket.TheVariants as brackets
 use Rattle.ion_binary.specs.declared.form.Listing.TheVariants as listings
 use Rattle.ion_binary.specs.declared.measure.Measure.{Measure}
-use Rattle.ion_binary.specs.visiting.Brackets.{kind_in}
 use Rattle.ion_binary.specs.visiting.Visits.{Visited, bare_visited, annotated_visited, VisitedPayload, in_one, in_list, in_sexp, in_struct, VisitedItems, no_items, one_item, VisitedFields, no_fields, one_field, VisitedAnnotations, no_annotations, one_annotation}
-use Rattle.ion_binary.specs.visiting.Measuring.{measuring, counts, counted, named, opened, closed, more, less}
+use Rattle.ion_binary.specs.visiting.Measuring.{measuring, opened, closed, more, less}
 use Rattle.ion_binary.specs.Depths.{depths, field_depths}
 use Rattle.ion_binary.specs.laws.reading.Complete.{depth-listed, depth-fields, depth-annotated, field_deepest-more}
 use Rattle.ion_binary.specs.laws.reading.Small.{nodes-listed, nodes-fields, nodes-annotated, field_nodes, fields-more}

@@ -1,5 +1,5 @@
 -- What the visitor writes are the octets of the value.
-use Rattle.std.proofs.Common.{◌≡◌, ℕ, ◌+◌, ◌<◌, List, [], ◌∷◌, ◌++◌, length, take, drop, Option, Some, None, IfSome, Bool, refl, ap, sym, subst, ◌∙◌, append_assoc, append-nil}
+use Rattle.std.proofs.Common.{◌≡◌, ℕ, List, [], ◌∷◌, ◌++◌, take, Option, Some, None, IfSome, Bool, refl, ap, sym, subst, ◌∙◌, append_assoc, append-nil}
 use Rattle.std.specs.List.{flat_map}
 use Rattle.ion_atoms.specs.declared.kind.Kind.{Kind}
 use Rattle.ion_symtab.specs.Slots.{Slot}
@@ -17,7 +17,7 @@ use Rattle.ion_scalar.specs.binary.Spellings.{var_uint_octets}
 use Rattle.ion_binary.specs.declared.transcription.Transcription.{Transcription}
 use Rattle.ion_binary.specs.visiting.Visits.{Visited, bare_visited, annotated_visited, VisitedPayload, in_one, in_list, in_sexp, in_struct, VisitedItems, no_items, one_item, VisitedFields, no_fields, one_field, VisitedAnnotations, no_annotations, one_annotation}
 use Rattle.ion_binary.specs.Output.{Names, id_of, with_name, with_names, names_after, symbols_of, value_octets, framed, counted, ids_octets, null_octet, truth_octet}
-use Rattle.ion_binary.specs.visiting.Transcribing.{transcribing, AddsPart, AddsId, AddsPlace, Frames, CountsBehind}
+use Rattle.ion_binary.specs.visiting.Transcribing.{transcribing, AddsPart, AddsId, AddsPlace, Frames}
 use Rattle.ion_binary.specs.laws.writing.Output.{layer_octets, layer_symbols, field_octets, field_symbols}
 use Rattle.ion_binary.specs.machine.Transcribed.{Named, Transcribed}
 use Rattle.ion_binary.proofs.Encoded.{octets_bare, octets_wrapped, framed_at}

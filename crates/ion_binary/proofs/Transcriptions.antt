@@ -1,46 +1,30 @@
 -- Values that are written from their octets.
-use Rattle.std.proofs.Common.{◌≡◌, ℕ, pos, neg_ℤ, ◌+◌, ◌-◌, ◌^◌, ◌<◌, ◌≤◌, ℤ, Bool, true, false, if◌then◌else◌, List, [], ◌∷◌, ◌++◌, length, take, drop, Option, Some, None, IfSome, Result, Ok, Err, OnOk, refl, ap, sym, subst, ◌∙◌, arith, append_assoc, length-append}
+use Rattle.std.proofs.Common.{◌≡◌, ℕ, pos, neg_ℤ, ◌+◌, ◌^◌, ◌<◌, ℤ, List, [], ◌∷◌, ◌++◌, length, take, drop, Option, IfSome, Result, Ok, Err, OnOk, refl, ap, sym, subst, ◌∙◌, arith, length-append}
 use Rattle.std.proofs.Math.Seq.{take-append_seam, drop-append-add}
 use Rattle.std.proofs.lemmas.List.{flat_map_more}
 use Rattle.std.proofs.lemmas.List.Sums.{fold-append}
-use Rattle.std.specs.List.{list_any, flat_map}
-use Rattle.std.specs.Result.{result_ok, is_ok}
+use Rattle.std.specs.List.{flat_map}
+use Rattle.std.specs.Result.{result_ok}
 use Rattle.std.specs.Str.{IsUtf8}
-use Rattle.ion_model.specs.declared.value.Value.{Value}
 use Rattle.ion_model.specs.declared.value.Payload.{Payload}
 use Rattle.ion_model.specs.declared.value.Payload.TheVariants as payloads
 use Rattle.ion_model.specs.declared.value.Payload.TheViews as views
-use Rattle.ion_atoms.specs.declared.kind.Kind.{Kind}
-use Rattle.ion_model.specs.Kept.{IsText, kept, KeptPayload, kept_null, kept_truth, kept_int, kept_decimal, kept_timestamp, kept_symbol, kept_string, kept_clob, kept_blob, kept_fields}
-use Rattle.ion_model.specs.Kinds.{kind_of}
-use Rattle.ion_model.specs.Measures.{bare, annotated, field_of}
+use Rattle.ion_model.specs.Kept.{IsText, KeptPayload, kept_int, kept_decimal, kept_timestamp, kept_symbol, kept_string, kept_clob, kept_blob}
 use Rattle.ion_atoms.specs.Octets.{AreOctets}
-use Rattle.ion_model.specs.Symbols.{symbol_same, symbol_cmp}
-use Rattle.ion_scalar.specs.binary.Fields.{VarUInt, positional}
-use Rattle.ion_scalar.specs.binary.Spellings.{var_uint_octets, uint_octets, decimal_octets}
+use Rattle.ion_scalar.specs.binary.Fields.{positional}
+use Rattle.ion_scalar.specs.binary.Spellings.{uint_octets, decimal_octets}
 use Rattle.ion_scalar.specs.binary.TimestampSpellings.{timestamp_octets}
 use Rattle.ion_atoms.specs.Decimals.{DecimalParts}
 use Rattle.ion_atoms.specs.Timestamps.{TimestampParts}
 use Rattle.ion_symtab.specs.Slots.{Slot, resolve}
-use Rattle.ion_binary.specs.declared.form.Form.{Form}
-use Rattle.ion_binary.specs.declared.form.Form.TheVariants as forms
 use Rattle.ion_binary.specs.declared.form.Scalar.{Scalar}
-use Rattle.ion_binary.specs.declared.form.Listing.{Listing}
-use Rattle.ion_binary.specs.declared.form.Listing.TheVariants as listings
-use Rattle.ion_binary.specs.HeaderRows.{type_code}
-use Rattle.ion_binary.specs.Grammar.{IsScalar, is_int, is_negative, is_decimal, is_timestamp, is_symbol, is_string, is_clob, is_blob, Ids, no_ids, one_id, listed, Plain, unannotated}
-use Rattle.ion_binary.specs.Output.{Names, id_of, with_name, with_names, names_after, symbols_of, value_octets, framed, counted, ids_octets, null_octet, truth_octet, whole_octets}
-use Rattle.ion_binary.specs.laws.writing.Output.{layer_octets, layer_symbols, field_octets, field_symbols}
-use Rattle.ion_binary.specs.laws.reading.Complete.{depth-listed, depth-fields}
-use Rattle.ion_binary.specs.laws.reading.GivesKept.{negative_whole, kept_listed}
-use Rattle.ion_binary.specs.laws.reading.Judged.{scalar_flat}
-use Rattle.ion_binary.specs.machine.Framed.{Framed}
+use Rattle.ion_binary.specs.Grammar.{IsScalar, is_int, is_negative, is_decimal, is_timestamp, is_symbol, is_string, is_clob, is_blob}
+use Rattle.ion_binary.specs.Output.{Names, with_name, with_names, framed, counted, whole_octets}
+use Rattle.ion_binary.specs.laws.writing.Output.{layer_octets, layer_symbols}
+use Rattle.ion_binary.specs.laws.reading.GivesKept.{negative_whole}
 use Rattle.ion_binary.specs.machine.Transcribed.{Named, HasId, TranscribedScalar}
-use Rattle.ion_binary.proofs.Encoded.{octets_bare, octets_wrapped, framed_at}
-use Rattle.ion_binary.proofs.Numbered.{of_bare, of_value}
 use Rattle.ion_binary.specs.declared.form.Scalar.TheVariants as scalars
 use Rattle.ion_binary.proofs.Slotted.{symbol_is}
-use Rattle.ion_binary.proofs.Wholes.{flat_null, flat_truth, framed_scalar, framed_listing, framed_struct, framed_ordered, wraps, depth_wrapped}
 
 -- results that are asked for their value alone
 

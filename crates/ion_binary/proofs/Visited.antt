@@ -1,12 +1,11 @@
 -- Values that are gone over, and their visitor.
-use Rattle.std.proofs.Common.{Bool, ◌≡◌, ℕ, ◌+◌, ◌-◌, ◌<◌, ◌≤◌, List, [], ◌∷◌, ◌++◌, length, take, drop, Option, Some, None, IfSome, true, false, refl, ap, sym, subst, ◌∙◌, arith, length-append}
+use Rattle.std.proofs.Common.{Bool, ◌≡◌, ℕ, ◌+◌, ◌<◌, ◌≤◌, List, [], ◌∷◌, length, take, drop, Option, Some, None, IfSome, refl, arith, length-append}
 use Rattle.ion_atoms.specs.declared.kind.Kind.{Kind}
 use Rattle.ion_model.specs.declared.value.Value.{Value}
-use Rattle.ion_model.specs.declared.value.Field.{Field}
 use Rattle.ion_model.specs.declared.value.Payload.{Payload}
 use Rattle.ion_model.specs.declared.value.Payload.TheVariants as payloads
 use Rattle.ion_model.specs.Kinds.{kind_of}
-use Rattle.ion_model.specs.Measures.{depth, nodes, bare, annotated}
+use Rattle.ion_model.specs.Measures.{bare, annotated}
 use Rattle.ion_model.specs.laws.Measures.{depth-Null, depth-Truth, nodes-Null, nodes-Truth}
 use Rattle.ion_scalar.specs.binary.Fields.{VarUInt}
 use Rattle.ion_symtab.specs.Slots.{Slot}
@@ -15,12 +14,10 @@ use Rattle.ion_binary.specs.declared.form.Listing.{Listing}
 use Rattle.ion_binary.specs.declared.form.Listing.TheVariants as listings
 use Rattle.ion_binary.specs.declared.form.Form.{Form}
 use Rattle.ion_binary.specs.declared.form.Form.TheVariants as forms
-use Rattle.ion_binary.specs.declared.form.Bracket.TheVariants as brackets
 use Rattle.ion_binary.specs.visiting.Brackets.{bracket_of}
-use Rattle.ion_binary.specs.visiting.Visits.{IsPart, Visits, part, Visited, bare_visited, annotated_visited, VisitedPayload, in_one, in_list, in_sexp, in_struct, VisitedItems}
-use Rattle.ion_binary.specs.Grammar.{Binary, Ids, no_ids, one_id, Sequence, listed, IsScalar, unannotated}
+use Rattle.ion_binary.specs.visiting.Visits.{IsPart, Visits, part, bare_visited, annotated_visited, VisitedPayload, in_one, in_list, in_sexp, VisitedItems}
+use Rattle.ion_binary.specs.Grammar.{Ids, no_ids, one_id, listed, IsScalar, unannotated}
 use Rattle.ion_binary.specs.laws.reading.Judged.{scalar_flat}
-use Rattle.ion_binary.specs.Depths.{depths, field_depths}
 use Rattle.ion_binary.specs.laws.reading.Complete.{depth-listed, depth-fields}
 use Rattle.ion_binary.specs.laws.reading.Small.{scalar_nodes}
 use Rattle.ion_binary.specs.machine.Walked.{Walked, WalkedPlain, WalkedBody, WalkedWrapper, WalkedListing, WalkedStruct, WalkedIds}

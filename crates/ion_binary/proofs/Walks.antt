@@ -1,5 +1,5 @@
 -- Values that are found and not built.
-use Rattle.std.proofs.Common.{Bool, length-take, min, map, sum, ◌≡◌, ℕ, pos, neg_ℤ, ◌+◌, ◌-◌, ◌*◌, ◌^◌, ◌<◌, ◌≤◌, List, [], ◌∷◌, ◌++◌, length, take, drop, Option, Some, None, IfSome, Result, Ok, Err, inl, inr, get_or, true, ◌&&◌, false, refl, ap, sym, subst, ◌∙◌, arith}
+use Rattle.std.proofs.Common.{◌≡◌, ℕ, pos, neg_ℤ, ◌+◌, ◌*◌, ◌^◌, ◌<◌, ◌≤◌, List, [], ◌∷◌, ◌++◌, length, take, Option, Some, None, Result, Ok, Err, inl, inr, get_or, true, ◌&&◌, false, refl, ap, sym, subst, ◌∙◌, arith}
 use Rattle.std.specs.Prelude.{is_ok}
 use Rattle.std.specs.Str.{IsUtf8}
 use Rattle.std.proofs.Math.Nat.{one-le-pow, mul-le-mul_right}
@@ -8,32 +8,19 @@ use Rattle.ion_atoms.specs.Decimals.{DecimalParts}
 use Rattle.ion_atoms.specs.Timestamps.{TimestampParts}
 use Rattle.ion_model.specs.declared.value.Payload.TheVariants as payloads
 use Rattle.ion_model.specs.declared.value.Value.{Value}
-use Rattle.ion_model.specs.declared.value.Field.{Field}
 use Rattle.ion_model.specs.declared.value.Payload.{Payload}
 use Rattle.ion_model.specs.declared.value.Payload.TheViews as views
-use Rattle.ion_atoms.specs.declared.kind.Kind.{Kind}
-use Rattle.ion_atoms.specs.declared.kind.Kind.TheVariants as kinds
 use Rattle.ion_model.specs.Kinds.{names_table, is_fields, is_table, kind_of, layer_kind}
-use Rattle.ion_model.specs.Measures.{depth, nodes, bare, annotated}
-use Rattle.ion_model.specs.laws.Measures.{deepest-more, depth-Null, depth-Truth, nodes-Null, nodes-Truth}
-use Rattle.ion_model.specs.Outlines.{outline_of}
-use Rattle.ion_scalar.specs.binary.Fields.{VarUInt, positional, uint_field}
+use Rattle.ion_model.specs.Measures.{depth, bare}
+use Rattle.ion_scalar.specs.binary.Fields.{positional, uint_field}
 use Rattle.ion_scalar.specs.binary.Decimal.{decimal_of_body}
 use Rattle.ion_scalar.specs.binary.Timestamp.{timestamp_of_body}
 use Rattle.ion_symtab.specs.Slots.{Slot, resolve}
 use Rattle.ion_binary.specs.declared.form.Scalar.{Scalar}
 use Rattle.ion_binary.specs.declared.form.Scalar.TheVariants as scalars
-use Rattle.ion_binary.specs.declared.form.Listing.{Listing}
-use Rattle.ion_binary.specs.declared.form.Listing.TheVariants as listings
-use Rattle.ion_binary.specs.declared.form.Form.{Form}
 use Rattle.ion_binary.specs.declared.form.Form.TheVariants as forms
-use Rattle.ion_binary.specs.machine.Framed.{Framed}
-use Rattle.ion_binary.specs.Depths.{depths, field_depths}
-use Rattle.ion_binary.specs.laws.reading.Judged.{scalar_flat}
-use Rattle.ion_binary.specs.Grammar.{Binary, Ids, Sequence, Fields, listed, IsScalar, is_int, is_negative, is_decimal, is_timestamp, is_symbol, is_string, is_clob, is_blob, unannotated}
-use Rattle.ion_binary.specs.Opening.{kind_of_scalar, kind_of_form}
-use Rattle.ion_binary.specs.laws.reading.Complete.{depth-listed, depth-fields, depth-annotated, field_deepest-more, length_VarUInt}
-use Rattle.ion_binary.specs.laws.reading.Small.{scalar_nodes, nodes-listed, nodes-fields, nodes-annotated, ids_long, field_nodes, binary_nodes, sequence_nodes, fields_nodes}
+use Rattle.ion_binary.specs.Grammar.{Binary, IsScalar, is_int, is_negative, is_decimal, is_timestamp, is_symbol, is_string, is_clob, is_blob}
+use Rattle.ion_binary.specs.Opening.{kind_of_scalar}
 use Rattle.ion_binary.specs.machine.Walked.{WalkedScalar, NoTable}
 use Rattle.ion_symtab.specs.declared.limits.Limits.{Limits}
 use Rattle.ion_symtab.specs.declared.catalog.Catalog.{Catalog}
@@ -46,7 +33,7 @@ use Rattle.ion_binary.specs.machine.Run.{run, Advances}
 use Rattle.ion_binary.specs.machine.Pieces.{after}
 use Rattle.ion_binary.proofs.Insides.{with_phase}
 use Rattle.ion_binary.proofs.Slotted.{int_is, negative_is, decimal_is, timestamp_is, symbol_is}
-use Rattle.ion_binary.proofs.Wholes.{framed_scalar, framed_listing, framed_struct, framed_ordered, wraps, depth_wrapped, whole_runs, whole_some}
+use Rattle.ion_binary.proofs.Wholes.{whole_runs, whole_some}
 
 -- scalars
 

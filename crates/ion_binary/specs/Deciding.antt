@@ -1,10 +1,10 @@
 -- Which octet decides that no document begins so, and why: for each row of docs/FORMAT.md, "Refusals", the constructors of `Decides` that
 -- stand under it. A row says what stands open behind some octets (`Open`: whole pieces of the grammar, then containers that have begun),
 -- and which octets come next. Nothing here speaks of reading.
-use Rattle.std.specs.Prelude.{◌≡◌, ◌≢◌, ◌⊎◌, ℕ, suc, ◌+◌, ◌-◌, ◌*◌, ◌^◌, ◌<◌, ◌≤◌, ◌||◌, Bool, true, false, List, [], ◌∷◌, ◌++◌, length, map, Option, Ok, Err}
+use Rattle.std.specs.Prelude.{◌≡◌, ◌≢◌, ◌⊎◌, ℕ, suc, ◌+◌, ◌*◌, ◌^◌, ◌<◌, ◌≤◌, ◌||◌, Bool, true, false, List, [], ◌∷◌, ◌++◌, length, Option, Ok, Err}
 use Rattle.ion_model.specs.declared.value.Value.{Value}
 use Rattle.ion_model.specs.declared.value.Field.{Field}
-use Rattle.ion_model.specs.Measures.{depth, greatest}
+use Rattle.ion_model.specs.Measures.{depth}
 use Rattle.ion_model.specs.Kinds.{is_table}
 use Rattle.ion_atoms.specs.declared.kind.Kind.{Kind}
 use Rattle.ion_atoms.specs.declared.refusal.Reason.{Reason}

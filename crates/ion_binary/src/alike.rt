@@ -55,6 +55,7 @@ pub(crate) fn alike_scalars(
     }
 }
 
+#[inline(always)]
 fn alike_symbols(context: &Context, other_context: &Context, body: &[u8], other_body: &[u8]) -> bool
     ensures { result ≡ true →
         AlikeScalar context.now other_context.now scalars.Symbol body.now other_body.now }

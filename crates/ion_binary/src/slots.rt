@@ -43,8 +43,18 @@ pub(crate) fn put_scalar(
     }
 }
 
-/// The number that these octets make, if it is found to be below 2^64.
+/// The number that these octets make, if it is found to be below 2^64. Most are one octet.
+#[inline(always)]
 pub(crate) fn small_uint(body: &[u8]) -> Option<u64>
+    ensures { IfSome result (λ number. number ≡ positional 256 body.now) }
+{
+    if body.len() == 1 {
+        return Some(u64::from(body[0]));
+    }
+    small_uint_of_any(body)
+}
+
+fn small_uint_of_any(body: &[u8]) -> Option<u64>
     ensures { IfSome result (λ number. number ≡ positional 256 body.now) }
 {
     let mut number = 0;

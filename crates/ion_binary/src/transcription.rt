@@ -10,7 +10,7 @@ ghost use Rattle.ion_symtab.specs.Slots.{Slot};
 ghost use Rattle.ion_binary.specs.visiting.Brackets.{code_in};
 ghost use Rattle.ion_binary.specs.visiting.Transcribing.{AddsId, AddsPlace, Frames};
 ghost use Rattle.ion_binary.specs.declared.form.Scalar.TheVariants as scalars;
-ghost use Rattle.ion_binary.specs.machine.Transcribed.{HasId, Transcribed, TranscribedScalar};
+ghost use Rattle.ion_binary.specs.machine.Transcribed.{HasId, IsShortest, Transcribed, TranscribedScalar};
 
 use crate::form::{Bracket, Scalar};
 use crate::slots::{put_scalar, small_uint};
@@ -23,6 +23,7 @@ use crate::writer::framing::{
 };
 use crate::writer::names::Names;
 use ion_model::{Kind, Payload, Symbol};
+use ion_scalar::is_uint;
 use ion_symtab::Context;
 use std::hash::BuildHasher;
 use std::mem;
@@ -217,8 +218,45 @@ fn put_scalar_again<S: BuildHasher + Drop>(
         Scalar::Str => put_text(body, out),
         Scalar::Clob => put_clob(body, out),
         Scalar::Blob => put_blob(body, out),
+        Scalar::Int => put_int(context, body, out),
+        Scalar::NegativeInt => put_negative(context, body, out),
         _ => put_number(context, scalar, body, out),
     }
+}
+
+/// Whether the number that these octets make has no shorter spelling, and may be the magnitude of an int.
+#[inline(always)]
+fn is_shortest(body: &[u8]) -> bool
+    ensures { result ≡ true → IsShortest body.now }
+{
+    if !body.is_empty() && body[0] != 0 {
+        return is_uint(body);
+    }
+    false
+}
+
+/// Appends an int that isn't negative; most are spelled as they are written.
+fn put_int(context: &Context, body: &[u8], out: &mut Vec<u8>) -> Option<()>
+    ensures { IfSome result (λ _. (names : List (Option (List ℕ))) →
+        TranscribedScalar context.now names scalars.Int body.now out.old.items out.new.items) }
+{
+    if is_shortest(body) {
+        are_octets(body);
+        return put_framed(2, body, out).ok();
+    }
+    put_number(context, Scalar::Int, body, out)
+}
+
+/// Appends a negative int; most are spelled as they are written.
+fn put_negative(context: &Context, body: &[u8], out: &mut Vec<u8>) -> Option<()>
+    ensures { IfSome result (λ _. (names : List (Option (List ℕ))) →
+        TranscribedScalar context.now names scalars.NegativeInt body.now out.old.items out.new.items) }
+{
+    if is_shortest(body) {
+        are_octets(body);
+        return put_framed(3, body, out).ok();
+    }
+    put_number(context, Scalar::NegativeInt, body, out)
 }
 
 /// Appends an int, a decimal or a timestamp.

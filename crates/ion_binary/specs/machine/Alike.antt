@@ -1,17 +1,12 @@
 -- One value that the octets of two sides are, each with symbols of its own.
-use Rattle.std.specs.Prelude.{◌≡◌, ◌≤◌, ◌<◌, ℕ, List, false, Option}
+use Rattle.std.specs.Prelude.{◌≡◌, ◌≤◌, ℕ, List, false}
 use Rattle.ion_model.specs.declared.value.Value.{Value}
-use Rattle.ion_model.specs.declared.value.Field.{Field}
 use Rattle.ion_model.specs.declared.value.Payload.{Payload}
 use Rattle.ion_model.specs.Kinds.{is_table}
-use Rattle.ion_model.specs.Measures.{depth, bare}
+use Rattle.ion_model.specs.Measures.{depth}
 use Rattle.ion_symtab.specs.Slots.{Slot}
-use Rattle.ion_binary.specs.declared.form.Form.{Form}
 use Rattle.ion_binary.specs.declared.form.Scalar.{Scalar}
-use Rattle.ion_binary.specs.Grammar.{IsScalar, Ids, Plain, Binary, Sequence, Fields}
-use Rattle.ion_binary.specs.machine.Framed.{Framed, Wraps}
-use Rattle.ion_binary.specs.Depths.{depths, field_depths}
-use Rattle.ion_binary.specs.machine.Walked.{NoTable}
+use Rattle.ion_binary.specs.Grammar.{IsScalar, Binary}
 
 -- the octets of both sides are one value of at most so many levels, and no local symbol table
 pub record Alike (c d : List Slot) (level : ℕ) (w x : List ℕ) : Type 0 where

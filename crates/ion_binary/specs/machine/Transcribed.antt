@@ -1,25 +1,17 @@
 -- What is written of a value whose octets lie in memory, without building it.
-use Rattle.std.specs.Prelude.{◌≡◌, ◌≤◌, ◌<◌, ◌^◌, ℕ, List, ◌++◌, false, Option}
-use Rattle.std.specs.List.{flat_map}
+use Rattle.std.specs.Prelude.{◌≡◌, ◌≤◌, ◌<◌, ◌^◌, ℕ, List, ◌++◌, false, Option, get_or}
 use Rattle.ion_model.specs.declared.value.Value.{Value}
-use Rattle.ion_model.specs.declared.value.Field.{Field}
 use Rattle.ion_model.specs.declared.value.Payload.{Payload}
 use Rattle.ion_model.specs.declared.value.Payload.TheViews.{out-Payload}
-use Rattle.ion_model.specs.Kept.{AreTexts, IsKept, KeptPayload, KeptItems, KeptFields}
+use Rattle.ion_model.specs.Kept.{IsKept, KeptPayload}
 use Rattle.ion_model.specs.Kinds.{is_table}
-use Rattle.ion_model.specs.Measures.{depth, bare}
+use Rattle.ion_model.specs.Measures.{depth}
+use Rattle.ion_scalar.specs.binary.Fields.{positional}
 use Rattle.ion_symtab.specs.Slots.{Slot}
-use Rattle.ion_binary.specs.declared.form.Form.{Form}
 use Rattle.ion_binary.specs.declared.form.Scalar.{Scalar}
-use Rattle.ion_binary.specs.declared.form.Listing.{Listing}
-use Rattle.ion_binary.specs.declared.form.Form.TheVariants as forms
-use Rattle.ion_binary.specs.HeaderRows.{type_code}
-use Rattle.ion_binary.specs.Grammar.{IsScalar, Ids, Plain, Binary, Sequence, Fields}
-use Rattle.ion_binary.specs.Output.{Names, id_of, with_name, with_names, names_after, symbols_of, value_octets, framed, counted, ids_octets}
-use Rattle.ion_binary.specs.laws.writing.Output.{layer_octets, layer_symbols, field_octets, field_symbols}
-use Rattle.ion_binary.specs.Depths.{depths, field_depths}
-use Rattle.ion_binary.specs.machine.Framed.{Framed, Wraps}
-use Rattle.ion_binary.specs.machine.Walked.{NoTable}
+use Rattle.ion_binary.specs.Grammar.{IsScalar, Binary}
+use Rattle.ion_binary.specs.Output.{Names, id_of, with_name, with_names, names_after, value_octets}
+use Rattle.ion_binary.specs.laws.writing.Output.{layer_octets, layer_symbols}
 
 -- the symbols have ids among the names already
 abbrev pub Named : Names → Names → Type 0
@@ -48,6 +40,11 @@ pub record Transcribed (c : List Slot) (names : Names) (level : ℕ) (w before a
   pub kept : IsKept value
   pub named : names_after names value ≡ names
   pub octets : after ≡ before ++ value_octets names value
+
+-- the octets are the shortest spelling of their number, which may be the magnitude of an int
+pub record IsShortest (body : List ℕ) : Type 0 where
+  pub first : 0 < get_or body 0 0
+  pub bound : positional 256 body < 2 ^ 127
 
 -- the body is this scalar
 pub record TranscribedScalar (c : List Slot) (names : Names) (t : Scalar) (body before after : List ℕ) : Type 0 where

@@ -1,11 +1,10 @@
 -- The visitor that finds what it takes in other octets, which have a symbol table of their own.
-use Rattle.std.specs.Prelude.{◌≡◌, ◌+◌, ◌-◌, ◌<◌, ◌≤◌, ℕ, List, ◌∷◌, [], length, take, drop, get_or, Option, Ok}
+use Rattle.std.specs.Prelude.{◌≡◌, ◌-◌, ◌<◌, ◌≤◌, ℕ, List, ◌∷◌, [], length, take, drop, get_or, Option, Ok}
 use Rattle.ion_model.specs.declared.value.Payload.{Payload}
 use Rattle.ion_scalar.specs.binary.Fields.{VarUInt}
 use Rattle.ion_symtab.specs.Slots.{resolve}
 use Rattle.ion_binary.specs.declared.comparison.Comparison.{Comparison}
 use Rattle.ion_binary.specs.declared.comparison.Ends.{Ends}
-use Rattle.ion_binary.specs.declared.form.Bracket.{Bracket}
 use Rattle.ion_binary.specs.declared.form.Form.{Form}
 use Rattle.ion_binary.specs.declared.form.Form.TheVariants as forms
 use Rattle.ion_binary.specs.declared.form.Opening.{Opening}

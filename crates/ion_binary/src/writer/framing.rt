@@ -179,5 +179,11 @@ pub(crate) fn put_symbol(id: u64, out: &mut Vec<u8>) -> Result<(), Fault>
     ensures ok { OnOk result (out.new.items ≡ out.old.items ++ framed 7 (uint_octets id)) }
     ensures memory { IsOkUnless result faults.Memory }
 {
+    // most have one octet
+    if id > 0 && id < 256 {
+        out.push(0x71)?;
+        out.push(id as u8)?;
+        return Ok(());
+    }
     put_magnitude(7, u128::from(id), out)
 }

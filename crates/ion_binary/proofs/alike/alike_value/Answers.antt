@@ -1,4 +1,4 @@
-use Rattle.std.proofs.Common.{rules, ◌≡◌, ◌-◌, ◌≤◌, ℕ, length, take, drop, refl, ap, sym, subst, ◌∙◌, arith}
+use Rattle.std.proofs.Common.{◌≡◌, ◌-◌, take, ap, sym, subst, ◌∙◌, arith}
 use Rattle.ion_binary.specs.Grammar.{Binary}
 use Rattle.ion_binary.specs.visiting.Comparing.{between}
 use Rattle.ion_binary.proofs.Compared.{Here, value_found}

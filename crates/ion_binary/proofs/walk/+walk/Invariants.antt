@@ -1,4 +1,4 @@
-use Rattle.std.proofs.Common.{◌≡◌, ◌+◌, ◌*◌, ◌≤◌, List, length, take}
+use Rattle.std.proofs.Common.{◌+◌, ◌*◌, ◌≤◌, List, length, take}
 use Rattle.ion_model.specs.declared.value.Value.{Value}
 use Rattle.ion_model.specs.declared.value.Field.{Field}
 use Rattle.ion_binary.specs.visiting.Visits.{VisitedItems, VisitedFields}

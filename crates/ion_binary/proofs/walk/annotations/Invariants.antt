@@ -1,4 +1,4 @@
-use Rattle.std.proofs.Common.{◌≡◌, ◌≤◌, ℕ, List, Option, length, take}
+use Rattle.std.proofs.Common.{◌≤◌, ℕ, List, Option, length, take}
 use Rattle.ion_binary.specs.visiting.Visits.{VisitedAnnotations}
 use Rattle.ion_binary.specs.Grammar.{Ids}
 use Rattle.ion_binary.specs.machine.Walked.{NoTable}

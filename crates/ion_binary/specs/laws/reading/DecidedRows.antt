@@ -1,5 +1,5 @@
 -- Each row of the format's table: where the last octet decides, the machine refuses it, for this reason or one with a smaller number.
-use Rattle.std.proofs.Common.{◌≡◌, ◌≢◌, ◌⊎◌, inl, inr, ℕ, suc, ◌+◌, ◌-◌, ◌*◌, ◌/◌, ◌%◌, ◌^◌, ◌<◌, ◌≤◌, ◌||◌, ◌&&◌, ◌==◌, nat_lt, nat_le, ltb-true, ltb-false, le-ltb, lt-ltb, ne_eqb, List, [], ◌∷◌, ◌++◌, length, Result, Ok, Err, Option, Some, None, Bool, true, false, cond, refl, ap, sym, ◌∙◌, subst, arith, length-append, append-nil, append_assoc, eq-eqb, leb-true, eqb-true, slice_get}
+use Rattle.std.proofs.Common.{◌≡◌, ◌≢◌, ◌⊎◌, inl, inr, ℕ, suc, ◌+◌, ◌-◌, ◌*◌, ◌/◌, ◌%◌, ◌^◌, ◌<◌, ◌≤◌, ◌||◌, ◌&&◌, ◌==◌, nat_lt, nat_le, ltb-true, ltb-false, le-ltb, lt-ltb, ne_eqb, List, [], ◌∷◌, ◌++◌, length, Result, Ok, Err, Option, Some, None, Bool, true, false, cond, refl, ap, sym, ◌∙◌, subst, arith, length-append, append_assoc, eqb-true, slice_get}
 use Rattle.std.specs.Str.{is_utf8}
 use Rattle.std.proofs.lemmas.Str.{is_utf8-from_IsUtf8, IsUtf8-nil}
 use Rattle.std.proofs.lemmas.Bool.{cond-true, cond-false, lt-leb, le-leb}
@@ -8,8 +8,6 @@ use Rattle.ion_model.specs.declared.value.Payload.{Payload}
 use Rattle.ion_model.specs.declared.value.Payload.TheVariants as payloads
 use Rattle.ion_model.specs.Measures.{depth, bare}
 use Rattle.ion_model.specs.Kinds.{is_table}
-use Rattle.ion_atoms.specs.declared.kind.Kind.{Kind}
-use Rattle.ion_atoms.specs.declared.refusal.Refusal.{Refusal}
 use Rattle.ion_atoms.specs.declared.refusal.Reason.{Reason}
 use Rattle.ion_atoms.specs.declared.refusal.Reason.TheVariants.{TooLarge, Malformed, Float, SymbolRange, ImportGap, Depth, ItemTooLong, Version, BadUtf8}
 use Rattle.ion_atoms.specs.Reasons.{reason_number}
@@ -28,7 +26,6 @@ use Rattle.ion_binary.specs.declared.form.Opening.{Opening}
 use Rattle.ion_binary.specs.declared.form.Opening.TheVariants.{Refused, Marker, Null, Truth, Sized}
 use Rattle.ion_binary.specs.declared.state.Frame.{Frame}
 use Rattle.ion_binary.specs.declared.state.Frame.TheVariants as frames
-use Rattle.ion_binary.specs.declared.state.Phase.{Phase}
 use Rattle.ion_binary.specs.declared.state.Phase.TheVariants.{InMarker, Ready, InNumber}
 use Rattle.ion_binary.specs.declared.state.Mark.TheVariants.{First, Second, Third, Fourth}
 use Rattle.ion_scalar.specs.binary.Descriptor.{descriptor_of, typed}
@@ -43,11 +40,11 @@ use Rattle.ion_binary.specs.Grammar.{Pieces, Binary}
 use Rattle.ion_binary.specs.Judge.{judge}
 use Rattle.ion_binary.specs.machine.EachOctet as machine
 use Rattle.ion_binary.specs.machine.EachOctet.{Outcome, Spot, Machine, moved, in_body, open_struct, marks, goes, gives, refuses, under, anew, spot_at, at, initial, on_descriptor, deliver, turned, feed, unless, or_else, misfits, stray, unending, nameless, past, outside, unfit, hollow, begin, one_octet, judged, longer, sized, unsized, name_came, count_came, annotation_came, number_came, on_number}
-use Rattle.ion_binary.specs.machine.Run.{Run, run, run_on}
+use Rattle.ion_binary.specs.machine.Run.{run, run_on}
 use Rattle.ion_binary.specs.machine.Pieces.{run-append, then_run, after}
-use Rattle.ion_binary.specs.laws.reading.Complete.{Admits, binary_run, body_run, begin_scalar}
+use Rattle.ion_binary.specs.laws.reading.Complete.{binary_run, body_run, begin_scalar}
 use Rattle.ion_binary.specs.laws.reading.Documents.{pieces_run}
-use Rattle.ion_binary.specs.laws.reading.OpenRuns.{Match, nothing_open, items, names, named, noted, same_levels, Leads, open_run, phase_of, headed_run, takes_phase}
+use Rattle.ion_binary.specs.laws.reading.OpenRuns.{Match, nothing_open, items, names, named, noted, same_levels, open_run, headed_run, takes_phase}
 use Rattle.ion_binary.specs.laws.reading.NumberRuns.{goes_with, purpose_of, InFrames, length_in, name_in, count_in, id_in, Stopped, Holds, stops_with, leads_holds, ready, HoldsIn, number_holds, Least, number_stops, header_stops}
 use Rattle.ion_binary.specs.Deciding as deciding
 use Rattle.ion_binary.specs.Deciding.{Container, Items, Names, Named, Noted, TakesValue, Open, Number, Length, Name, Count, Id, EndsNumber, EndsHeader, LastOctet, of_container, of_struct, of_wrapper, of_annotations, IsContainer, IsFront, Headed, Reaches, a_null, a_truth, a_body, Decides, no_marker, other_marker, other_version, no_descriptor, inner_marker, in_wrapper, too_large, past_container, wrapper_unfilled, no_fields, too_deep, too_long, header_too_long, no_annotations, annotations_past, number_past, no_length, no_count, no_value, no_name, no_annotation, bad_body, bad_empty_body, bad_table}

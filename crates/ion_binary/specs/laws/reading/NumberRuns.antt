@@ -1,29 +1,25 @@
 -- Where octets end inside of a VarUInt, or end one or a header, the machine has come so far.
-use Rattle.std.proofs.Common.{◌≡◌, ℕ, ◌+◌, ◌-◌, ◌*◌, ◌^◌, ◌<◌, ◌≤◌, List, [], ◌∷◌, ◌++◌, length, Result, Ok, Err, Option, Some, None, Bool, true, false, refl, ap, sym, ◌∙◌, subst, arith, length-append, append-nil, append_assoc, lt-ltb, ne_eqb, nat_lt}
+use Rattle.std.proofs.Common.{◌≡◌, ℕ, ◌+◌, ◌*◌, ◌^◌, ◌<◌, ◌≤◌, List, [], ◌∷◌, ◌++◌, length, Ok, Err, Option, None, refl, ap, sym, ◌∙◌, subst, arith, length-append, append-nil, append_assoc, lt-ltb, ne_eqb}
 use Rattle.std.proofs.lemmas.Bool.{cond-true, cond-false}
 use Rattle.ion_model.specs.declared.value.Value.{Value}
-use Rattle.ion_atoms.specs.declared.refusal.Refusal.{Refusal}
 use Rattle.ion_atoms.specs.declared.refusal.Reason.{Reason}
 use Rattle.ion_atoms.specs.Reasons.{reason_number}
-use Rattle.ion_scalar.specs.declared.descriptor.Size.TheVariants.{Known, Follows}
-use Rattle.ion_scalar.specs.binary.Fields.{positional, Digits, none, more, VarUInt}
+use Rattle.ion_scalar.specs.binary.Fields.{positional, Digits, none, more}
 use Rattle.ion_symtab.specs.declared.limits.Limits.{Limits}
 use Rattle.ion_symtab.specs.declared.catalog.Catalog.{Catalog}
 use Rattle.ion_symtab.specs.Slots.{Slot}
 use Rattle.ion_binary.specs.declared.form.Form.{Form}
 use Rattle.ion_binary.specs.declared.form.Form.TheVariants as forms
-use Rattle.ion_binary.specs.declared.form.Opening.TheVariants.{Sized}
 use Rattle.ion_binary.specs.declared.state.Frame.{Frame}
 use Rattle.ion_binary.specs.declared.state.Frame.TheVariants as frames
 use Rattle.ion_binary.specs.declared.state.Purpose.{Purpose}
 use Rattle.ion_binary.specs.declared.state.Purpose.TheVariants as purposes
 use Rattle.ion_binary.specs.declared.state.Phase.{Phase}
 use Rattle.ion_binary.specs.declared.state.Phase.TheVariants.{Ready, InNumber}
-use Rattle.ion_binary.specs.Opening.{opening_of, is_pad, is_wrapper}
-use Rattle.ion_binary.specs.machine.EachOctet.{Outcome, goes, refuses, under, spot_at, at, initial, unless, stray, nameless, unending, past, hollow, begin, sized, number_came, on_descriptor, feed, Machine}
-use Rattle.ion_binary.specs.machine.Run.{Run, run, run_on}
+use Rattle.ion_binary.specs.machine.EachOctet.{Outcome, goes, refuses, under, spot_at, at, initial, unless, nameless, unending, past, sized, number_came, on_descriptor, feed}
+use Rattle.ion_binary.specs.machine.Run.{run, run_on}
 use Rattle.ion_binary.specs.machine.Pieces.{run-append, then_run, after, led, run_via}
-use Rattle.ion_binary.specs.laws.reading.Complete.{Admits, too_long_none, digits_more, number_run, count_goes, ids_run, begin_wrapper, last_step}
+use Rattle.ion_binary.specs.laws.reading.Complete.{too_long_none, digits_more, number_run, count_goes, ids_run, begin_wrapper, last_step}
 use Rattle.ion_binary.specs.laws.reading.OpenRuns.{Match, nothing_open, items, names, named, noted, may_admit, phase_of, Leads, open_run, headed_run, takes_phase}
 use Rattle.ion_binary.specs.Deciding as deciding
 use Rattle.ion_binary.specs.Deciding.{Container, Items, Names, Named, Noted, TakesValue, MayBegin, Headed, Open, Number, Length, Name, Count, Id, Before, a_length, a_name, a_count, an_id, LastOctet, of_container, of_struct, of_wrapper, of_annotations, MayGoOn, EndsNumber, EndsHeader, by_descriptor, by_length}

@@ -1,5 +1,5 @@
 -- Behind octets the machine holds the containers that stand open there.
-use Rattle.std.proofs.Common.{◌≡◌, ℕ, suc, ◌+◌, ◌<◌, ◌≤◌, ◌||◌, List, [], ◌∷◌, ◌++◌, length, Result, Ok, Err, Option, Some, None, Bool, true, false, refl, ap, sym, ◌∙◌, subst, arith, length-append, append-nil, append_assoc, lt-ltb, eq-eqb, ne_eqb}
+use Rattle.std.proofs.Common.{◌≡◌, ℕ, suc, ◌+◌, ◌<◌, List, [], ◌∷◌, ◌++◌, length, Result, Ok, Err, Option, None, Bool, true, false, refl, ap, sym, ◌∙◌, subst, arith, length-append, append_assoc, lt-ltb, eq-eqb, ne_eqb}
 use Rattle.std.proofs.lemmas.Bool.{cond-true, cond-false}
 use Rattle.ion_model.specs.declared.value.Value.{Value}
 use Rattle.ion_model.specs.declared.value.Field.{Field}
@@ -19,12 +19,12 @@ use Rattle.ion_binary.specs.declared.state.Phase.TheVariants.{Ready, InNumber}
 use Rattle.ion_binary.specs.machine.EachOctet as machine
 use Rattle.ion_binary.specs.Opening.{is_pad, is_wrapper}
 use Rattle.ion_binary.specs.machine.EachOctet.{under, spot_at, at, initial, begin, proceed, stray, nameless, open_struct, hollow}
-use Rattle.ion_binary.specs.machine.Run.{Run, run, run_on}
+use Rattle.ion_binary.specs.machine.Run.{run, run_on}
 use Rattle.ion_binary.specs.machine.Pieces.{run-append, then_run, then_after, after, led, run_via}
 use Rattle.ion_binary.specs.laws.reading.Stands.{Ends}
 use Rattle.ion_binary.specs.laws.reading.Documents.{pieces_run}
 use Rattle.ion_binary.specs.laws.reading.Complete.{Admits, header_run, number_run, items_run, fields_run, items_go, fields_go, name_run, ids_run, count_goes, begin_wrapper, begin_ordered}
-use Rattle.ion_binary.specs.Deciding.{Container, Items, Names, Named, Noted, levels, TakesValue, MayBegin, MayReach, Headed, InStruct, IsStruct, Open}
+use Rattle.ion_binary.specs.Deciding.{Container, Items, Names, Named, Noted, levels, MayBegin, MayReach, Headed, InStruct, IsStruct, Open}
 
 -- the frames of the machine are these containers
 pub data Match (c : List Slot) : List Frame → List Container → Type 0 where

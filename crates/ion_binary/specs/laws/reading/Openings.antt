@@ -1,11 +1,10 @@
 -- What stands for octets is what stands open behind them.
-use Rattle.std.proofs.Common.{◌≡◌, ℕ, ◌+◌, ◌-◌, ◌*◌, ◌^◌, ◌<◌, ◌≤◌, ◌||◌, List, [], ◌∷◌, ◌++◌, length, Result, Ok, Err, Option, Some, None, Bool, true, false, cond, refl, ap, sym, ◌∙◌, subst, arith, length-append, append_assoc}
-use Rattle.std.proofs.lemmas.Bool.{cond-true, cond-false}
+use Rattle.std.proofs.Common.{◌≡◌, ℕ, ◌^◌, ◌<◌, ◌||◌, List, [], ◌∷◌, ◌++◌, length, Result, Ok, Err, Option, Some, None, Bool, true, false, cond, refl, ap, sym, ◌∙◌, subst, arith, length-append, append_assoc}
+use Rattle.std.proofs.lemmas.Bool.{cond-false}
 use Rattle.ion_model.specs.declared.value.Value.{Value}
 use Rattle.ion_model.specs.declared.value.Field.{Field}
 use Rattle.ion_atoms.specs.declared.refusal.Reason.{Reason}
 use Rattle.ion_atoms.specs.declared.refusal.Reason.TheVariants.{Malformed}
-use Rattle.ion_scalar.specs.binary.Fields.{positional, Digits}
 use Rattle.ion_symtab.specs.declared.limits.Limits.{Limits}
 use Rattle.ion_symtab.specs.declared.catalog.Catalog.{Catalog}
 use Rattle.ion_symtab.specs.Slots.{Slot, resolve}
@@ -16,8 +15,8 @@ use Rattle.ion_binary.specs.declared.state.Frame.TheVariants as frames
 use Rattle.ion_binary.specs.declared.state.Purpose.{Purpose}
 use Rattle.ion_binary.specs.declared.state.Purpose.TheVariants as purposes
 use Rattle.ion_binary.specs.Opening.{is_pad, is_wrapper}
-use Rattle.ion_binary.specs.machine.EachOctet.{stray, nameless}
-use Rattle.ion_binary.specs.laws.reading.Stands.{Ends, Box, IsStruct, InStruct, Opened, Receives, Inside, Going, Fitting, LengthStands, NumberStands}
+use Rattle.ion_binary.specs.machine.EachOctet.{nameless}
+use Rattle.ion_binary.specs.laws.reading.Stands.{Ends, Box, IsStruct, InStruct, Opened, Receives, Inside, Going, Fitting, NumberStands}
 use Rattle.ion_binary.specs.laws.reading.Complete.{header_some}
 use Rattle.ion_binary.specs.laws.reading.OpenRuns.{Match, nothing_open, items, names, named, noted, same_levels}
 use Rattle.ion_binary.specs.laws.reading.NumberRuns.{purpose_of, InFrames, length_in, name_in, count_in, id_in}

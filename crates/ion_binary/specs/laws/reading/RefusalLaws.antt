@@ -10,8 +10,8 @@ use Rattle.ion_atoms.specs.Reasons.{reason_number}
 use Rattle.ion_symtab.specs.declared.limits.Limits.{Limits}
 use Rattle.ion_symtab.specs.declared.catalog.Catalog.{Catalog}
 use Rattle.ion_binary.specs.machine.EachOctet.{Machine, initial}
-use Rattle.ion_binary.specs.machine.Run.{Run, run, whole, at_end, ends_of, refused_of, trace}
-use Rattle.ion_binary.specs.machine.Pieces.{run-append, on_now, then_run}
+use Rattle.ion_binary.specs.machine.Run.{run, whole, ends_of, refused_of, trace}
+use Rattle.ion_binary.specs.machine.Pieces.{run-append, on_now}
 use Rattle.ion_binary.specs.laws.reading.Stops.{Stop, stop_of, stopped}
 use Rattle.ion_symtab.specs.Trace.{plain}
 use Rattle.ion_binary.specs.laws.reading.Sound.{Leaves, feed_stands}

@@ -1,23 +1,20 @@
 -- What the machine refuses is a row of the format's table.
-use Rattle.std.proofs.Common.{◌≡◌, ◌≢◌, ◌⊎◌, inl, inr, ℕ, ◌+◌, ◌-◌, ◌*◌, ◌^◌, ◌<◌, ◌≤◌, ◌||◌, ◌==◌, nat_lt, nat_le, ltb-true, ltb-false, eqb-true, List, [], ◌∷◌, ◌++◌, length, Result, Ok, Err, Option, Some, None, Bool, true, false, cond, refl, ap, sym, ◌∙◌, subst, arith, length-append}
-use Rattle.std.proofs.lemmas.Bool.{cond-true, cond-false, leb-false, eqb-false, cases_lt}
-use Rattle.ion_model.specs.declared.value.Value.{Value}
+use Rattle.std.proofs.Common.{◌≡◌, ◌≢◌, ◌⊎◌, inl, inr, ℕ, ◌+◌, ◌<◌, ◌≤◌, ◌||◌, ◌==◌, nat_lt, nat_le, ltb-false, eqb-true, List, [], ◌∷◌, ◌++◌, length, Result, Ok, Err, Option, Some, None, Bool, true, false, cond, refl, ap, sym, ◌∙◌, subst, arith}
+use Rattle.std.proofs.lemmas.Bool.{leb-false, eqb-false, cases_lt}
 use Rattle.ion_atoms.specs.declared.refusal.Reason.{Reason}
-use Rattle.ion_atoms.specs.declared.refusal.Reason.TheVariants.{TooLarge, Malformed, Depth, ItemTooLong}
+use Rattle.ion_atoms.specs.declared.refusal.Reason.TheVariants.{Malformed, Depth, ItemTooLong}
 use Rattle.ion_scalar.specs.declared.descriptor.Size.{Size}
 use Rattle.ion_scalar.specs.declared.descriptor.Size.TheVariants.{Known, Follows}
 use Rattle.ion_scalar.specs.binary.Timestamp.{timestamp_of_body, read_offset}
 use Rattle.ion_symtab.specs.declared.limits.Limits.{Limits}
 use Rattle.ion_symtab.specs.declared.catalog.Catalog.{Catalog}
 use Rattle.ion_symtab.specs.Slots.{Slot, resolve}
-use Rattle.ion_binary.specs.declared.form.Scalar.{Scalar}
 use Rattle.ion_binary.specs.declared.form.Scalar.TheVariants as scalars
 use Rattle.ion_binary.specs.declared.form.Form.{Form}
 use Rattle.ion_binary.specs.declared.form.Form.TheVariants as forms
-use Rattle.ion_binary.specs.declared.form.Opening.TheVariants.{Refused, Marker, Null, Truth, Sized}
+use Rattle.ion_binary.specs.declared.form.Opening.TheVariants.{Marker, Sized}
 use Rattle.ion_binary.specs.declared.state.Frame.{Frame}
 use Rattle.ion_binary.specs.declared.state.Frame.TheVariants as frames
-use Rattle.ion_binary.specs.declared.state.Purpose.{Purpose}
 use Rattle.ion_binary.specs.declared.state.Purpose.TheVariants as purposes
 use Rattle.ion_binary.specs.Opening.{opening_of, is_pad, is_wrapper}
 use Rattle.ion_binary.specs.Judge.{judge}

@@ -1,23 +1,22 @@
 -- Worked documents, by the grammar.
-use Rattle.std.proofs.Common.{◌≡◌, ℕ, pos, ◌+◌, ◌^◌, ◌<◌, ◌≤◌, true, false, List, [], ◌∷◌, ◌++◌, length, Some, None, refl, arith, subst, sym, ap}
+use Rattle.std.proofs.Common.{◌≡◌, ℕ, pos, ◌+◌, ◌<◌, ◌≤◌, true, false, List, [], ◌∷◌, ◌++◌, length, Some, refl, arith}
 use Rattle.std.specs.Prelude.{codes}
 use Rattle.ion_model.specs.declared.value.Value.{Value}
 use Rattle.ion_model.specs.declared.value.Payload.TheVariants as payloads
 use Rattle.ion_model.specs.declared.value.Payload.TheViews as views
 use Rattle.ion_model.specs.Kinds.{is_table}
-use Rattle.ion_model.specs.Measures.{depth, bare, annotated, field_of}
+use Rattle.ion_model.specs.Measures.{depth, bare, annotated}
 use Rattle.ion_model.specs.laws.Measures.{depth-at-List, depth-at-Fields, depth-at, depth-Truth, depth-Int}
 use Rattle.ion_scalar.specs.binary.Descriptor.{descriptor_of}
-use Rattle.ion_scalar.specs.binary.Fields.{Digits, none, VarUInt}
+use Rattle.ion_scalar.specs.binary.Fields.{none, VarUInt}
 use Rattle.ion_symtab.specs.declared.catalog.Catalog.{Catalog}
 use Rattle.ion_symtab.specs.declared.limits.Limits.{Limits}
 use Rattle.ion_symtab.specs.Slots as slots
 use Rattle.ion_symtab.specs.Slots.{Slot, system_slots, system_texts}
 use Rattle.ion_binary.specs.declared.form.Scalar.TheVariants as scalars
 use Rattle.ion_binary.specs.declared.form.Listing.TheVariants as listings
-use Rattle.ion_binary.specs.declared.form.Form.TheVariants as forms
 use Rattle.ion_binary.specs.Opening.{opening_of}
-use Rattle.ion_binary.specs.Grammar.{Header, short, long, IsScalar, is_int, is_symbol, IsPad, skipped, Ids, no_ids, one_id, Plain, is_truth, is_scalar, is_listing, is_struct, Binary, unannotated, wrapped, Sequence, nothing, one_more, Fields, no_fields, padded_field, the_marker, begins, holds, Document}
+use Rattle.ion_binary.specs.Grammar.{short, long, is_int, is_symbol, skipped, no_ids, one_id, is_truth, is_scalar, is_listing, is_struct, Binary, unannotated, wrapped, Sequence, nothing, one_more, no_fields, padded_field, the_marker, begins, holds, Document}
 
 -- 1. The values.
 abbrev int_value : ℕ → Value

@@ -44,9 +44,7 @@ use Rattle.ion_binary.specs.Grammar.{Header, short, long, IsPad, skipped, Ids, n
 use Rattle.ion_binary.specs.Judge.{judge}
 use Rattle.ion_binary.specs.Deciding as deciding
 use Rattle.ion_binary.specs.Deciding.{Decides, bad_table, bad_body, bad_empty_body, no_fields, no_count, no_descriptor, no_marker, other_marker, other_version, a_null, a_truth, by_descriptor, EndsNumber}
-use Rattle.ion_binary.specs.laws.reading.OpenRuns.{Match, nothing_open}
-use Rattle.ion_binary.specs.laws.reading.NumberRuns.{purpose_of}
-use Rattle.ion_binary.specs.laws.reading.Openings.{Shape, opened_open, takes, may_begin, may_reach, ends_inside, Numbered, numbered}
+use Rattle.ion_binary.specs.laws.reading.Openings.{opened_open, takes, may_begin, may_reach, ends_inside, Numbered, numbered}
 use Rattle.ion_binary.specs.laws.reading.RefusedRows.{Here, hollow_row, short_row, long_row, one_row, unending_row, follows_stray, follows_name, number_row, header_here, value_row, count_row, none_row, annotation_row, marker_row, deep_row}
 use Rattle.ion_binary.specs.laws.reading.Judged.{judge_sound, scalar_flat}
 use Rattle.ion_binary.specs.machine.EachOctet.{Spot, under, anew, counted, Machine, Outcome, goes, gives, refuses, at, end_of, levels, turned, deliver, proceed, unless, or_else, misfits, stray, nameless, unending, past, unfit, hollow, judged, open_struct, begin, sized, longer, one_octet, on_descriptor, annotation_came, number_came, on_number, on_marker, on_body, on_pad, on_phase, feed, initial}

@@ -1,5 +1,5 @@
 -- What is written of worked streams.
-use Rattle.std.proofs.Common.{◌≡◌, ℕ, pos, negsuc, Bool, true, false, List, [], ◌∷◌, ◌++◌, Option, Some, None, refl, ap, ◌∙◌, map}
+use Rattle.std.proofs.Common.{◌≡◌, ℕ, pos, negsuc, Bool, true, false, List, [], ◌∷◌, ◌++◌, Some, None, refl, ap, ◌∙◌, map}
 use Rattle.std.specs.Prelude.{codes}
 use Rattle.std.specs.List.{flat_map}
 use Rattle.ion_atoms.specs.declared.timestamp.Precision.TheVariants as precisions
@@ -15,7 +15,7 @@ use Rattle.ion_scalar.specs.binary.Shifted.{moved}
 use Rattle.ion_scalar.specs.binary.Spellings.{uint_octets}
 use Rattle.ion_scalar.specs.binary.TimestampSpellings.{timestamp_octets}
 use Rattle.ion_symtab.specs.Slots.{system_texts}
-use Rattle.ion_binary.specs.Output.{Names, Progress, system_names, id_of, with_names, symbols_of, value_octets, framed, wrapped, named, text_of, string_value, table_value, table_octets, opening, nothing_yet, bin_from, bin_of}
+use Rattle.ion_binary.specs.Output.{Names, system_names, id_of, with_names, symbols_of, value_octets, framed, wrapped, named, text_of, string_value, table_value, table_octets, opening, bin_from, bin_of}
 use Rattle.ion_binary.specs.laws.writing.Output.{layer_symbols, layer_octets, symbols-out, octets-out}
 
 -- 1. The values.

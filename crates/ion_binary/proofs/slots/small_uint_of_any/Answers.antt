@@ -1,6 +1,6 @@
 use Rattle.std.proofs.Common.{arith}
 use Rattle.ion_scalar.specs.Positional.{positional_more}
-use Rattle.ion_binary.proofs.slots.small_uint.Goals as goal
+use Rattle.ion_binary.proofs.slots.small_uint_of_any.Goals as goal
 
 pub loop-octet-preserved : goal.loop-octet-preserved
 loop-octet-preserved c =
