@@ -56,14 +56,13 @@ impl Body<'_> {
     /// A VarUInt in that range.
     #[inline]
     fn var_uint_in(&mut self, range: RangeInclusive<u64>) -> Result<u64, Reason> {
-        let mut number = 0;
-        loop {
-            let octet = self.octet()?;
+        let mut octet = self.octet()?;
+        let mut number = u64::from(octet & 0x7F);
+        while octet & 0x80 == 0 {
+            octet = self.octet()?;
             number = with_digit(number, octet)?;
-            if octet & 0x80 != 0 {
-                return range.contains(&number).then_some(number).ok_or(Reason::Malformed);
-            }
         }
+        range.contains(&number).then_some(number).ok_or(Reason::Malformed)
     }
 
     /// A VarInt: whether it has the sign, and its magnitude.
@@ -153,6 +152,7 @@ fn seconds_fraction(mut body: Body) -> Result<(Precision, u128), Reason> {
     Ok((Precision::Fraction(power as u8), digits))
 }
 
+#[inline]
 fn scalar(code: u8, body: &[u8], table: &SymbolTable) -> Result<Payload, Reason> {
     Ok(match code {
         2 => Payload::Int(magnitude(0, body)? as i128),
@@ -171,26 +171,46 @@ fn scalar(code: u8, body: &[u8], table: &SymbolTable) -> Result<Payload, Reason>
 
 // Containers
 
-/// Whether a VarUInt length follows the descriptor. That of a struct which announces sorted names always does.
-#[inline]
-fn length_follows(code: u8, length_code: u8) -> bool {
-    length_code == 14 || (code == 13 && length_code == 1)
+/// A descriptor.
+#[derive(Clone, Copy)]
+struct Head {
+    code: u8,
+    length_code: u8,
+    /// How long the body is, or `FOLLOWS`.
+    length: u8,
 }
 
-/// What the descriptor shows to be wrong by itself. (The marker is no descriptor.)
-#[inline]
-fn check_descriptor(code: u8, length_code: u8) -> Result<(), Reason> {
-    match (code, length_code) {
-        (4, 0 | 4 | 8) => Err(Reason::Float),
-        (1, 2..=14) | (3 | 6, 0) | (4, 0..=14) | (14, 0..=2 | 15) | (15, _) => Err(Reason::Malformed),
-        _ => Ok(()),
+impl Head {
+    #[inline]
+    fn is_pad(self) -> bool {
+        self.code == 0 && self.length_code != 15
     }
 }
 
-#[inline]
-fn is_pad(code: u8, length_code: u8) -> bool {
-    code == 0 && length_code != 15
-}
+/// What stands in `LENGTHS` where the length follows as a VarUInt.
+const FOLLOWS: u8 = 253;
+/// What stands there for a descriptor that is refused.
+const MALFORMED: u8 = 254;
+const FLOAT: u8 = 255;
+
+/// The length of the body behind each descriptor. That of a struct which announces sorted names always follows. (The
+/// marker is no descriptor.)
+const LENGTHS: [u8; 256] = {
+    let mut table = [0; 256];
+    let mut octet = 0;
+    while octet < 256 {
+        let (code, length_code) = (octet as u8 >> 4, octet as u8 & 0x0F);
+        table[octet] = match (code, length_code) {
+            (4, 0 | 4 | 8) => FLOAT,
+            (1, 2..=14) | (3 | 6, 0) | (4, 0..=14) | (14, 0..=2 | 15) | (15, _) => MALFORMED,
+            (1, _) | (_, 15) => 0,
+            (_, 14) | (13, 1) => FOLLOWS,
+            _ => length_code,
+        };
+        octet += 1;
+    }
+    table
+};
 
 /// The octets up to the end of a container, read from a place on. The document may end before that end.
 struct Input<'a> {
@@ -228,14 +248,13 @@ impl<'a> Input<'a> {
 
     #[inline]
     fn var_uint(&mut self) -> Result<u64, Refusal> {
-        let mut number = 0;
-        loop {
-            let octet = self.octet()?;
+        let mut octet = self.octet()?;
+        let mut number = u64::from(octet & 0x7F);
+        while octet & 0x80 == 0 {
+            octet = self.octet()?;
             number = with_digit(number, octet).map_err(|reason| self.refused(reason))?;
-            if octet & 0x80 != 0 {
-                return Ok(number);
-            }
         }
+        Ok(number)
     }
 
     /// How many octets of the container are left.
@@ -247,26 +266,29 @@ impl<'a> Input<'a> {
         if length > self.left() { Err(self.refused(Reason::Malformed)) } else { Ok(()) }
     }
 
-    /// A descriptor behind which there is room for its length, or for as many octets as it says.
+    /// A descriptor behind which there is room for the body, or for its length.
     #[inline]
-    fn descriptor(&mut self) -> Result<(u8, u8), Refusal> {
+    fn head(&mut self) -> Result<Head, Refusal> {
         let octet = self.octet()?;
-        let (code, length_code) = (octet >> 4, octet & 0x0F);
-        check_descriptor(code, length_code).map_err(|reason| self.refused(reason))?;
-        let least = if length_follows(code, length_code) { 1 } else { known_length(code, length_code) };
-        self.check_length(least)?;
-        Ok((code, length_code))
+        let length = LENGTHS[usize::from(octet)];
+        match length {
+            MALFORMED => return Err(self.refused(Reason::Malformed)),
+            FLOAT => return Err(self.refused(Reason::Float)),
+            FOLLOWS => self.check_length(1)?,
+            _ => self.check_length(u64::from(length))?,
+        }
+        Ok(Head { code: octet >> 4, length_code: octet & 0x0F, length })
     }
 
     /// The length behind a descriptor.
     #[inline]
-    fn length(&mut self, code: u8, length_code: u8) -> Result<u64, Refusal> {
-        if !length_follows(code, length_code) {
-            return Ok(known_length(code, length_code));
+    fn length(&mut self, head: Head) -> Result<u64, Refusal> {
+        if head.length != FOLLOWS {
+            return Ok(u64::from(head.length));
         }
         let length = self.var_uint()?;
         self.check_length(length)?;
-        if length == 0 && (code, length_code) == (13, 1) {
+        if length == 0 && head.code == 13 && head.length_code == 1 {
             return Err(self.refused(Reason::Malformed));
         }
         Ok(length)
@@ -290,17 +312,11 @@ impl<'a> Input<'a> {
     }
 }
 
-/// The length that the length code says itself.
-#[inline]
-fn known_length(code: u8, length_code: u8) -> u64 {
-    if length_code == 15 || code == 1 { 0 } else { u64::from(length_code) }
-}
-
 /// The value behind a descriptor, where containers may go that much deeper.
 #[inline]
-fn value(head: (u8, u8), input: &mut Input, table: &SymbolTable, room: u32) -> Result<Value, Refusal> {
-    let length = input.length(head.0, head.1)?;
-    if head.0 == 14 {
+fn value(head: Head, input: &mut Input, table: &SymbolTable, room: u32) -> Result<Value, Refusal> {
+    let length = input.length(head)?;
+    if head.code == 14 {
         return annotated(input.part(length), table, room);
     }
     Ok(payload(head, length, input, table, room)?.into())
@@ -318,11 +334,11 @@ fn annotated(mut body: Input, table: &SymbolTable, room: u32) -> Result<Value, R
         let id = ids.var_uint()?;
         annotations.push(table.resolve(id).map_err(|reason| ids.refused(reason))?);
     }
-    let head = body.descriptor()?;
-    if head.0 == 14 || is_pad(head.0, head.1) {
+    let head = body.head()?;
+    if head.code == 14 || head.is_pad() {
         return Err(body.refused(Reason::Malformed));
     }
-    let length = body.length(head.0, head.1)?;
+    let length = body.length(head)?;
     if length != body.left() {
         return Err(body.refused(Reason::Malformed));
     }
@@ -331,8 +347,8 @@ fn annotated(mut body: Input, table: &SymbolTable, room: u32) -> Result<Value, R
 }
 
 /// What is no wrapper, behind its descriptor and length.
-fn payload(head: (u8, u8), length: u64, input: &mut Input, table: &SymbolTable, room: u32) -> Result<Payload, Refusal> {
-    let (code, length_code) = head;
+fn payload(head: Head, length: u64, input: &mut Input, table: &SymbolTable, room: u32) -> Result<Payload, Refusal> {
+    let Head { code, length_code, .. } = head;
     match code {
         _ if length_code == 15 => Ok(Payload::Null(KINDS[usize::from(code)])),
         1 => Ok(Payload::Bool(length_code == 1)),
@@ -352,9 +368,9 @@ fn payload(head: (u8, u8), length: u64, input: &mut Input, table: &SymbolTable, 
 fn items(mut body: Input, table: &SymbolTable, room: u32) -> Result<Vec<Value>, Refusal> {
     let mut items = Vec::new();
     while !body.is_empty() {
-        let head = body.descriptor()?;
-        if is_pad(head.0, head.1) {
-            let length = body.length(head.0, head.1)?;
+        let head = body.head()?;
+        if head.is_pad() {
+            let length = body.length(head)?;
             body.body(length)?;
         } else {
             items.push(value(head, &mut body, table, room)?);
@@ -368,9 +384,9 @@ fn fields(mut body: Input, table: &SymbolTable, room: u32) -> Result<Vec<Field>,
     let mut fields = Vec::new();
     while !body.is_empty() {
         let id = body.var_uint()?;
-        let head = body.descriptor()?;
-        if is_pad(head.0, head.1) {
-            let length = body.length(head.0, head.1)?;
+        let head = body.head()?;
+        if head.is_pad() {
+            let length = body.length(head)?;
             body.body(length)?;
         } else {
             let name = table.resolve(id).map_err(|reason| body.refused(reason))?;
@@ -403,12 +419,11 @@ impl<'a> BinaryReader<'a> {
     /// The next value, or `None` at the end of the document.
     pub fn next(&mut self) -> Result<Option<Value>, Refusal> {
         while let Some(&octet) = self.input.octets.get(self.input.at) {
-            let (code, length_code) = (octet >> 4, octet & 0x0F);
             if octet == MARKER[0] {
                 self.marker()?;
-            } else if is_pad(code, length_code) {
-                self.input.at += 1;
-                let length = self.input.length(code, length_code)?;
+            } else if octet < 0x0F {
+                let pad = self.input.head()?;
+                let length = self.input.length(pad)?;
                 self.input.body(length)?;
             } else {
                 let value = self.item()?;
@@ -440,16 +455,13 @@ impl<'a> BinaryReader<'a> {
     fn item(&mut self) -> Result<Value, Refusal> {
         let begin = self.input.at;
         let mut header = Input { ..self.input };
-        let (code, length_code) = header.descriptor()?;
-        let mut length = known_length(code, length_code);
-        if length_follows(code, length_code) {
-            length = self.following_length(&mut header)?;
-        }
+        let head = header.head()?;
+        let length = if head.length == FOLLOWS { self.following_length(&mut header)? } else { u64::from(head.length) };
         let too_long = (header.at - begin) as u64 + length > self.limits.item as u64;
         if too_long && length > 0 {
             return Err(header.refused(Reason::ItemTooLong));
         }
-        let head = self.input.descriptor()?;
+        let head = self.input.head()?;
         let value = value(head, &mut self.input, &self.table, self.limits.depth)?;
         if too_long { Err(header.refused(Reason::ItemTooLong)) } else { Ok(value) }
     }

@@ -25,8 +25,10 @@ enum Word {
     Nan,
 }
 
+/// Whether it stands in a word.
+#[inline]
 fn is_word(octet: u8) -> bool {
-    octet.is_ascii_alphanumeric() || octet == b'_' || octet == b'$'
+    WORD[usize::from(octet)]
 }
 
 fn is_operator(octet: u8) -> bool {
@@ -38,17 +40,20 @@ fn begins_value(octet: u8) -> bool {
     is_word(octet) || b"{[(\"'+-".contains(&octet)
 }
 
-/// What ends a number, but for comments.
-const STOPS: [bool; 256] = {
-    let mut stops = [false; 256];
-    let octets = b"{}[](),\"'\t\n\x0B\x0C\r ";
+const fn octets_of(octets: &[u8]) -> [bool; 256] {
+    let mut table = [false; 256];
     let mut index = 0;
     while index < octets.len() {
-        stops[octets[index] as usize] = true;
+        table[octets[index] as usize] = true;
         index += 1;
     }
-    stops
-};
+    table
+}
+
+const WORD: [bool; 256] = octets_of(b"ABCDEFGHIJKLMNOPQRSTUVWXYZabcdefghijklmnopqrstuvwxyz0123456789_$");
+
+/// What ends a number, but for comments.
+const STOPS: [bool; 256] = octets_of(b"{}[](),\"'\t\n\x0B\x0C\r ");
 
 /// Whether it is `$ion_`, digits, `_`, digits.
 fn is_version(word: &[u8]) -> bool {
