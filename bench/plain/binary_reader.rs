@@ -263,7 +263,11 @@ impl<'a> Input<'a> {
     }
 
     fn check_length(&self, length: u64) -> Result<(), Refusal> {
-        if length > self.left() { Err(self.refused(Reason::Malformed)) } else { Ok(()) }
+        if length > self.left() {
+            Err(self.refused(Reason::Malformed))
+        } else {
+            Ok(())
+        }
     }
 
     /// A descriptor behind which there is room for the body, or for its length.
@@ -463,7 +467,11 @@ impl<'a> BinaryReader<'a> {
         }
         let head = self.input.head()?;
         let value = value(head, &mut self.input, &self.table, self.limits.depth)?;
-        if too_long { Err(header.refused(Reason::ItemTooLong)) } else { Ok(value) }
+        if too_long {
+            Err(header.refused(Reason::ItemTooLong))
+        } else {
+            Ok(value)
+        }
     }
 
     /// The length of an item, whose header may not be too long either.

@@ -8,8 +8,8 @@
 //!     ./plain compare LEFT RIGHT                    equivalent N, or different N and the path
 //!     ./plain convert FILE --to text|binary         the values in that encoding
 //!
-//! Words, options, lines and statuses are those of `ion_cmd`, see `docs/ion_cmd.1`. A document is read into memory as a whole.
-//! Then each value is built, in `check` and `show` too, as readers of Ion do.
+//! Words, options, lines and statuses are those of `ion_cmd`, see `docs/ion_cmd.1`. A document is read into memory as a
+//! whole. Then each value is built, in `check` and `show` too, as readers of Ion do.
 
 mod binary_reader;
 mod binary_writer;
@@ -190,7 +190,9 @@ fn load_catalog(name: &str, limits: Limits) -> Result<Catalog, Stop> {
 
 fn run(words: &Words, out: &mut Out) -> Result<u8, Stop> {
     let (files, limits) = match words {
-        Words::Check(file, common) | Words::Show(file, common) | Words::Convert(file, _, common) => (vec![file], common),
+        Words::Check(file, common) | Words::Show(file, common) | Words::Convert(file, _, common) => {
+            (vec![file], common)
+        }
         Words::Compare(left, right, common) => (vec![left, right], common),
     };
     let catalog = match &limits.catalog {
@@ -208,6 +210,9 @@ fn run(words: &Words, out: &mut Out) -> Result<u8, Stop> {
     }
 }
 
+const USAGE: &str =
+    "usage: ion_cmd check|show|convert|compare FILE.. [--to text|binary] [--catalog FILE] [--depth N] [--item N]";
+
 /// Standard output without the buffer by lines that std puts before it. What came before a refusal is written, too.
 fn run_to_standard_output(words: &Words) -> Result<u8, Stop> {
     let device = File::from(io::stdout().as_fd().try_clone_to_owned()?);
@@ -219,7 +224,7 @@ fn run_to_standard_output(words: &Words) -> Result<u8, Stop> {
 
 fn main() -> ExitCode {
     let Some(words) = words::parse(std::env::args().skip(1)) else {
-        eprintln!("usage: ion_cmd check|show|convert|compare FILE.. [--to text|binary] [--catalog FILE] [--depth N] [--item N]");
+        eprintln!("{USAGE}");
         return ExitCode::from(3);
     };
     match run_to_standard_output(&words) {

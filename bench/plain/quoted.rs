@@ -45,7 +45,11 @@ impl<'a> Scanner<'a> {
     #[cold]
     fn or_incomplete(&self, further: usize, reason: Reason) -> Refusal {
         let place = self.at + further;
-        if place < self.octets.len() { Refusal { place, reason } } else { self.incomplete() }
+        if place < self.octets.len() {
+            Refusal { place, reason }
+        } else {
+            self.incomplete()
+        }
     }
 
     #[cold]
@@ -118,7 +122,8 @@ impl<'a> Scanner<'a> {
     /// The characters from here on that stand for themselves.
     fn plain(&mut self, quote: Quote) -> Result<&'a str, Refusal> {
         let octets = &self.octets[self.at..][..self.plain_length(quote)];
-        let text = std::str::from_utf8(octets).map_err(|error| self.bad_utf8(error.valid_up_to(), error.error_len()))?;
+        let text =
+            std::str::from_utf8(octets).map_err(|error| self.bad_utf8(error.valid_up_to(), error.error_len()))?;
         self.at += octets.len();
         Ok(text)
     }
@@ -128,7 +133,13 @@ impl<'a> Scanner<'a> {
         let begins_character = self.peek(good).is_some_and(|octet| matches!(octet, 0xC2..=0xF4));
         let rest = &self.octets[self.at + good..];
         let length = match begun {
-            Some(length) => if begins_character { length } else { 0 },
+            Some(length) => {
+                if begins_character {
+                    length
+                } else {
+                    0
+                }
+            }
             None => rest.iter().take(3).take_while(|octet| **octet >= 0x80).count(),
         };
         self.or_incomplete(good + length, Reason::BadUtf8)
@@ -344,7 +355,11 @@ impl<'a> Scanner<'a> {
             (3, 1) if bits & 0x03 == 0 => octets.extend_from_slice(&((bits >> 2) as u16).to_be_bytes()),
             _ => is_good = false,
         }
-        if is_good { Ok(octets) } else { Err(self.refused(self.at, Reason::BadBase64)) }
+        if is_good {
+            Ok(octets)
+        } else {
+            Err(self.refused(self.at, Reason::BadBase64))
+        }
     }
 }
 

@@ -70,7 +70,11 @@ impl SymbolTable {
     }
 
     fn check_room(&self, count: usize) -> Result<(), Reason> {
-        if count > GREATEST_ID + 1 - self.len() { Err(Reason::TableTooLarge) } else { Ok(()) }
+        if count > GREATEST_ID + 1 - self.len() {
+            Err(Reason::TableTooLarge)
+        } else {
+            Ok(())
+        }
     }
 
     fn add_gap(&mut self, count: usize) {

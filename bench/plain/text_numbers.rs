@@ -246,7 +246,11 @@ fn fraction_digits(token: &mut Token, fraction: &mut Magnitude) -> Result<u8, Re
         fraction.add(u32::from(octet - b'0'), 10);
         token.octets = &token.octets[1..];
     }
-    if fraction.count == 0 { Err(Reason::Malformed) } else { Ok(fraction.count.min(255) as u8) }
+    if fraction.count == 0 {
+        Err(Reason::Malformed)
+    } else {
+        Ok(fraction.count.min(255) as u8)
+    }
 }
 
 /// `Z`, or a sign, hours and minutes; `-00:00` is the unknown offset.

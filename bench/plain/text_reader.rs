@@ -31,8 +31,12 @@ fn is_word(octet: u8) -> bool {
     WORD[usize::from(octet)]
 }
 
+fn begins_word(octet: u8) -> bool {
+    is_word(octet) && !octet.is_ascii_digit()
+}
+
 fn is_operator(octet: u8) -> bool {
-    b"!#%&*+-./;<=>?@^`|~".contains(&octet)
+    OPERATORS[usize::from(octet)]
 }
 
 /// Whether a value at the top level may begin with it.
@@ -51,6 +55,8 @@ const fn octets_of(octets: &[u8]) -> [bool; 256] {
 }
 
 const WORD: [bool; 256] = octets_of(b"ABCDEFGHIJKLMNOPQRSTUVWXYZabcdefghijklmnopqrstuvwxyz0123456789_$");
+
+const OPERATORS: [bool; 256] = octets_of(b"!#%&*+-./;<=>?@^`|~");
 
 /// What ends a number, but for comments.
 const STOPS: [bool; 256] = octets_of(b"{}[](),\"'\t\n\x0B\x0C\r ");
@@ -103,7 +109,8 @@ impl<'a> TextReader<'a> {
             }
             self.begin = self.scanner.at;
             self.may_end = None;
-            let item = self.item().and_then(|value| self.check_end(value)).map_err(|refusal| self.or_too_long(refusal))?;
+            let item =
+                self.item().and_then(|value| self.check_end(value)).map_err(|refusal| self.or_too_long(refusal))?;
             if item.is_some() {
                 return Ok(item);
             }
@@ -198,40 +205,34 @@ impl<'a> TextReader<'a> {
     /// The value that begins here, where containers may go that much deeper.
     fn value(&mut self, place: Place, room: u32) -> Result<Value, Refusal> {
         let mut annotations = Vec::new();
-        loop {
-            let (symbol, keyword) = match self.scanner.peek(0) {
-                Some(b'\'') if !self.scanner.stands(b"'''") => (self.quoted_symbol()?, None),
-                Some(octet) if is_word(octet) && !octet.is_ascii_digit() => match self.word()? {
-                    Word::Symbol(symbol) => (symbol, None),
-                    Word::Keyword(payload) => (None, Some(Ok(payload))),
-                    Word::Nan => (None, Some(Err(Reason::Float))),
-                },
-                Some(octet) if place == Place::Sexp && self.begins_operator(octet) => {
-                    let payload = Payload::Symbol(Some(Rc::from(self.operator()?)));
-                    return Ok(Value { annotations: annotations.into_boxed_slice(), payload });
-                }
-                _ => {
-                    let payload = self.payload(place, room)?;
-                    return Ok(Value { annotations: annotations.into_boxed_slice(), payload });
-                }
+        let payload = loop {
+            let word = match self.scanner.peek(0) {
+                Some(b'\'') if !self.scanner.stands(b"'''") => Word::Symbol(self.quoted_symbol()?),
+                Some(octet) if begins_word(octet) => self.word()?,
+                _ => break self.payload(place, room)?,
             };
             if !self.annotates(place)? {
-                let payload = match keyword {
-                    None => Payload::Symbol(symbol),
-                    Some(Ok(payload)) => payload,
-                    Some(Err(reason)) => return Err(self.refused_behind(reason)),
-                };
-                // What is refused behind it comes first, but at the top level.
-                if let Some(refusal) = self.pending.take_if(|_| place != Place::Top) {
-                    return Err(refusal);
-                }
-                return Ok(Value { annotations: annotations.into_boxed_slice(), payload });
+                break self.payload_of(word, place)?;
             }
-            if keyword.is_some() {
+            let Word::Symbol(symbol) = word else {
                 return Err(self.scanner.refused(self.scanner.at - 1, Reason::KeywordAsName));
-            }
+            };
             annotations.push(symbol);
             self.scanner.skip_blanks(place == Place::Sexp)?;
+        };
+        Ok(Value { annotations: annotations.into_boxed_slice(), payload })
+    }
+
+    /// The value that a word is, which isn't an annotation. What is refused behind it comes first, but at the top level.
+    fn payload_of(&mut self, word: Word, place: Place) -> Result<Payload, Refusal> {
+        let payload = match word {
+            Word::Symbol(symbol) => Payload::Symbol(symbol),
+            Word::Keyword(payload) => payload,
+            Word::Nan => return Err(self.refused_behind(Reason::Float)),
+        };
+        match self.pending.take_if(|_| place != Place::Top) {
+            Some(refusal) => Err(refusal),
+            None => Ok(payload),
         }
     }
 
@@ -259,9 +260,12 @@ impl<'a> TextReader<'a> {
         Ok(false)
     }
 
-    /// A value that isn't a symbol or keyword.
+    /// A value that isn't a word or quoted symbol.
     fn payload(&mut self, place: Place, room: u32) -> Result<Payload, Refusal> {
         match self.scanner.peek(0) {
+            Some(octet) if place == Place::Sexp && self.begins_operator(octet) => {
+                Ok(Payload::Symbol(Some(Rc::from(self.operator()?))))
+            }
             Some(b'0'..=b'9') => self.number(),
             Some(b'-') if self.scanner.peek(1).is_some_and(|octet| octet.is_ascii_digit()) => self.number(),
             Some(b'"') => {
@@ -355,7 +359,8 @@ impl<'a> TextReader<'a> {
             b"false" => Ok(Word::Keyword(Payload::Bool(false))),
             b"nan" => Ok(Word::Nan),
             [b'$', digits @ ..] if !digits.is_empty() && digits.iter().all(u8::is_ascii_digit) => {
-                let id = digits.iter().fold(0u64, |id, octet| id.saturating_mul(10).saturating_add(u64::from(octet - b'0')));
+                let id =
+                    digits.iter().fold(0u64, |id, octet| id.saturating_mul(10).saturating_add(u64::from(octet - b'0')));
                 let symbol = self.table.resolve(id).map_err(|reason| self.scanner.refused(self.scanner.at, reason))?;
                 Ok(Word::Symbol(symbol))
             }
@@ -482,7 +487,7 @@ impl<'a> TextReader<'a> {
             }
             Some(b'\'') if self.scanner.stands(b"'''") => Ok(Some(Rc::from(self.long_string(Place::Struct)?))),
             Some(b'\'') => self.quoted_symbol(),
-            Some(octet) if is_word(octet) && !octet.is_ascii_digit() => match self.word()? {
+            Some(octet) if begins_word(octet) => match self.word()? {
                 Word::Symbol(symbol) => Ok(symbol),
                 _ => match self.scanner.peek(0) {
                     Some(b'\t'..=b'\r' | b' ' | b'/' | b':') | None => {
@@ -498,7 +503,7 @@ impl<'a> TextReader<'a> {
 
 /// Whether a struct may go on with it behind its `{`.
 fn may_follow_open(octet: u8) -> bool {
-    matches!(octet, b'\t'..=b'\r' | b' ' | b'/' | b'\'' | b'"' | b'}') || (is_word(octet) && !octet.is_ascii_digit())
+    matches!(octet, b'\t'..=b'\r' | b' ' | b'/' | b'\'' | b'"' | b'}') || begins_word(octet)
 }
 
 fn ascii(octets: &[u8]) -> &str {

@@ -50,7 +50,9 @@ fn is_keyword(text: &str) -> bool {
 /// Whether a symbol of that text stands without quotes.
 fn is_bare(text: &str) -> bool {
     let begins = text.bytes().next().is_some_and(|octet| octet.is_ascii_alphabetic() || octet == b'_');
-    begins && text.bytes().all(|octet| octet.is_ascii_alphanumeric() || octet == b'_' || octet == b'$') && !is_keyword(text)
+    begins
+        && text.bytes().all(|octet| octet.is_ascii_alphanumeric() || octet == b'_' || octet == b'$')
+        && !is_keyword(text)
 }
 
 impl Line {

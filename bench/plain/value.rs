@@ -28,7 +28,8 @@ pub const KINDS: [Kind; 14] = {
 };
 #[rustfmt::skip]
 const NAMES: [&str; 14] = [
-    "null", "bool", "int", "int", "float", "decimal", "timestamp", "symbol", "string", "clob", "blob", "list", "sexp", "struct",
+    "null", "bool", "int", "int", "float", "decimal", "timestamp", "symbol", "string", "clob", "blob", "list", "sexp",
+    "struct",
 ];
 
 impl Kind {
