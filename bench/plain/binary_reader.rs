@@ -131,8 +131,10 @@ fn timestamp(octets: &[u8]) -> Result<Payload, Reason> {
     if !body.is_empty() {
         (time.precision, fraction) = seconds_fraction(body)?;
     }
-    // At the offset the year is one of 1 to 9999, too.
-    time.shifted(time.offset.unwrap_or(0)).ok_or(Reason::Malformed)?;
+    if year == 1 || year == 9999 {
+        // At the offset the year is one of 1 to 9999, too.
+        time.shifted(time.offset.unwrap_or(0)).ok_or(Reason::Malformed)?;
+    }
     Ok(Payload::Timestamp { time, fraction })
 }
 
@@ -384,6 +386,7 @@ fn items(mut body: Input, table: &SymbolTable, room: u32) -> Result<Vec<Value>, 
 }
 
 /// The name of a pad isn't looked up.
+#[inline(never)]
 fn fields(mut body: Input, table: &SymbolTable, room: u32) -> Result<Vec<Field>, Refusal> {
     let mut fields = Vec::new();
     while !body.is_empty() {

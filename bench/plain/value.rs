@@ -83,6 +83,9 @@ pub fn days_in_month(year: u16, month: u8) -> u8 {
 impl Time {
     /// The time that many minutes later, less than two days; `None` if its year isn't one of 1 to 9999.
     pub fn shifted(mut self, minutes: i16) -> Option<Time> {
+        if minutes == 0 {
+            return Some(self);
+        }
         let minute = i16::from(self.hour) * 60 + i16::from(self.minute) + minutes;
         match minute.div_euclid(24 * 60) {
             0 => {}
