@@ -25,6 +25,7 @@ mod words;
 use binary_reader::{BinaryReader, MARKER};
 use binary_writer::BinaryWriter;
 use refusal::{Reason, Refusal, Stop};
+use std::ffi::OsString;
 use std::fs::File;
 use std::io::{self, BufWriter, Read, Write};
 use std::os::fd::AsFd;
@@ -222,19 +223,25 @@ fn run_to_standard_output(words: &Words) -> Result<u8, Stop> {
     answer
 }
 
+/// A line that can't be written changes no status.
+fn say(line: &str) {
+    let _ = writeln!(io::stderr(), "{line}");
+}
+
 fn main() -> ExitCode {
-    let Some(words) = words::parse(std::env::args().skip(1)) else {
-        eprintln!("{USAGE}");
+    let words: Result<Vec<String>, _> = std::env::args_os().skip(1).map(OsString::into_string).collect();
+    let Some(words) = words.ok().and_then(|words| words::parse(words.into_iter())) else {
+        say(USAGE);
         return ExitCode::from(3);
     };
     match run_to_standard_output(&words) {
         Ok(status) => ExitCode::from(status),
         Err(Stop::Refused(called, offset, reason)) => {
-            eprintln!("refused {called}{offset} {reason:?}");
+            say(&format!("refused {called}{offset} {reason:?}"));
             ExitCode::from(2)
         }
         Err(Stop::Fault(fault)) => {
-            eprintln!("fault {fault}");
+            say(&format!("fault {fault}"));
             ExitCode::from(4)
         }
     }
