@@ -1,6 +1,6 @@
 -- Octets with which the scanner's mode goes on, taken up at once.
-use Rattle.std.proofs.Common.{◌≡◌, ℕ, ◌+◌, ◌-◌, ◌^◌, ◌<◌, ◌≤◌, min, Bool, true, false, cond, List, [], ◌∷◌, ◌++◌, length, take, drop, refl, sym, ap, ◌∙◌, subst, arith, append_assoc, length-drop}
-use Rattle.std.specs.Prelude.{◌==◌, ◌&&◌, ◌||◌, not}
+use Rattle.std.proofs.Common.{◌≡◌, ℕ, ◌+◌, ◌-◌, ◌^◌, ◌<◌, ◌≤◌, min, Bool, true, false, cond, List, [], ◌∷◌, ◌++◌, length, take, drop, refl, sym, ap, ◌∙◌, subst, arith, append_assoc, append-nil, length-drop}
+use Rattle.std.specs.Prelude.{◌==◌, ◌||◌, not}
 use Rattle.std.specs.List.{prefix_len, take_while}
 use Rattle.std.proofs.lemmas.List.{take-append-drop, drop-drop, length-take}
 use Rattle.std.proofs.lemmas.List.Folds.{length-prefix_len}
@@ -18,11 +18,12 @@ use Rattle.ion_tokens.specs.declared.mode.Within.TheVariants as within
 use Rattle.ion_tokens.specs.declared.mode.Lob.TheVariants as lobs
 use Rattle.ion_tokens.specs.declared.mode.Keep.TheVariants as keeps
 use Rattle.ion_tokens.specs.declared.mode.Action.TheVariants as actions
-use Rattle.ion_tokens.specs.machine.Table.{next, stands, is_long, quote_of, in_lob, in_blank}
+use Rattle.ion_tokens.specs.machine.Table.{next, in_lob, in_blank}
 use Rattle.ion_tokens.specs.machine.Scanning.{Known, Outcome, Next, Given, Left, Refused, kept_after, start_of, go_to, acts, feed, follow, run}
 use Rattle.ion_tokens.specs.Lexemes.{Each}
 use Rattle.ion_tokens.specs.machine.Bounds.{IsSteady, StaysSteady}
-use Rattle.ion_tokens.specs.machine.AtOnce.{goes_on, keeps_them, gone_on}
+use Rattle.ion_tokens.specs.machine.AtOnce.{goes_on, keeps_them, gone_on, GoesOver}
+use Rattle.ion_tokens.proofs.Characters.{plain_stays, kept_goes}
 use Rattle.ion_tokens.proofs.Runs.{feed_used, next_used}
 use Rattle.ion_tokens.proofs.Steady.{feed_steady}
 use Rattle.ion_tokens.proofs.Cutting.{run-append}
@@ -48,16 +49,6 @@ number_more false false x y z h = refl
 number_more false true x y z h = cc
 number_more true b x y z h = cc
 
-no_return : (long : Bool) (o : ℕ) → (stands o || (long && (o == 10))) ≡ true → (long && (o == 13)) ≡ false
-no_return true o h = grind (arith, nat_tests)
-no_return false o h = refl
-
-text_more : (a b c d : Bool) (x y z w v : Action) → (d && not (a || b)) ≡ true → (d ≡ true → c ≡ false) → cond a x (cond b y (cond c z (cond d w v))) ≡ w
-text_more false false c true x y z w v h f = ap (λ e. cond e z w) (f refl)
-text_more false true c true x y z w v h f = cc
-text_more true b c true x y z w v h f = cc
-text_more a b c false x y z w v h f = cc
-
 base64_more : (o : ℕ) → is_base64 o ≡ true → in_lob lobs.Base64 o ≡ actions.Go (modes.Lob lobs.Base64) (keeps.One o)
 base64_more o h = grind (arith, nat_tests)
 
@@ -67,7 +58,7 @@ stays p colon modes.LineComment o h = comment_more (is_line_end o) modes.Blank m
 stays p colon modes.BlockComment o h = comment_more (o == 42) modes.BlockCommentStar modes.BlockComment h
 stays p colon modes.Word o h = word_more (is_word_octet o) _ _ h
 stays p colon modes.Number o h = number_more (is_stop o) (o == 47) _ _ _ h
-stays p colon (modes.Text s within.Plain) o h = text_more (o == 92) (o == quote_of s) (is_long s && (o == 13)) (stands o || (is_long s && (o == 10))) _ _ _ _ _ h (no_return (is_long s) o)
+stays p colon (modes.Text s within.Plain) o h = plain_stays s o h
 stays p colon (modes.Lob lobs.Base64) o h = base64_more o h
 stays p colon _ o h = cc h
 
@@ -110,6 +101,15 @@ run_on p s (o ∷ q ∷ os) some h =
     ∙ run_on p (gone_on s (o ∷ [])) (q ∷ os) (omega arith) h.1
     ∙ ap Next (more_on s o q os h.0)
 
+-- Octets over which the mode goes on, too.
+pub run_over : (p : Place) (s : Known) (w : List ℕ) → 0 < length w → GoesOver s.mode w → run p w s ≡ Next (gone_on s w)
+run_over p s w some h = by s.mode s.kept s.colon s.start s.used h where
+  by : (m : Mode) (kept : List ℕ) (colon : Bool) (start used : ℕ) → GoesOver m w
+      → run p w (record { mode = m; kept = kept; colon = colon; start = start; used = used }) ≡ Next (gone_on (record { mode = m; kept = kept; colon = colon; start = start; used = used }) w)
+  by (modes.Text style within.Plain) kept colon start used h =
+      ap (λ l. run p l (record { mode = modes.Text style within.Plain; kept = kept; colon = colon; start = start; used = used })) (sym (append-nil w)) ∙ kept_goes p style w kept h colon start used []
+  by m kept colon start used h = run_on p (record { mode = m; kept = kept; colon = colon; start = start; used = used }) w some h
+
 -- where all octets are used, the first one is
 through : (x : Outcome) (f : Known → Outcome) (t : Known) (Q : Type 0) → follow x f ≡ Next t → ((s : Known) → x ≡ Next s → f s ≡ Next t → Q) → Q
 through (Next s) f t Q e h = h s refl e
@@ -140,10 +140,11 @@ each_front class (o ∷ os) = subst (λ l. Each class l) (sym (take_while-cons c
 fronts : (class : ℕ → Bool) (w : List ℕ) → take (length (take_while class w)) w ≡ take_while class w
 fronts class w = ap (λ k. take k w) (length-prefix_len class w)
 
--- The octets at the front of what is left of a piece, with which the mode goes on, and what the scanner knows behind them.
+-- The octets at the front of what is left of a piece, over which the mode goes on, and what the scanner knows behind them.
 pub record TakesFront (piece : List ℕ) (at k : ℕ) (s t : Known) (n m : ℕ) : Type 0 where
   pub some : 0 < k
-  pub counted : k ≡ length (take_while (goes_on s.mode) (take (length piece - at) (drop at piece)))
+  pub within : k ≤ length (take (length piece - at) (drop at piece))
+  pub over : GoesOver s.mode (take k (take (length piece - at) (drop at piece)))
   pub taken : t ≡ gone_on s (take k (take (length piece - at) (drop at piece)))
   pub looked : m ≡ min (n + length (take k (take (length piece - at) (drop at piece)))) (2 ^ 64 - 1)
 
@@ -168,10 +169,9 @@ run_past p w k s t e =
 -- the mode went on over them
 went : (p : Place) (piece : List ℕ) (at k : ℕ) (s t : Known) (n m : ℕ) → TakesFront piece at k s t n m → run p (take k (drop at piece)) s ≡ Next t
 went p piece at k s t n m h =
-    let is = rest_is piece at in
-    let counted = subst (λ w. k ≡ length (take_while (goes_on s.mode) w)) is h.counted in
-    let taken = subst (λ w. t ≡ gone_on s (take k w)) is h.taken in
-    front_on p (drop at piece) k s counted h.some ∙ ap Next (sym taken)
+    let rest = take (length piece - at) (drop at piece) in
+    let some : 0 < length (take k rest) = let a = h.some in let b = h.within in let l = length-take k rest in omega arith in
+    subst (λ w. run p (take k w) s ≡ Next t) (rest_is piece at) (run_over p s (take k rest) some h.over ∙ ap Next (sym h.taken))
 
 -- What is left behind them leads where what was left before them leads.
 pub leads_on : (p : Place) (piece : List ℕ) (at k : ℕ) (s t : Known) (n m : ℕ) → TakesFront piece at k s t n m → run p (drop (at + k) piece) t ≡ run p (drop at piece) s
@@ -200,8 +200,7 @@ front_within class w = let l = length-take (prefix_len class w) w in omega arith
 -- They are part of the piece.
 pub within_piece : (piece : List ℕ) (at k : ℕ) (s t : Known) (n m : ℕ) → TakesFront piece at k s t n m → at ≤ length piece → at + k ≤ length piece
 within_piece piece at k s t n m h le =
-    let e = subst (λ w. k ≡ length (take_while (goes_on s.mode) w)) (rest_is piece at) h.counted in
-    let l = front_within (goes_on s.mode) (drop at piece) in
+    let l = subst (λ (w : List ℕ). k ≤ length w) (rest_is piece at) h.within in
     let d = length-drop at piece in
     omega arith
 
@@ -211,8 +210,7 @@ counts piece at k s t n m h =
     let rest = take (length piece - at) (drop at piece) in
     let u : t.used ≡ s.used + length (take k rest) = ap (λ (x : Known). x.used) h.taken in
     let l = length-take k rest in
-    let e = h.counted in
-    let f = front_within (goes_on s.mode) rest in
+    let f = h.within in
     omega arith
 
 -- So each is looked at once.

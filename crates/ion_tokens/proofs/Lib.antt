@@ -4,6 +4,7 @@ pub mod Answered
 pub mod Begins
 pub mod ByOctet
 pub mod Causes
+pub mod Characters
 pub mod Cutting
 pub mod Digits
 pub mod Encodings

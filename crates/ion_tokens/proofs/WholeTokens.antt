@@ -2,7 +2,6 @@
 use Rattle.std.proofs.Common.{◌≡◌, ◌≢◌, ◌⊎◌, inl, inr, ℕ, ◌+◌, ◌-◌, ◌<◌, ◌≤◌, zero, suc, Bool, true, false, cond, List, [], ◌∷◌, ◌++◌, length, take, drop, refl, sym, ap, ◌∙◌, subst, arith, append-nil}
 use Rattle.std.specs.Prelude.{◌==◌, ◌&&◌, ◌||◌, not, slice_index, IsUtf8}
 use Rattle.std.specs.List.{take_while, prefix_len}
-use Rattle.std.specs.Str.{IsAscii}
 use Rattle.std.proofs.lemmas.Bool.Decides.{nat_tests}
 use Rattle.std.proofs.lemmas.List.{length-take}
 use Rattle.std.proofs.lemmas.List.Folds.{length-prefix_len}
@@ -27,10 +26,11 @@ use Rattle.ion_tokens.specs.declared.whole.Rest.{Rest}
 use Rattle.ion_tokens.specs.machine.Table.{next, in_blank}
 use Rattle.ion_tokens.specs.machine.Scanning.{Known, Next, Given, Left, feed, run, acts, past, cut, go_to, kept_after}
 use Rattle.ion_tokens.specs.Lexemes.{Each, begins, begins_number, IsWord}
-use Rattle.ion_tokens.specs.machine.AtOnce.{is_plain, is_numeric}
+use Rattle.ion_tokens.specs.machine.AtOnce.{is_raw, is_numeric, AreKept}
 use Rattle.ion_tokens.specs.machine.Rests.{resting, past_blank, IsPassed, IsFound}
-use Rattle.ion_tokens.proofs.Moves.{at, Opens, opens_one, opens_then, Moves, moves_each, Stays}
-use Rattle.ion_tokens.proofs.GoesOn.{stays, front_on, each_front, front_all, rest_is}
+use Rattle.ion_tokens.proofs.Moves.{at, Opens, opens_one, opens_then, Moves, Stays}
+use Rattle.ion_tokens.proofs.Characters.{ascii_each, kept_goes}
+use Rattle.ion_tokens.proofs.GoesOn.{front_on, each_front, front_all, rest_is}
 use Rattle.ion_tokens.proofs.TakesWords.{opens_word, opens_number, opens_brace, opens_colon, word_ends, no_dot, number_stops, brace_ends, colon_ends}
 use Rattle.ion_tokens.proofs.TakesTexts.{BeginsOther, opens_quote, from_quote}
 
@@ -113,11 +113,6 @@ front_begins class (o ∷ os) zero some more = absurd (omega arith)
 front_begins class (o ∷ os) (suc k) some more = refl
 
 -- octets of a class of ASCII are a text
-ascii_each : (class : ℕ → Bool) (w : List ℕ) → ((o : ℕ) → class o ≡ true → o < 128) → Each class w → IsAscii w
-ascii_each class [] f h i = omega arith
-ascii_each class (o ∷ os) f h zero = f o h.0
-ascii_each class (o ∷ os) f h (suc i) = ascii_each class os f h.1 i
-
 front_text : (class : ℕ → Bool) (octets : List ℕ) (n : ℕ) → ((o : ℕ) → class o ≡ true → o < 128) → n ≡ length (take_while class octets) → IsUtf8 (take n octets)
 front_text class octets n f e = IsUtf8-from_ascii (take n octets) (ascii_each class (take n octets) f (front_each class octets n e))
 
@@ -202,14 +197,8 @@ number_found octets n first begun e more slash p r name =
 
 -- What stands between quotes.
 
-plain_moves : (p : Place) (s : Style) (w kept : List ℕ) → Each (is_plain s) w → Moves p (modes.Text s within.Plain) kept w (modes.Text s within.Plain) (kept ++ w)
-plain_moves p s w kept h = moves_each p (modes.Text s within.Plain) (is_plain s) w kept (λ a u. refl) (λ o g c. stays p c (modes.Text s within.Plain) o g) h
-
-plain_ascii : (s : Style) (o : ℕ) → is_plain s o ≡ true → o < 128
-plain_ascii s o h = grind (arith, nat_tests)
-
-plain_text : (s : Style) (octets : List ℕ) (n : ℕ) → n ≡ length (take_while (is_plain s) octets) → IsUtf8 (take n octets)
-plain_text s octets n e = front_text (is_plain s) octets n (plain_ascii s) e
+text_moves : (p : Place) (s : Style) (w kept : List ℕ) → AreKept s w → Moves p (modes.Text s within.Plain) kept w (modes.Text s within.Plain) (kept ++ w)
+text_moves p s w kept h = kept_goes p s w kept h
 
 same_size : (p : Place) (r : Rest) (octets os : List ℕ) (kind : TokenKind) (n : ℕ) → IsFound p r octets kind (take n os) (suc n + 1) false → IsFound p r octets kind (take (n + 2 - 2) os) (n + 2) false
 same_size p r octets os kind n h =
@@ -217,56 +206,52 @@ same_size p r octets os kind n h =
     let size : suc n + 1 ≡ n + 2 = omega arith in
     subst (λ (i : ℕ). IsFound p r octets kind (take i os) (n + 2) false) kept (subst (λ (i : ℕ). IsFound p r octets kind (take n os) i false) size h)
 
-short_stands : (octets : List ℕ) (n : ℕ) → 0 < length octets → slice_index octets 0 ≡ 34 → n ≡ length (take_while (is_plain styles.ShortString) (drop 1 octets)) → n < length (drop 1 octets) → slice_index (drop 1 octets) n ≡ 34
+short_stands : (octets : List ℕ) (n : ℕ) → 0 < length octets → slice_index octets 0 ≡ 34 → AreKept styles.ShortString (take n (drop 1 octets)) → n < length (drop 1 octets) → slice_index (drop 1 octets) n ≡ 34
     → (p : Place) (r : Rest) → IsFound p r octets kinds.ShortString (take (n + 2 - 2) (drop 1 octets)) (n + 2) false
-short_stands [] n some first e more last p r = absurd (omega arith)
-short_stands (o ∷ os) n some first e more last p r =
+short_stands [] n some first kept more last p r = absurd (omega arith)
+short_stands (o ∷ os) n some first kept more last p r =
     subst (λ (x : ℕ). IsFound p r (x ∷ os) kinds.ShortString (take (n + 2 - 2) os) (n + 2) false) (sym first)
     (same_size p r (34 ∷ os) os kinds.ShortString n
     (opened_given p r (34 ∷ os) (suc n) kinds.ShortString (modes.Text styles.ShortString within.Plain) (take n os) keeps.Nothing
     (opens_then p r.colon (34 ∷ []) (take n os) (modes.Text styles.ShortString within.Plain) (modes.Text styles.ShortString within.Plain) [] (take n os)
-    (opens_one p r.colon 34 (modes.Text styles.ShortString within.Plain) keeps.Nothing refl) (plain_moves p styles.ShortString (take n os) [] (front_each (is_plain styles.ShortString) os n e)))
+    (opens_one p r.colon 34 (modes.Text styles.ShortString within.Plain) keeps.Nothing refl) (text_moves p styles.ShortString (take n os) [] kept))
     (λ s u. refl) (omega arith) (ap (λ (x : ℕ). next p r.colon (modes.Text styles.ShortString within.Plain) x) last)))
 
 -- What stands behind the first quote, as `&octets[1..]` has it.
 abbrev pub behind_first : List ℕ → List ℕ
 behind_first octets = take (length octets - 1) (drop 1 octets)
 
-pub short_found : (octets : List ℕ) (n : ℕ) → 0 < length octets → slice_index octets 0 ≡ 34 → n ≡ length (take_while (is_plain styles.ShortString) (behind_first octets)) → n < length (behind_first octets) → slice_index (behind_first octets) n ≡ 34
+pub short_found : (octets : List ℕ) (n : ℕ) → 0 < length octets → slice_index octets 0 ≡ 34 → AreKept styles.ShortString (take n (behind_first octets)) → n < length (behind_first octets) → slice_index (behind_first octets) n ≡ 34
     → (p : Place) (r : Rest) → IsFound p r octets kinds.ShortString (take (n + 2 - 2) (drop 1 octets)) (n + 2) false
-short_found octets n some first e more last =
+short_found octets n some first kept more last =
     let tail = rest_is octets 1 in
-    short_stands octets n some first (subst (λ w. n ≡ length (take_while (is_plain styles.ShortString) w)) tail e) (subst (λ (w : List ℕ). n < length w) tail more) (subst (λ w. slice_index w n ≡ 34) tail last)
+    short_stands octets n some first (subst (λ w. AreKept styles.ShortString (take n w)) tail kept) (subst (λ (w : List ℕ). n < length w) tail more) (subst (λ w. slice_index w n ≡ 34) tail last)
 
-pub quoted_text : (s : Style) (octets : List ℕ) (n : ℕ) → n ≡ length (take_while (is_plain s) (behind_first octets)) → IsUtf8 (take (n + 2 - 2) (drop 1 octets))
-quoted_text s octets n e =
-    let kept : n ≡ n + 2 - 2 = omega arith in
-    subst (λ (i : ℕ). IsUtf8 (take i (drop 1 octets))) kept (plain_text s (drop 1 octets) n (subst (λ w. n ≡ length (take_while (is_plain s) w)) (rest_is octets 1) e))
+pub quoted_text : (s : Style) (octets : List ℕ) (n : ℕ) → AreKept s (take n (behind_first octets)) → IsUtf8 (take (n + 2 - 2) (drop 1 octets))
+quoted_text s octets n kept =
+    let same : n ≡ n + 2 - 2 = omega arith in
+    subst (λ (i : ℕ). IsUtf8 (take i (drop 1 octets))) same (subst (λ w. IsUtf8 (take n w)) (rest_is octets 1) kept.1)
 
-plain_other : (o : ℕ) → is_plain styles.QuotedSymbol o ≡ true → o ≢ 39
-plain_other o h n = let never : is_plain styles.QuotedSymbol 39 ≡ true = subst (λ (x : ℕ). is_plain styles.QuotedSymbol x ≡ true) n h in cc
+raw_begins : (w : List ℕ) → Each (is_raw false 39) w → BeginsOther w
+raw_begins [] h = tt
+raw_begins (o ∷ os) h = λ e. let never : is_raw false 39 39 ≡ true = subst (λ (x : ℕ). is_raw false 39 x ≡ true) e h.0 in cc
 
-plain_begins : (w : List ℕ) → Each (is_plain styles.QuotedSymbol) w → BeginsOther w
-plain_begins [] h = tt
-plain_begins (o ∷ os) h = plain_other o h.0
-
-quoted_stands : (octets : List ℕ) (n : ℕ) → 0 < length octets → slice_index octets 0 ≡ 39 → n ≡ length (take_while (is_plain styles.QuotedSymbol) (drop 1 octets)) → 0 < n → n < length (drop 1 octets) → slice_index (drop 1 octets) n ≡ 39
+quoted_stands : (octets : List ℕ) (n : ℕ) → 0 < length octets → slice_index octets 0 ≡ 39 → AreKept styles.QuotedSymbol (take n (drop 1 octets)) → 0 < n → n < length (drop 1 octets) → slice_index (drop 1 octets) n ≡ 39
     → (p : Place) (r : Rest) → IsFound p r octets kinds.QuotedSymbol (take (n + 2 - 2) (drop 1 octets)) (n + 2) false
-quoted_stands [] n some first e one more last p r = absurd (omega arith)
-quoted_stands (o ∷ os) n some first e one more last p r =
-    let each = front_each (is_plain styles.QuotedSymbol) os n e in
+quoted_stands [] n some first kept one more last p r = absurd (omega arith)
+quoted_stands (o ∷ os) n some first kept one more last p r =
     subst (λ (x : ℕ). IsFound p r (x ∷ os) kinds.QuotedSymbol (take (n + 2 - 2) os) (n + 2) false) (sym first)
     (same_size p r (39 ∷ os) os kinds.QuotedSymbol n
     (opened_given p r (39 ∷ os) (suc n) kinds.QuotedSymbol (modes.Text styles.QuotedSymbol within.Plain) (take n os) keeps.Nothing
     (opens_then p r.colon (39 ∷ []) (take n os) modes.Quote (modes.Text styles.QuotedSymbol within.Plain) [] (take n os) (opens_quote p r.colon)
-    (from_quote p (take n os) (take n os) within.Plain (λ none. let size = ap (λ (l : List ℕ). length l) none in let l = length-take n os in omega arith) (plain_begins (take n os) each) (plain_moves p styles.QuotedSymbol (take n os) [] each)))
+    (from_quote p (take n os) (take n os) within.Plain (λ none. let size = ap (λ (l : List ℕ). length l) none in let l = length-take n os in omega arith) (raw_begins (take n os) kept.0) (text_moves p styles.QuotedSymbol (take n os) [] kept)))
     (λ s u. refl) (omega arith) (ap (λ (x : ℕ). next p r.colon (modes.Text styles.QuotedSymbol within.Plain) x) last)))
 
-pub quoted_found : (octets : List ℕ) (n : ℕ) → 0 < length octets → slice_index octets 0 ≡ 39 → n ≡ length (take_while (is_plain styles.QuotedSymbol) (behind_first octets)) → n ≢ 0 → n < length (behind_first octets) → slice_index (behind_first octets) n ≡ 39
+pub quoted_found : (octets : List ℕ) (n : ℕ) → 0 < length octets → slice_index octets 0 ≡ 39 → AreKept styles.QuotedSymbol (take n (behind_first octets)) → n ≢ 0 → n < length (behind_first octets) → slice_index (behind_first octets) n ≡ 39
     → (p : Place) (r : Rest) → IsFound p r octets kinds.QuotedSymbol (take (n + 2 - 2) (drop 1 octets)) (n + 2) false
-quoted_found octets n some first e one more last =
+quoted_found octets n some first kept one more last =
     let tail = rest_is octets 1 in
-    quoted_stands octets n some first (subst (λ w. n ≡ length (take_while (is_plain styles.QuotedSymbol) w)) tail e) (omega arith) (subst (λ (w : List ℕ). n < length w) tail more) (subst (λ w. slice_index w n ≡ 39) tail last)
+    quoted_stands octets n some first (subst (λ w. AreKept styles.QuotedSymbol (take n w)) tail kept) (omega arith) (subst (λ (w : List ℕ). n < length w) tail more) (subst (λ w. slice_index w n ≡ 39) tail last)
 
 -- Marks.
 

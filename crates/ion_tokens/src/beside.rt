@@ -1,4 +1,4 @@
-//! Tokens of any form that lie whole in memory: those with escapes or beyond ASCII, typed nulls, clobs and blobs, read by a
+//! Tokens of any form that lie whole in memory: those with escapes, typed nulls, clobs and blobs, read by a
 //! machine beside the scanner's.
 ghost use Rattle.std.specs.Prelude.{◌≡◌, ◌≢◌, ◌+◌, ◌<◌, ◌^◌, [], length, Ok, Err, IfOk, IfErr, IfSome};
 ghost use Rattle.ion_atoms.specs.declared.refusal.Reason.TheVariants.{Memory};

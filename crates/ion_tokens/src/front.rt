@@ -1,15 +1,17 @@
 //! Octets at the front of a piece with which the mode goes on as it is: they are taken up at once.
-ghost use Rattle.std.specs.Prelude.{◌≡◌, ◌+◌, ◌-◌, ◌^◌, ◌<◌, min, length, IfOk};
+ghost use Rattle.std.specs.Prelude.{◌≡◌, ◌+◌, ◌-◌, ◌^◌, ◌<◌, ◌≤◌, min, length, take, IfOk, IsUtf8};
 ghost use Rattle.std.specs.List.{take_while};
 ghost use Rattle.ion_tokens.specs.Octets.{is_white, is_word_octet};
-ghost use Rattle.ion_tokens.specs.machine.AtOnce.{is_between, is_plain, is_numeric, goes_on, keeps_them, gone_on};
+ghost use Rattle.ion_tokens.specs.Lexemes.{Each};
+ghost use Rattle.ion_tokens.specs.machine.AtOnce.{is_between, is_plain, is_raw, is_numeric, goes_on, keeps_them, gone_on, AreKept, GoesOver};
 ghost use Rattle.ion_tokens.specs.machine.Views.{known};
 
-use crate::lanes::{number_ends, text_ends, word_ends};
+use crate::lanes::{number_ends, raw_ends, text_ends, word_ends};
 use crate::machine::{Machine, start_of};
 use crate::mode::{Lob, Mode, Style, Within};
 use crate::octets::{is_base64, is_line_end, is_stop, is_white, is_word_octet};
-use crate::quoted::{is_long, quote_of};
+use crate::quoted::{is_clob, is_long, quote_of};
+use simdutf8::{compat, is_utf8};
 use std::alloc::AllocError;
 use std::simd::prelude::*;
 
@@ -51,6 +53,61 @@ fn all_between(long: bool, quote: u8, octets: &[u8]) -> usize
         at += 16;
     }
     at + each_between(long, quote, &octets[at..])
+}
+
+// An octet of a character that such a text keeps as it is, and no quote.
+#[inline(always)]
+fn is_raw(long: bool, quote: u8, octet: u8) -> bool
+    ensures { result ≡ is_raw long quote octet }
+{
+    octet >= 128 && octet != quote || is_between(long, quote, octet)
+}
+
+// How many such octets there are at the front, one by one.
+#[inline(never)]
+fn each_raw(long: bool, quote: u8, octets: &[u8]) -> usize
+    ensures { result ≡ length (take_while (is_raw long quote) octets.now) }
+{
+    octets
+        .iter()
+        .copied()
+        .take_while(|octet| is_raw(long, quote, *octet))
+        .count()
+}
+
+// The same, sixteen at a time.
+#[inline(always)]
+fn all_raw(long: bool, quote: u8, octets: &[u8]) -> usize
+    ensures { result ≡ length (take_while (is_raw long quote) octets.now) }
+{
+    let mut at = 0;
+    while octets.len() - at >= 16 {
+        let ends = raw_ends(long, quote, u8x16::from_slice(&octets[at..]));
+        if ends != 0 {
+            return at + ends.trailing_zeros() as usize;
+        }
+        at += 16;
+    }
+    at + each_raw(long, quote, &octets[at..])
+}
+
+// How many octets at the front are those of characters that such a text keeps as they are. Where one of them isn't well
+// formed or is cut, the characters before it are counted, so that none of them is gone over again.
+#[inline(never)]
+fn characters_between(long: bool, quote: u8, octets: &[u8]) -> usize
+    ensures within { result ≤ length octets.now }
+    ensures raw { Each (is_raw long quote) (take result octets.now) }
+    ensures text { IsUtf8 (take result octets.now) }
+{
+    let count = all_raw(long, quote, octets);
+    let run = &octets[..count];
+    if is_utf8(run) {
+        return count;
+    }
+    match compat::from_utf8(run) {
+        Ok(_) => count,
+        Err(error) => error.valid_up_to(),
+    }
 }
 
 // Whether octets with which the mode goes on are kept; those of a blank aren't.
@@ -141,17 +198,52 @@ fn each_of_number(octets: &[u8]) -> usize
         .count()
 }
 
-/// How many octets there are at the front that a quoted text keeps as they are.
-#[inline(never)]
-pub fn plain(style: Style, octets: &[u8]) -> usize
+// How many ASCII characters there are at the front that a quoted text keeps as they are.
+#[inline(always)]
+fn plain(style: Style, octets: &[u8]) -> usize
     ensures { result ≡ length (take_while (is_plain style) octets.now) }
 {
     all_between(is_long(style), quote_of(style), octets)
 }
 
+/// How many octets there are at the front of characters that a quoted text keeps as they are, up to one that isn't well
+/// formed, or isn't whole.
+#[inline(never)]
+pub fn characters(style: Style, octets: &[u8]) -> usize
+    ensures within { result ≤ length octets.now }
+    ensures kept { AreKept style (take result octets.now) }
+{
+    beyond_ascii(style, octets, plain(style, octets))
+}
+
+// The same, where so many ASCII characters stand in front.
+#[inline(always)]
+fn beyond_ascii(style: Style, octets: &[u8], ascii: usize) -> usize
+    requires { ascii ≡ length (take_while (is_plain style) octets.now) }
+    ensures within { result ≤ length octets.now }
+    ensures kept { AreKept style (take result octets.now) }
+{
+    if ascii >= octets.len() || octets[ascii] < 128 || is_clob(style) {
+        return ascii;
+    }
+    ascii + characters_between(is_long(style), quote_of(style), &octets[ascii..])
+}
+
 impl Machine {
-    /// How many octets there are at the front of a piece with which the mode goes on.
+    /// How many octets there are at the front of a piece over which the mode goes on.
     pub fn front(&self, piece: &[u8]) -> usize
+        ensures within { result ≤ length piece.now }
+        ensures over { GoesOver self.now.mode (take result piece.now) }
+    {
+        let count = self.each_front(piece);
+        match self.mode {
+            Mode::Text(style, Within::Plain) => beyond_ascii(style, piece, count),
+            _ => count,
+        }
+    }
+
+    /// How many octets there are at the front of a piece with each of which the mode goes on.
+    pub fn each_front(&self, piece: &[u8]) -> usize
         ensures { result ≡ length (take_while (goes_on self.now.mode) piece.now) }
     {
         let octets = piece.iter().copied();

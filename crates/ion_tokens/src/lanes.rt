@@ -2,7 +2,7 @@
 ghost use Rattle.std.specs.Prelude.{◌≡◌, map, not, if◌then◌else◌};
 ghost use Rattle.std.specs.Simd.Lanes.{mask_l};
 ghost use Rattle.ion_tokens.specs.Octets.{is_word_octet};
-ghost use Rattle.ion_tokens.specs.machine.AtOnce.{is_between, is_numeric};
+ghost use Rattle.ion_tokens.specs.machine.AtOnce.{is_between, is_raw, is_numeric};
 
 use std::simd::prelude::*;
 
@@ -24,6 +24,19 @@ pub fn text_ends(long: bool, quote: u8, octets: u8x16) -> u64
         | octets.simd_eq(u8x16::splat(line_end))
         | (octets - u8x16::splat(b'\r')).simd_lt(u8x16::splat(b' ' - b'\r'))
         | octets.simd_ge(u8x16::splat(0x80))
+        | octets.simd_eq(u8x16::splat(b'\\'))
+        | octets.simd_eq(u8x16::splat(quote))).to_bitmask()
+}
+
+/// The octets that are part of no character that such a text keeps as it is.
+#[inline(always)]
+pub fn raw_ends(long: bool, quote: u8, octets: u8x16) -> u64
+    ensures { result ≡ mask_l (map (λ o. not (is_raw long quote o)) octets) }
+{
+    let line_end = line_end(long);
+    (octets.simd_lt(u8x16::splat(b'\t'))
+        | octets.simd_eq(u8x16::splat(line_end))
+        | (octets - u8x16::splat(b'\r')).simd_lt(u8x16::splat(b' ' - b'\r'))
         | octets.simd_eq(u8x16::splat(b'\\'))
         | octets.simd_eq(u8x16::splat(quote))).to_bitmask()
 }

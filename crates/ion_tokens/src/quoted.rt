@@ -12,7 +12,7 @@ pub fn is_long(style: Style) -> bool
     matches!(style, Style::LongString | Style::LongClob)
 }
 
-fn is_clob(style: Style) -> bool
+pub fn is_clob(style: Style) -> bool
     ensures { result ≡ is_clob style }
 {
     matches!(style, Style::ShortClob | Style::LongClob)

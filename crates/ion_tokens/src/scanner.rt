@@ -360,7 +360,7 @@ impl Scanner {
         ensures within { result ≤ length piece.now }
         ensures each { Each (goes_on (scanned self.now).mode) (take result piece.now) }
     {
-        self.machine.front(piece)
+        self.machine.each_front(piece)
     }
 
     /// Takes up octets with which what is open goes on as it is, one at least. It leads where a step over them leads,

@@ -5,7 +5,7 @@ ghost use Rattle.ion_tokens.specs.Places.{is_name};
 ghost use Rattle.ion_tokens.specs.machine.Rests.{past_blank, past_token, IsPassed, IsFound};
 ghost use Rattle.ion_tokens.specs.declared.mode.Place.{Place};
 
-use crate::front::{of_number, of_word, plain, white};
+use crate::front::{characters, of_number, of_word, white};
 use crate::machine::takes_colon;
 use crate::mode::{Place, Style, TokenKind};
 use crate::octets::{begins_word, is_digit};
@@ -95,7 +95,7 @@ pub fn number(octets: &[u8]) -> Option<usize>
     Some(count)
 }
 
-/// How many octets the short string at the front has, quotes and all, if its characters are ASCII and stand as they are.
+/// How many octets the short string at the front has, quotes and all, if its characters stand as they are, without escapes.
 pub fn short_string(octets: &[u8]) -> Option<usize>
     ensures found { IfSome result (λ count. (place : Place) (rest : Rest) →
         IsFound place rest octets.now TokenKind.ShortString
@@ -106,7 +106,7 @@ pub fn short_string(octets: &[u8]) -> Option<usize>
         return None;
     }
     let content = &octets[1..];
-    let count = plain(Style::ShortString, content);
+    let count = characters(Style::ShortString, content);
     if count >= content.len() || content[count] != b'"' {
         return None;
     }
@@ -124,7 +124,7 @@ pub fn quoted_symbol(octets: &[u8]) -> Option<usize>
         return None;
     }
     let content = &octets[1..];
-    let count = plain(Style::QuotedSymbol, content);
+    let count = characters(Style::QuotedSymbol, content);
     if count == 0 || count >= content.len() || content[count] != b'\'' {
         return None;
     }

@@ -1,5 +1,5 @@
 -- Octets with which a mode goes on as it is, taken up at once.
-use Rattle.std.specs.Prelude.{ℕ, ◌+◌, ◌-◌, ◌==◌, Bool, true, false, ◌&&◌, ◌||◌, not, if◌then◌else◌, List, ◌++◌, length}
+use Rattle.std.specs.Prelude.{ℕ, ◌+◌, ◌-◌, ◌==◌, Bool, true, false, ◌&&◌, ◌||◌, not, if◌then◌else◌, nat_le, List, ◌++◌, length, IsTrue, IsUtf8}
 use Rattle.ion_tokens.specs.declared.mode.Style.{Style}
 use Rattle.ion_tokens.specs.declared.mode.Mode.{Mode}
 use Rattle.ion_tokens.specs.declared.mode.Within.TheVariants as within
@@ -7,7 +7,8 @@ use Rattle.ion_tokens.specs.declared.mode.Lob.TheVariants as lobs
 use Rattle.ion_tokens.specs.declared.mode.Mode.TheVariants as modes
 use Rattle.ion_tokens.specs.Ascii.{line_feed, asterisk, slash, backslash}
 use Rattle.ion_tokens.specs.Octets.{is_white, is_line_end, is_word_octet, is_stop, is_base64}
-use Rattle.ion_tokens.specs.machine.Table.{is_long, quote_of, stands}
+use Rattle.ion_tokens.specs.Lexemes.{Each}
+use Rattle.ion_tokens.specs.machine.Table.{is_long, is_clob, quote_of, stands}
 use Rattle.ion_tokens.specs.machine.Scanning.{Known, start_of}
 
 -- an ASCII character that a text in these quotes, long or not, keeps as it is, and no quote
@@ -17,6 +18,14 @@ is_between long quote o = (stands o || (long && (o == line_feed))) && not ((o ==
 -- the same of a style
 abbrev pub is_plain : Style → ℕ → Bool
 is_plain s = is_between (is_long s) (quote_of s)
+
+-- an octet of a character that such a text keeps as it is, and no quote
+abbrev pub is_raw : Bool → ℕ → ℕ → Bool
+is_raw long quote o = (stands o || (long && (o == line_feed)) || nat_le 128 o) && not ((o == backslash) || (o == quote))
+
+-- Characters that a text of this style keeps as they are; those of a clob are ASCII.
+abbrev pub AreKept : Style → List ℕ → Type 0
+AreKept s w = Each (is_raw (is_long s) (quote_of s)) w × IsUtf8 w × (IsTrue (is_clob s) → Each (is_plain s) w)
 
 -- a number goes on with it
 abbrev pub is_numeric : ℕ → Bool
@@ -32,6 +41,11 @@ goes_on modes.Number o = is_numeric o
 goes_on (modes.Text s within.Plain) o = is_plain s o
 goes_on (modes.Lob lobs.Base64) o = is_base64 o
 goes_on _ o = false
+
+-- Over these octets the mode goes on as it is: it does with each of them, or they are characters that a text keeps as they are.
+abbrev pub GoesOver : Mode → List ℕ → Type 0
+GoesOver (modes.Text s within.Plain) w = AreKept s w
+GoesOver m w = Each (goes_on m) w
 
 -- whether the octets with which the mode goes on are kept; those of a blank aren't
 abbrev pub keeps_them : Mode → Bool

@@ -18,7 +18,7 @@ loop-at-preserved-then-count-gt0 c =
     let k = c.front-count.result in
     let n = c.loop-at.self.looked in
     let m = c.go_on.new.self.looked in
-    let taken : TakesFront piece at k s s' n m = record { some = c.if-count-gt0.true; counted = c.front-count.ensures; taken = c.in_ok-go_on.ensures.known; looked = c.in_ok-go_on.ensures.looked } in
+    let taken : TakesFront piece at k s s' n m = record { some = c.if-count-gt0.true; within = c.front-count.ensures.within; over = c.front-count.ensures.over; taken = c.in_ok-go_on.ensures.known; looked = c.in_ok-go_on.ensures.looked } in
     record {
       within = within_piece piece at k s s' n m taken c.loop-at.invariant.within;
       used = let more = counts piece at k s s' n m taken in omega arith;

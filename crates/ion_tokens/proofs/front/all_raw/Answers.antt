@@ -1,0 +1,23 @@
+use Rattle.std.proofs.Common.{◌∙◌, ap, length, arith}
+use Rattle.std.specs.List.{take_while}
+use Rattle.ion_tokens.specs.machine.AtOnce.{is_raw}
+use Rattle.ion_tokens.proofs.GoesOn.{rest_is}
+use Rattle.ion_tokens.proofs.LaneRuns.{at_start, goes_through, stops_at, then_each}
+use Rattle.ion_tokens.proofs.front.all_raw.Goals as goal
+
+pub loop-at-init : goal.loop-at-init
+loop-at-init c = at_start (is_raw c.args.long c.args.quote) c.args.octets.now
+
+pub loop-at-preserved : goal.loop-at-preserved
+loop-at-preserved c =
+    goes_through (is_raw c.args.long c.args.quote) c.args.octets.now c.loop-at.at 16 c.raw_ends-ends.result c.loop-at.invariant (omega arith) c.raw_ends-ends.ensures (omega arith)
+
+pub returns-then-ends-ne0 : goal.returns-then-ends-ne0
+returns-then-ends-ne0 c =
+    stops_at (is_raw c.args.long c.args.quote) c.args.octets.now c.loop-at.at 16 c.raw_ends-ends.result c.loop-at.invariant (omega arith) (omega arith) c.raw_ends-ends.ensures (omega arith)
+
+pub returns : goal.returns
+returns c =
+    let class = is_raw c.args.long c.args.quote in
+    then_each class c.args.octets.now c.loop-at.at c.each_raw.result c.loop-at.invariant
+    (c.each_raw.ensures ∙ ap (λ w. length (take_while class w)) (rest_is c.args.octets.now c.loop-at.at))
