@@ -1,6 +1,6 @@
 -- Octets over which what waits goes on to wait.
 use Rattle.std.proofs.Common.{◌≡◌, ℕ, ◌+◌, ◌-◌, ◌≤◌, Bool, true, false, List, [], ◌∷◌, length, Option, Some, None, refl, ap, sym, ◌∙◌, subst, arith, ◌⊎◌, inl, inr}
-use Rattle.std.specs.Prelude.{◌==◌, ◌&&◌, not, nat_le, if◌then◌else◌}
+use Rattle.std.specs.Prelude.{◌==◌, ◌&&◌, ◌||◌, not, nat_le, if◌then◌else◌}
 use Rattle.std.proofs.lemmas.Bool.Decides.{nat_tests}
 use Rattle.ion_atoms.specs.declared.refusal.Reason.TheVariants as reasons
 use Rattle.ion_symtab.specs.declared.limits.Limits.{Limits}
@@ -8,15 +8,20 @@ use Rattle.ion_symtab.specs.declared.catalog.Catalog.{Catalog}
 use Rattle.ion_tokens.specs.declared.mode.Place.{Place}
 use Rattle.ion_tokens.specs.declared.mode.Mode.{Mode}
 use Rattle.ion_tokens.specs.declared.token.Begun.{Begun}
-use Rattle.ion_tokens.specs.machine.Ahead.{is_long_form, AtEach, OnNext}
+use Rattle.ion_tokens.specs.declared.mode.Mode.TheVariants as modes
+use Rattle.ion_tokens.specs.declared.mode.Style.{Style}
+use Rattle.ion_tokens.specs.declared.mode.Style.TheVariants as styles
+use Rattle.ion_tokens.specs.declared.mode.Within.TheVariants as within
+use Rattle.ion_tokens.specs.machine.Ahead.{is_long_form, is_quoting, AtEach, OnNext}
 use Rattle.ion_tokens.specs.machine.Bounds.{is_idle}
-use Rattle.ion_tokens.specs.machine.AtOnce.{goes_on, gone_on}
+use Rattle.ion_tokens.specs.machine.AtOnce.{goes_on, gone_on, GoesOver}
 use Rattle.ion_tokens.specs.Lexemes.{Each}
 use Rattle.ion_tokens.specs.machine.Scanning as scanning
 use Rattle.ion_tokens.specs.machine.Scanning.{Known, Outcome, Next, feed}
 use Rattle.ion_tokens.specs.machine.Views.{begun_in, behind, form_of}
-use Rattle.ion_tokens.proofs.Runs.{next_used}
-use Rattle.ion_tokens.proofs.GoesOn.{one_on}
+use Rattle.ion_tokens.proofs.Runs.{next_used, feed_used}
+use Rattle.ion_tokens.proofs.GoesOn.{one_on, through}
+use Rattle.ion_text.specs.laws.reading.Meets.{LongOn, is_long_text, long_feed}
 use Rattle.ion_text.specs.declared.state.Frame.{Frame}
 use Rattle.ion_text.specs.declared.state.Now.{Now}
 use Rattle.ion_text.specs.declared.state.Now.TheVariants as nows
@@ -75,6 +80,39 @@ lull_noticed l r s w e u =
     le_true : (x y : ℕ) → x ≤ y → nat_le x y ≡ true
     le_true x y h = grind (arith, nat_tests)
 
+-- a further segment of a long string goes on to be one
+quoting_text : (m : Mode) → is_long_text m ≡ true → (is_idle m || is_quoting m) ≡ true
+quoting_text (modes.Text styles.LongString w) h = refl
+quoting_text _ h = absurd cc
+
+no_text : (m : Mode) → is_idle m ≡ true → is_long_text m ≡ true → ⊥
+no_text (modes.Text style w) i h = absurd cc
+no_text _ i h = absurd cc
+
+text_lulls : (n : Now) (m k : Mode) → lulls n m ≡ true → is_long_text m ≡ true → is_long_text k ≡ true → lulls n k ≡ true
+text_lulls nows.Ready m k w h i = absurd cc
+text_lulls nows.Name m k w h i = absurd cc
+text_lulls (nows.Pending held end) m k w h i = absurd (no_text m w h)
+text_lulls (nows.Long w end) m k w' h i = quoting_text k i
+text_lulls nows.After m k w h i = absurd (no_text m w h)
+text_lulls (nows.LongName w) m k w' h i = quoting_text k i
+text_lulls (nows.Keyed s) m k w h i = absurd (no_text m w h)
+
+-- the only text over which it waits
+waits_in_text : (n : Now) (s : Style) → lulls n (modes.Text s within.Plain) ≡ true → is_long_text (modes.Text s within.Plain) ≡ true
+waits_in_text n styles.LongString h = refl
+waits_in_text nows.Ready _ h = absurd cc
+waits_in_text nows.Name _ h = absurd cc
+waits_in_text (nows.Pending held end) _ h = absurd cc
+waits_in_text (nows.Long w end) _ h = absurd cc
+waits_in_text nows.After _ h = absurd cc
+waits_in_text (nows.LongName w) _ h = absurd cc
+waits_in_text (nows.Keyed name) _ h = absurd cc
+
+each_or_text : (n : Now) (m : Mode) (w : List ℕ) → lulls n m ≡ true → GoesOver m w → Each (goes_on m) w ⊎ (is_long_text m ≡ true)
+each_or_text n (modes.Text s within.Plain) w h over = inr (waits_in_text n s h)
+each_or_text n _ w h over = inl over
+
 module _ (g : Catalog) (l : Limits) (r : Reading) where
   quiet_lull : (p : Place) (os : List ℕ) (s : Known) → Each (goes_on s.mode) os → IsLull l r s (length os) → Quiet g l r p s os
   quiet_lull p [] s each lull = tt
@@ -110,9 +148,42 @@ module _ (g : Catalog) (l : Limits) (r : Reading) where
     by (inl e) = inl e
     by (inr more) = inr (waiting_lull (place r) os s each lull more)
 
+  -- the same over a text's characters, where each octet leads on in the text
+  quiet_text : (p : Place) (os : List ℕ) (s t : Known) → is_long_text s.mode ≡ true → scanning.run p os s ≡ Next t → IsLull l r s (length os) → Quiet g l r p s os
+  quiet_text p [] s t long ran lull = tt
+  quiet_text p (o ∷ os) s t long ran lull =
+      through (feed p s o) (λ k. scanning.run p os k) t (Quiet g l r p s (o ∷ os)) ran
+      (λ k went rest.
+      let on : is_long_text k.mode ≡ true = subst LongOn went (long_feed p s o long) in
+      let w : lulls r.now k.mode ≡ true = text_lulls r.now s.mode k.mode lull.waits long on in
+      let e = lull.ended in
+      let room = lull.room in
+      let used = feed_used p s k o went in
+      subst (λ x. OnNext x (λ t. (noticed l r t ≡ uses (with_scan t r)) × Quiet g l r p t os)) (sym went)
+      (lull_noticed l r k w e (omega arith), quiet_text p os k t on rest (record { waits = w; ended = e; room = omega arith })))
+
+  waiting_text : (p : Place) (os : List ℕ) (s t : Known) → is_long_text s.mode ≡ true → scanning.run p os s ≡ Next t → lulls r.now s.mode ≡ true
+      → ((t : Known) → lulls r.now t.mode ≡ true → waits r (Next t) ≡ true) → Waiting g l r p s os
+  waiting_text p [] s t long ran lull more = tt
+  waiting_text p (o ∷ os) s t long ran lull more =
+      through (feed p s o) (λ k. scanning.run p os k) t (Waiting g l r p s (o ∷ os)) ran
+      (λ k went rest.
+      let on : is_long_text k.mode ≡ true = subst LongOn went (long_feed p s o long) in
+      let w : lulls r.now k.mode ≡ true = text_lulls r.now s.mode k.mode lull long on in
+      subst (λ x. (waits r x ≡ true) × OnNext x (λ k. AtEach (λ x. waits r x) p os k)) (sym went) (more k w, waiting_text p os k t on rest w more))
+
+  stays_text : (os : List ℕ) (s t : Known) → is_long_text s.mode ≡ true → scanning.run (place r) os s ≡ Next t → lulls r.now s.mode ≡ true → Stays g l r (place r) s os
+  stays_text os s t long ran lull = by (waits_or_not r.start r.context r.frames r.notes (is_top r.frames) r.now s.mode lull) where
+    by : (settle g l r ≡ goes r) ⊎ ((t : Known) → lulls r.now t.mode ≡ true → waits r (Next t) ≡ true) → Stays g l r (place r) s os
+    by (inl e) = inl e
+    by (inr more) = inr (waiting_text (place r) os s t long ran lull more)
+
   -- the run over them leads where the scanner is led
-  pub led_by_lull : (os : List ℕ) (s t : Known) → IsLull l r s (length os) → Each (goes_on s.mode) os → ((p : Place) → scanning.run p os s ≡ Next t) → run g l s.used (with_scan s r) os ≡ led (with_scan t r)
-  led_by_lull os s t lull each ran = drive g l os s.used r s t (ran (place r)) (quiet_lull (place r) os s each lull) (stays_lull os s each lull.waits)
+  pub led_by_lull : (os : List ℕ) (s t : Known) → IsLull l r s (length os) → GoesOver s.mode os → ((p : Place) → scanning.run p os s ≡ Next t) → run g l s.used (with_scan s r) os ≡ led (with_scan t r)
+  led_by_lull os s t lull over ran = by (each_or_text r.now s.mode os lull.waits over) where
+    by : Each (goes_on s.mode) os ⊎ (is_long_text s.mode ≡ true) → run g l s.used (with_scan s r) os ≡ led (with_scan t r)
+    by (inl each) = drive g l os s.used r s t (ran (place r)) (quiet_lull (place r) os s each lull) (stays_lull os s each lull.waits)
+    by (inr long) = drive g l os s.used r s t (ran (place r)) (quiet_text (place r) os s t long (ran (place r)) lull) (stays_text os s t long (ran (place r)) lull.waits)
 
 -- which uses them all
 pub used_by_lull : (os : List ℕ) (s t : Known) (p : Place) → scanning.run p os s ≡ Next t → t.used ≡ s.used + length os

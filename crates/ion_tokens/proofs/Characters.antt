@@ -61,7 +61,8 @@ each_over (modes.Text s within.Plain) w h = plain_kept s w h
 each_over _ w h = h
 
 -- behind ASCII characters others are kept, where the text is no clob
-pub more_kept : (s : Style) (xs ys : List ℕ) → is_clob s ≡ false → Each (is_plain s) xs → Each (is_raw (is_long s) (quote_of s)) ys → IsUtf8 ys → AreKept s (xs ++ ys)
+pub more_kept : (s : Style) (xs ys : List ℕ) → is_clob s ≡ false → Each (is_plain s) xs → Each (is_raw (is_long s) (quote_of s)) ys → IsUtf8 ys
+    → AreKept s (xs ++ ys)
 more_kept s xs ys text h raw utf8 =
     let front = plain_kept s xs h in
     (each_append (is_raw (is_long s) (quote_of s)) xs ys front.0 raw, IsUtf8-append xs ys front.1 utf8, λ clob. absurd (true≢false (sym clob ∙ text)))
@@ -71,7 +72,8 @@ pub behind_kept : (s : Style) (long : Bool) (quote : ℕ) (octets rest : List �
     → Each (is_plain s) (take ascii octets) → Each (is_raw long quote) (take k rest) → IsUtf8 (take k rest) → AreKept s (take (ascii + k) octets)
 behind_kept s long quote octets rest ascii k e text l q h raw utf8 =
     subst (AreKept s) (ap (λ w. take ascii octets ++ take k w) e ∙ sym (take-add ascii k octets))
-    (more_kept s (take ascii octets) (take k rest) text h (subst (λ b. Each (is_raw b (quote_of s)) (take k rest)) l (subst (λ (n : ℕ). Each (is_raw long n) (take k rest)) q raw)) utf8)
+    (more_kept s (take ascii octets) (take k rest) text h
+    (subst (λ b. Each (is_raw b (quote_of s)) (take k rest)) l (subst (λ (n : ℕ). Each (is_raw long n) (take k rest)) q raw)) utf8)
 
 -- Octets that are kept lead to the text's state between two characters.
 
@@ -106,7 +108,8 @@ low_plain s c low h = raw_low (stands c) (is_long s && (c == 10)) (nat_le 128 c)
 text_no_clob : (s : Style) (c : ℕ) → is_clob s ≡ false → IsTrue (is_clob s) → c < 128
 text_no_clob s c text clob = absurd (true≢false (sym clob ∙ text))
 
-one_kept : (p : Place) (s : Style) (c : ℕ) (kept : List ℕ) → is_clob s ≡ false → scalar c ≡ true → Each (is_raw (is_long s) (quote_of s)) (encode c) → Goes p s within.Plain kept (encode c) within.Plain (kept ++ encode c)
+one_kept : (p : Place) (s : Style) (c : ℕ) (kept : List ℕ) → is_clob s ≡ false → scalar c ≡ true → Each (is_raw (is_long s) (quote_of s)) (encode c)
+    → Goes p s within.Plain kept (encode c) within.Plain (kept ++ encode c)
 one_kept p s c kept text u h = by (order c 128) where
   by : (c < 128) ⊎ (128 ≤ c) → Goes p s within.Plain kept (encode c) within.Plain (kept ++ encode c)
   by (inl low) =
@@ -117,7 +120,8 @@ one_kept p s c kept text u h = by (order c 128) where
       let quote = quote_small s in
       read_raw p s c within.Plain kept (λ o is. tt) u (λ e. omega arith) (λ e. omega arith) (inr (inr (inr (omega arith)))) (text_no_clob s c text) (encoding c (scalar_cases c u))
 
-chars_kept : (p : Place) (s : Style) (cs kept : List ℕ) → is_clob s ≡ false → scalars cs ≡ true → Each (is_raw (is_long s) (quote_of s)) (encodes cs) → Goes p s within.Plain kept (encodes cs) within.Plain (kept ++ encodes cs)
+chars_kept : (p : Place) (s : Style) (cs kept : List ℕ) → is_clob s ≡ false → scalars cs ≡ true → Each (is_raw (is_long s) (quote_of s)) (encodes cs)
+    → Goes p s within.Plain kept (encodes cs) within.Plain (kept ++ encodes cs)
 chars_kept p s [] kept text u h = goes_to p s within.Plain within.Plain [] kept kept (kept ++ []) (sym (append-nil kept)) (goes_none p s within.Plain kept)
 chars_kept p s (c ∷ cs) kept text u h =
     let parts = each_split (is_raw (is_long s) (quote_of s)) (encode c) (encodes cs) h in

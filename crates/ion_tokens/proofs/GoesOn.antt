@@ -111,7 +111,7 @@ run_over p s w some h = by s.mode s.kept s.colon s.start s.used h where
   by m kept colon start used h = run_on p (record { mode = m; kept = kept; colon = colon; start = start; used = used }) w some h
 
 -- where all octets are used, the first one is
-through : (x : Outcome) (f : Known → Outcome) (t : Known) (Q : Type 0) → follow x f ≡ Next t → ((s : Known) → x ≡ Next s → f s ≡ Next t → Q) → Q
+pub through : (x : Outcome) (f : Known → Outcome) (t : Known) (Q : Type 0) → follow x f ≡ Next t → ((s : Known) → x ≡ Next s → f s ≡ Next t → Q) → Q
 through (Next s) f t Q e h = h s refl e
 through (Given _ _) f t Q e h = cc
 through (Left _ _) f t Q e h = cc
@@ -218,15 +218,14 @@ pub looks_on : (piece : List ℕ) (at k : ℕ) (s t : Known) (n m : ℕ) → Tak
 looks_on piece at k s t n m h =
     let rest = take (length piece - at) (drop at piece) in
     let l = length-take k rest in
-    let e = h.counted in
-    let f = front_within (goes_on s.mode) rest in
+    let f = h.within in
     let looked = h.looked in
     omega arith
 
--- Octets with which the mode goes on keep a scanner steady.
-pub going_steady : (w : List ℕ) (s t : Known) (n m : ℕ) → 0 < length w → Each (goes_on s.mode) w → t ≡ gone_on s w → s.used + length w < 2 ^ 63 → m ≡ min (n + length w) (2 ^ 64 - 1) → IsSteady s n → IsSteady t m
-going_steady w s t n m some each is room looked steady = steady_from places.Top w s t n m (run_on places.Top s w some each ∙ ap Next (sym is)) steady room looked
+-- Octets over which the mode goes on keep a scanner steady.
+pub going_steady : (w : List ℕ) (s t : Known) (n m : ℕ) → 0 < length w → GoesOver s.mode w → t ≡ gone_on s w → s.used + length w < 2 ^ 63 → m ≡ min (n + length w) (2 ^ 64 - 1) → IsSteady s n → IsSteady t m
+going_steady w s t n m some over is room looked steady = steady_from places.Top w s t n m (run_over places.Top s w some over ∙ ap Next (sym is)) steady room looked
 
 -- They lead on.
-pub going_led : (w : List ℕ) (s t : Known) → 0 < length w → Each (goes_on s.mode) w → t ≡ gone_on s w → (p : Place) → run p w s ≡ Next t
-going_led w s t some each is p = run_on p s w some each ∙ ap Next (sym is)
+pub going_led : (w : List ℕ) (s t : Known) → 0 < length w → GoesOver s.mode w → t ≡ gone_on s w → (p : Place) → run p w s ≡ Next t
+going_led w s t some over is p = run_over p s w some over ∙ ap Next (sym is)

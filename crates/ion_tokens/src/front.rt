@@ -242,8 +242,8 @@ impl Machine {
         }
     }
 
-    /// How many octets there are at the front of a piece with each of which the mode goes on.
-    pub fn each_front(&self, piece: &[u8]) -> usize
+    // How many octets there are at the front with each of which the mode goes on.
+    fn each_front(&self, piece: &[u8]) -> usize
         ensures { result ≡ length (take_while (goes_on self.now.mode) piece.now) }
     {
         let octets = piece.iter().copied();

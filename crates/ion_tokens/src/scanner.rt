@@ -6,8 +6,7 @@ ghost use Rattle.ion_tokens.specs.machine.Scanning.{Known, Next, run, at_end, in
 ghost use Rattle.ion_tokens.specs.machine.Bounds.{is_idle, debt, IsSteady, StaysSteady};
 ghost use Rattle.ion_tokens.specs.Bodies.{content, IsBody};
 ghost use Rattle.ion_tokens.specs.machine.Views.{known, lexeme_in, scanned, failure, left_in, looks, behind, form_of, begun_in, held_in, open_in, foresight};
-ghost use Rattle.ion_tokens.specs.machine.AtOnce.{goes_on};
-ghost use Rattle.ion_tokens.specs.Lexemes.{Each};
+ghost use Rattle.ion_tokens.specs.machine.AtOnce.{GoesOver};
 ghost use Rattle.ion_tokens.specs.Lexed.{Placed};
 ghost use Rattle.ion_tokens.specs.machine.Foreseen.{Foresees};
 ghost use Rattle.ion_tokens.specs.machine.Lent.{StandIn, BorrowsAt, LendsWhole, OwnsLast};
@@ -355,15 +354,15 @@ impl Scanner {
         machine.used = rest.used;
     }
 
-    /// How many octets there are at the front of a piece with which what is open goes on as it is.
+    /// How many octets there are at the front of a piece over which what is open goes on as it is.
     pub fn front(&self, piece: &[u8]) -> usize
         ensures within { result ≤ length piece.now }
-        ensures each { Each (goes_on (scanned self.now).mode) (take result piece.now) }
+        ensures over { GoesOver (scanned self.now).mode (take result piece.now) }
     {
-        self.machine.each_front(piece)
+        self.machine.front(piece)
     }
 
-    /// Takes up octets with which what is open goes on as it is, one at least. It leads where a step over them leads,
+    /// Takes up octets over which what is open goes on as it is, one at least. It leads where a step over them leads,
     /// which gives no token there.
     ///
     /// `Memory` as in `step`.
@@ -371,7 +370,7 @@ impl Scanner {
     pub fn go_on(&mut self, octets: &[u8]) -> Result<(), Refusal>
         requires room { (scanned self.old).used + length octets.now < 2 ^ 63 }
         requires some { 0 < length octets.now }
-        requires each { Each (goes_on (scanned self.old).mode) octets.now }
+        requires over { GoesOver (scanned self.old).mode octets.now }
         ensures ran { IsNone (failure self.old) → OnOk result ((place : Place) →
             run place octets.now (scanned self.old) ≡ Next (scanned self.new)) }
         ensures steady { OnOk result (IsSteady (scanned self.old) (looks self.old) →

@@ -2,8 +2,7 @@
 //! a comment, and of a further segment of a long string.
 ghost use Rattle.std.specs.Prelude.{◌≡◌, ◌+◌, ◌<◌, ◌≤◌, ◌^◌, length, take, OnOk, IfErr};
 ghost use Rattle.ion_atoms.specs.declared.refusal.Reason.TheVariants.{Memory};
-ghost use Rattle.ion_tokens.specs.machine.AtOnce.{goes_on};
-ghost use Rattle.ion_tokens.specs.Lexemes.{Each};
+ghost use Rattle.ion_tokens.specs.machine.AtOnce.{GoesOver};
 ghost use Rattle.ion_tokens.specs.machine.Views.{scanned};
 ghost use Rattle.ion_text.specs.machine.Run.{run};
 ghost use Rattle.ion_text.specs.machine.Pieces.{led};
@@ -45,7 +44,7 @@ impl TextReader<'_> {
     /// How many octets at the front of a piece it waits over: no more than the limit on items leaves.
     pub(super) fn lull(&self, piece: &[u8]) -> usize
         ensures within { result ≤ length piece.now }
-        ensures each { Each (goes_on (scanned self.now.scanner).mode) (take result piece.now) }
+        ensures over { GoesOver (scanned self.now.scanner).mode (take result piece.now) }
         ensures lull { 0 < result → IsLull self.now.limits (reading_of self.now)
             (scanned self.now.scanner) result }
     {
@@ -63,7 +62,7 @@ impl TextReader<'_> {
         requires fine { IsFine self.old }
         requires room { (scanned self.old.scanner).used + length octets.now < 2 ^ 63 }
         requires some { 0 < length octets.now }
-        requires each { Each (goes_on (scanned self.old.scanner).mode) octets.now }
+        requires over { GoesOver (scanned self.old.scanner).mode octets.now }
         requires lull { IsLull self.old.limits (reading_of self.old) (scanned self.old.scanner)
             (length octets.now) }
         ensures led { OnOk result

@@ -81,7 +81,7 @@ fn behind_annotation(octets: &[u8], count: usize) -> Option<usize>
     Some(between)
 }
 
-// A text in quotes that may be a field's name, if its characters are ASCII and stand as they are.
+// A text in quotes that may be a field's name, if its characters stand as they are.
 pub(super) fn plain_text(octets: &[u8]) -> Option<FoundToken>
     ensures name { IfSome result (λ token. (place : Place) (rest : Rest) →
         BeginsName place rest octets.now token

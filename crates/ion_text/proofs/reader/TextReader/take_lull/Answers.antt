@@ -14,7 +14,7 @@ then_so f (Err refusal) p = tt
 pub returns-clause-led : goal.returns-clause-led
 returns-clause-led c =
     let reader = c.args.self.now in
-    then_so (led_by_lull reader.catalog.now reader.limits (reading_of reader) c.args.octets.now (scanned reader.scanner) (scanned c.go_on.new.self) c.requires.lull c.requires.each)
+    then_so (led_by_lull reader.catalog.now reader.limits (reading_of reader) c.args.octets.now (scanned reader.scanner) (scanned c.go_on.new.self) c.requires.lull c.requires.over)
     c.go_on.result (c.go_on.ensures.ran c.requires.fine)
 
 pub returns-clause-used : goal.returns-clause-used
