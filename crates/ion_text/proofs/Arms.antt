@@ -38,7 +38,7 @@ use Rattle.ion_text.specs.machine.Run.{is_top, with_scan, token_of}
 use Rattle.ion_text.specs.machine.Pieces.{Quiet}
 use Rattle.ion_text.specs.machine.Views.{setting_of, spot_of, state_of, reading_of, open_frames, IsCalm, SameSetting}
 use Rattle.ion_text.specs.machine.AtOnce.{Passes, IsStill, Inside, Strides}
-use Rattle.ion_text.proofs.Passing.{passes_blank, passes_left, passes_given, calm_quiet}
+use Rattle.ion_text.proofs.Passing.{Notices, inner_notices, passes_blank, passes_left, passes_given, calm_quiet}
 use Rattle.ion_text.proofs.Striding.{still_settles}
 
 begun_inner : (start begin : ℕ) (fs : List Frame) (ss : Symbols) → is_top fs ≡ false → begun_at start begin fs ss ≡ start
@@ -82,21 +82,30 @@ module _ (setting : Setting) (spot : Spot) (q : Reading) where
   comma_stays (frames.Fields ss ms ∷ fs) e = went (StaysIn spot.start) _ q e (refl, refl, tt)
 
 -- a token of the machine, where it is found
-module _ (g : Catalog) (l : Limits) (r : Reading) (inner : is_top r.frames ≡ false) (still : settle g l r ≡ goes r) (rest : Rest) (octets : List ℕ) (kind : TokenKind) (kept : List ℕ) (n : ℕ) (c : Content) (q : Reading)
-    (says : said kind kept ≡ Ok c) (turns : turn g l r (token_of (lexeme_at rest kind kept n) c) ≡ goes q) (room : rest.used + length octets ≤ l.item + r.start) where
-  pub left_passes : IsFound (place r) rest octets kind kept n true → Quiet g l r (place r) (resting rest) (take n octets) → Passes g l (with_scan (resting rest) r) octets n (with_scan (resting (past_token (place r) rest kind n)) q)
-  left_passes f quiet =
+module _ (g : Catalog) (l : Limits) (r : Reading) (still : settle g l r ≡ goes r) (rest : Rest) (octets : List ℕ) (kind : TokenKind) (kept : List ℕ) (n : ℕ) (c : Content) (q : Reading)
+    (says : said kind kept ≡ Ok c) (turns : turn g l r (token_of (lexeme_at rest kind kept n) c) ≡ goes q) where
+  pub left_found : IsFound (place r) rest octets kind kept n true → Quiet g l r (place r) (resting rest) (take n octets) → Passes g l (with_scan (resting rest) r) octets n (with_scan (resting (past_token (place r) rest kind n)) q)
+  left_found f quiet =
       let shown = f.shown in
       passes_left g l r still (resting rest) f.known (resting (past_token (place r) rest kind n)) octets n (lexeme_at rest kind kept n) c q shown quiet f.ran says turns refl refl f.ends
 
-  pub given_leads : IsFound (place r) rest octets kind kept n false → Quiet g l r (place r) (resting rest) (take (n - 1) octets) → is_top q.frames ≡ false → q.start ≡ r.start → Passes g l (with_scan (resting rest) r) octets n (with_scan (resting (past_token (place r) rest kind n)) q)
-  given_leads f quiet inside same =
+  pub given_found : IsFound (place r) rest octets kind kept n false → Quiet g l r (place r) (resting rest) (take (n - 1) octets) → (most : ℕ) → Notices l q most → rest.used + length octets ≤ most → Passes g l (with_scan (resting rest) r) octets n (with_scan (resting (past_token (place r) rest kind n)) q)
+  given_found f quiet most notices room =
       let some = f.some in
       let shown = f.shown in
       let last : n - 1 + 1 ≡ n = omega arith in
       let used : rest.used + n ≡ rest.used + (n - 1) + 1 = omega arith in
       subst (λ k. Passes g l (with_scan (resting rest) r) octets k (with_scan (resting (past_token (place r) rest kind n)) q)) last
-      (passes_given g l r still (resting rest) f.known (resting (past_token (place r) rest kind n)) octets (n - 1) (lexeme_at rest kind kept n) c q shown quiet f.ran says turns refl used (omega arith) inside same f.ends)
+      (passes_given g l r still (resting rest) f.known (resting (past_token (place r) rest kind n)) octets (n - 1) (lexeme_at rest kind kept n) c q shown quiet f.ran says turns refl used most notices (omega arith) f.ends)
+
+-- where a container is open
+module _ (g : Catalog) (l : Limits) (r : Reading) (inner : is_top r.frames ≡ false) (still : settle g l r ≡ goes r) (rest : Rest) (octets : List ℕ) (kind : TokenKind) (kept : List ℕ) (n : ℕ) (c : Content) (q : Reading)
+    (says : said kind kept ≡ Ok c) (turns : turn g l r (token_of (lexeme_at rest kind kept n) c) ≡ goes q) (room : rest.used + length octets ≤ l.item + r.start) where
+  pub left_passes : IsFound (place r) rest octets kind kept n true → Quiet g l r (place r) (resting rest) (take n octets) → Passes g l (with_scan (resting rest) r) octets n (with_scan (resting (past_token (place r) rest kind n)) q)
+  left_passes f quiet = left_found g l r still rest octets kind kept n c q says turns f quiet
+
+  pub given_leads : IsFound (place r) rest octets kind kept n false → Quiet g l r (place r) (resting rest) (take (n - 1) octets) → is_top q.frames ≡ false → q.start ≡ r.start → Passes g l (with_scan (resting rest) r) octets n (with_scan (resting (past_token (place r) rest kind n)) q)
+  given_leads f quiet inside same = given_found g l r still rest octets kind kept n c q says turns f quiet (l.item + q.start) (inner_notices l q inside) (omega arith)
 
   pub given_passes : IsFound (place r) rest octets kind kept n false → Quiet g l r (place r) (resting rest) (take (n - 1) octets) → StaysIn r.start q → Passes g l (with_scan (resting rest) r) octets n (with_scan (resting (past_token (place r) rest kind n)) q)
   given_passes f quiet stays = given_leads f quiet stays.0 stays.1
@@ -202,7 +211,7 @@ blank_strides old moved rest behind octets n inside rests there move still withi
     let fits = room old (with_scanner old moved) moved rest behind octets inside rests move same in
     moved_strides old (with_scanner old moved) moved rest behind octets inside rests move same n within (ap (λ (k : Rest). k.used) there ∙ blank_used rest n) (inside.inner, refl, still)
     (subst (λ (k : Rest). Passes old.catalog.now old.limits (with_scan (resting rest) (reading_of old)) octets n (with_scan (resting k) (reading_of old))) (sym there)
-    (passes_blank old.catalog.now old.limits (reading_of old) inside.inner (resting rest) (resting (past_blank rest n)) octets n (omega arith) refl refl (passed (place (reading_of old)) rest) (omega arith) (still_settles old.catalog.now old.limits (reading_of old) still)))
+    (passes_blank old.catalog.now old.limits (reading_of old) (old.limits.item + old.start) (inner_notices old.limits (reading_of old) inside.inner) (resting rest) (resting (past_blank rest n)) octets n (omega arith) refl refl (passed (place (reading_of old)) rest) (omega arith) (still_settles old.catalog.now old.limits (reading_of old) still)))
   where
     same : SameSetting (with_scanner old moved) (with_scanner old moved)
     same = record { catalog = refl; limits = refl; scanner = refl; awaited = refl; failed = refl }

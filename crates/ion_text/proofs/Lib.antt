@@ -19,5 +19,6 @@ pub mod Symbols
 pub mod Innermost
 pub mod Walks
 pub mod Walking
+pub mod Notes
 pub mod Tops
 pub mod Calls

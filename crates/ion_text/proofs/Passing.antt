@@ -9,7 +9,7 @@ use Rattle.ion_symtab.specs.declared.catalog.Catalog.{Catalog}
 use Rattle.ion_tokens.specs.declared.mode.Place.{Place}
 use Rattle.ion_tokens.specs.declared.mode.Mode.TheVariants as modes
 use Rattle.ion_tokens.specs.machine.Scanning as scanning
-use Rattle.ion_tokens.specs.machine.Scanning.{Known, Lexeme, Outcome, Next, Given, Left, Refused, feed, follow}
+use Rattle.ion_tokens.specs.machine.Scanning.{Known, Lexeme, Outcome, Next, Given, Left, Refused, feed}
 use Rattle.ion_tokens.specs.laws.Again.{blank_uses}
 use Rattle.ion_tokens.proofs.Runs.{feed_used, next_used}
 use Rattle.ion_tokens.specs.machine.Bounds.{is_idle}
@@ -170,16 +170,15 @@ top_quiet g l r item calm top bare s rests octets some =
     let counts : base r.frames r.notes r.start (floor s) ≡ floor s = ap (λ fs. base fs r.notes r.start (floor s)) top ∙ ap (λ ss. base [] ss r.start (floor s)) bare in
     quiet_within g l r (floor s) calm (place r) (take 1 octets) s (omega arith) (omega arith) (omega arith)
 
-module _ (g : Catalog) (l : Limits) (r : Reading) (inner : is_top r.frames ≡ false) where
-  pub blank_quiet : (p : Place) (os : List ℕ) (s t : Known) → is_sane s.mode ≡ true → is_idle t.mode ≡ true → scanning.run p os s ≡ Next t → s.used + length os ≤ l.item + r.start → Quiet g l r p s os
-  blank_quiet p [] s t sane idle e room = tt
-  blank_quiet p (o ∷ os) s t sane idle e room =
-      let f = followed (feed p s o) (λ k. scanning.run p os k) t e in
-      let x = follows_as p s o (Next f.0) sane f.1 in
-      let used = feed_used p s f.0 o f.1 in
-      subst (λ x. OnNext x (λ t. (noticed l r t ≡ uses (with_scan t r)) × Quiet g l r p t os)) (sym f.1)
-      (idle_noticed l r f.0 (idle_first p os f.0 t x.0 idle f.2) inner (omega (arith, used)), blank_quiet p os f.0 t x.0 idle f.2 (omega (arith, used)))
+-- what is noticed where no token has begun that surely is one, as long as no more octets than these were used
+abbrev pub Notices : Limits → Reading → ℕ → Type 0
+Notices l r most = (s : Known) → is_idle s.mode ≡ true → s.used ≤ most → noticed l r s ≡ uses (with_scan s r)
 
+-- where a container is open, that the item isn't too long yet
+pub inner_notices : (l : Limits) (r : Reading) → is_top r.frames ≡ false → Notices l r (l.item + r.start)
+inner_notices l r inner s idle room = idle_noticed l r s idle inner room
+
+module _ (g : Catalog) (l : Limits) (r : Reading) where
   blank_waits : (h : Held) (end : ℕ) → r.now ≡ nows.Pending h end → (p : Place) (os : List ℕ) (s t : Known) → is_sane s.mode ≡ true → is_idle t.mode ≡ true → scanning.run p os s ≡ Next t → Waiting g l r p s os
   blank_waits h end now p [] s t sane idle e = tt
   blank_waits h end now p (o ∷ os) s t sane idle e =
@@ -189,22 +188,33 @@ module _ (g : Catalog) (l : Limits) (r : Reading) (inner : is_top r.frames ≡ f
         subst (λ x. OnNext x (λ t. Waiting g l r p t os)) (sym f.1) (blank_waits h end now p os f.0 t x.0 idle f.2),
       )
 
-  module _ (s t : Known) (octets : List ℕ) (n : ℕ) (within : n ≤ length octets) (sane : is_sane s.mode ≡ true) (idle : is_idle t.mode ≡ true) (e : scanning.run (place r) (take n octets) s ≡ Next t) (room : s.used + n ≤ l.item + r.start) where
-    blank_led : Stays g l r (place r) s (take n octets) → Passes g l (with_scan s r) octets n (with_scan t r)
-    blank_led stays =
-        let size = length-take-le n octets within in
-        let used = next_used (place r) (take n octets) s t (sym e) in
-        passes_led g l (with_scan s r) (with_scan t r) octets n within (omega arith)
-        (drive g l (take n octets) s.used r s t e (blank_quiet (place r) (take n octets) s t sane idle e (omega arith)) stays)
+  module _ (most : ℕ) (notices : Notices l r most) where
+    pub blank_quiet : (p : Place) (os : List ℕ) (s t : Known) → is_sane s.mode ≡ true → is_idle t.mode ≡ true → scanning.run p os s ≡ Next t → s.used + length os ≤ most → Quiet g l r p s os
+    blank_quiet p [] s t sane idle e room = tt
+    blank_quiet p (o ∷ os) s t sane idle e room =
+        let f = followed (feed p s o) (λ k. scanning.run p os k) t e in
+        let x = follows_as p s o (Next f.0) sane f.1 in
+        let used = feed_used p s f.0 o f.1 in
+        subst (λ x. OnNext x (λ t. (noticed l r t ≡ uses (with_scan t r)) × Quiet g l r p t os)) (sym f.1)
+        (notices f.0 (idle_first p os f.0 t x.0 idle f.2) (omega (arith, used)), blank_quiet p os f.0 t x.0 idle f.2 (omega (arith, used)))
 
-    -- a blank where nothing waits
-    pub passes_blank : settle g l r ≡ goes r → Passes g l (with_scan s r) octets n (with_scan t r)
-    passes_blank still = blank_led (inl still)
+    module _ (s t : Known) (octets : List ℕ) (n : ℕ) (within : n ≤ length octets) (sane : is_sane s.mode ≡ true) (idle : is_idle t.mode ≡ true) (e : scanning.run (place r) (take n octets) s ≡ Next t) (room : s.used + n ≤ most) where
+      blank_led : Stays g l r (place r) s (take n octets) → Passes g l (with_scan s r) octets n (with_scan t r)
+      blank_led stays =
+          let size = length-take-le n octets within in
+          let used = next_used (place r) (take n octets) s t (sym e) in
+          passes_led g l (with_scan s r) (with_scan t r) octets n within (omega arith)
+          (drive g l (take n octets) s.used r s t e (blank_quiet (place r) (take n octets) s t sane idle e (omega arith)) stays)
 
-    -- a blank behind what may be a symbol
-    pub passes_waiting : (h : Held) (end : ℕ) → r.now ≡ nows.Pending h end → Passes g l (with_scan s r) octets n (with_scan t r)
-    passes_waiting h end now = blank_led (inr (blank_waits h end now (place r) (take n octets) s t sane idle e))
+      -- a blank where nothing waits
+      pub passes_blank : settle g l r ≡ goes r → Passes g l (with_scan s r) octets n (with_scan t r)
+      passes_blank still = blank_led (inl still)
 
+      -- a blank behind what may be a symbol
+      pub passes_waiting : (h : Held) (end : ℕ) → r.now ≡ nows.Pending h end → Passes g l (with_scan s r) octets n (with_scan t r)
+      passes_waiting h end now = blank_led (inr (blank_waits h end now (place r) (take n octets) s t sane idle e))
+
+module _ (g : Catalog) (l : Limits) (r : Reading) (inner : is_top r.frames ≡ false) where
   -- where values or names may come
   pub calm_quiet : IsCalm r.now → (s : Known) → s.mode ≡ modes.Blank → (octets : List ℕ) (n : ℕ) → n ≤ length octets → s.used + n ≤ l.item + r.start → Quiet g l r (place r) s (take n octets)
   calm_quiet calm s rests octets n within room =
@@ -246,13 +256,13 @@ module _ (g : Catalog) (l : Limits) (r : Reading) where
         ∙ (ap (λ a. on_said a (λ c. behind_left again b (turn g l r (token_of x c)))) says
         ∙ (ap (behind_left again b) turns ∙ twice_fuel g l (with_scan b q) octet (blank_twice b octet blank)))) before
 
-    pub passes_given : is_idle b.mode ≡ true → b.used ≡ s.used + n + 1 → s.used + n < l.item + r.start → is_top q.frames ≡ false → q.start ≡ r.start → feed (place r) k octet ≡ Given x b → Passes g l (with_scan s r) octets (n + 1) (with_scan b q)
-    passes_given idle used room inside same f =
+    pub passes_given : is_idle b.mode ≡ true → b.used ≡ s.used + n + 1 → (most : ℕ) → Notices l q most → b.used ≤ most → feed (place r) k octet ≡ Given x b → Passes g l (with_scan s r) octets (n + 1) (with_scan b q)
+    passes_given idle used most notices room f =
         passes_on g l (with_scan s r) (with_scan k r) (with_scan b q) octets n 1 before
         (passes_octet (drop n octets) (let i = length_drop n octets in omega arith) octet (get_drop n octets shown)
         (scans (Given x b) f
         ∙ (ap (λ a. on_said a (λ c. behind_given l b (turn g l r (token_of x c)))) says
-        ∙ (ap (behind_given l b) turns ∙ idle_noticed l q b idle inside (omega (arith, same, used, room))))))
+        ∙ (ap (behind_given l b) turns ∙ notices b idle room))))
       where
         passes_octet : (os : List ℕ) → 0 < length os → (o : ℕ) → get_or os 0 0 ≡ o → eats g l (with_scan k r) o ≡ uses (with_scan b q) → Passes g l (with_scan k r) os 1 (with_scan b q)
         passes_octet os some o e h = passes_one g l (with_scan k r) (with_scan b q) os some (let i = counted in omega (arith, used)) (ap (eats g l (with_scan k r)) e ∙ h)
@@ -265,16 +275,16 @@ module _ (g : Catalog) (l : Limits) (r : Reading) where
         get_drop zero (y ∷ os) h = refl
         get_drop (suc n) (y ∷ os) h = get_drop n os (omega arith)
 
-module _ (g : Catalog) (l : Limits) (r : Reading) (inner : is_top r.frames ≡ false) where
+module _ (g : Catalog) (l : Limits) (r : Reading) where
   -- `::` behind what may be a symbol: its last octet, where the scanner knows this before it
   pub passes_colons : (h : Held) (end : ℕ) → r.now ≡ nows.Pending h end → (k b : Known) (octets : List ℕ) (x : Lexeme) (c : Content) (q : Reading) → 0 < length octets → feed (place r) k (get_or octets 0 0) ≡ Given x b → is_colons x.kind ≡ true → said x.kind x.octets ≡ Ok c → turn g l r (token_of x c) ≡ goes q
-      → is_idle b.mode ≡ true → b.used ≡ k.used + 1 → is_top q.frames ≡ false → b.used ≤ l.item + q.start → Passes g l (with_scan k r) octets 1 (with_scan b q)
-  passes_colons h end now k b octets x c q some f colons says turns idle used inside room =
+      → is_idle b.mode ≡ true → b.used ≡ k.used + 1 → (most : ℕ) → Notices l q most → b.used ≤ most → Passes g l (with_scan k r) octets 1 (with_scan b q)
+  passes_colons h end now k b octets x c q some f colons says turns idle used most notices room =
       passes_one g l (with_scan k r) (with_scan b q) octets some used
       (go_on g l (λ m. takes g l 2 m (get_or octets 0 0)) r k (feed (place r) k (get_or octets 0 0)) (unsettled k r (feed (place r) k (get_or octets 0 0))) (inl waits_on)
       ∙ (ap (on_scan g l (λ m. takes g l 2 m (get_or octets 0 0)) r) f
       ∙ (ap (λ a. on_said a (λ c. behind_given l b (turn g l r (token_of x c)))) says
-      ∙ (ap (behind_given l b) turns ∙ idle_noticed l q b idle inside room))))
+      ∙ (ap (behind_given l b) turns ∙ notices b idle room))))
     where
       waits_on : unsettled k r (feed (place r) k (get_or octets 0 0)) ≡ true
       waits_on = ap (λ y. unsettled k r y) f ∙ (ap (λ n. waits_now (is_top r.frames) n (Given x b) || in_segment n k) now ∙ ap (λ b. b || false) colons)

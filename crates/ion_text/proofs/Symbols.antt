@@ -47,8 +47,8 @@ use Rattle.ion_text.specs.machine.AtOnce.{Passes, IsStill, Inside, Strides}
 use Rattle.ion_text.specs.machine.Run.{is_top, with_scan, token_of}
 use Rattle.ion_text.specs.machine.Pieces.{Quiet}
 use Rattle.ion_text.specs.machine.Views.{setting_of, spot_of, reading_of, open_frames, with_beside, IsCalm, SameSetting}
-use Rattle.ion_text.proofs.Arms.{Moved, StaysIn, with_scanner, spelled_utf8, short_says, word_says, first_of, moved_strides, room, ready_turns, left_passes, given_leads, ended_stays, ended_place, named_stays, released_inner, same_place, name_place, value_strides, mark_says, blank_used, blank_colon, at_drop}
-use Rattle.ion_text.proofs.Passing.{passes_on, passes_blank, passes_waiting, passes_settled, passes_colons, calm_quiet, blank_quiet}
+use Rattle.ion_text.proofs.Arms.{left_found, given_found, Moved, StaysIn, with_scanner, spelled_utf8, short_says, word_says, first_of, moved_strides, room, ready_turns, left_passes, given_leads, ended_stays, ended_place, named_stays, released_inner, same_place, name_place, value_strides, mark_says, blank_used, blank_colon, at_drop}
+use Rattle.ion_text.proofs.Passing.{Notices, inner_notices, passes_on, passes_blank, passes_waiting, passes_settled, passes_colons, calm_quiet, blank_quiet}
 use Rattle.ion_text.proofs.Striding.{still_settles}
 
 -- What the tokens do.
@@ -59,7 +59,7 @@ some_is a b e = cc
 ok_is : (a b : Content) → Path (Result Content Reason) (Ok a) (Ok b) → a ≡ b
 ok_is a b e = cc
 
-waits_so : (setting : Setting) (spot : Spot) (fs : List Frame) (ss : Symbols) (c : Content) (h : Held) → held_of c ≡ Some h → on_ready setting spot fs ss c ≡ goes (at spot.start spot.context fs ss (nows.Pending h spot.end))
+pub waits_so : (setting : Setting) (spot : Spot) (fs : List Frame) (ss : Symbols) (c : Content) (h : Held) → held_of c ≡ Some h → on_ready setting spot fs ss c ≡ goes (at spot.start spot.context fs ss (nows.Pending h spot.end))
 waits_so setting spot fs ss c h e = go c e
   where
     held : (a : Held) → Some a ≡ Some h → goes (at spot.start spot.context fs ss (nows.Pending a spot.end)) ≡ goes (at spot.start spot.context fs ss (nows.Pending h spot.end))
@@ -231,6 +231,77 @@ colon_idle p b octets may colon k e = ap idle_in (sym e) ∙ by octets colon
         ap (λ x. idle_in (follow (acts p (resting b) x (in_blank p b.colon x)) (λ s. Next s))) h
         ∙ ap (λ c. idle_in (follow (acts p (resting b) 58 (in_blank p c 58)) (λ s. Next s))) may
 
+-- An annotation, wherever it may come, with the blank and `::` behind it.
+module _ (g : Catalog) (l : Limits) (r : Reading) (start : ℕ) (now : r.now ≡ nows.Ready) (still : settle g l r ≡ goes r) (rest : Rest) (octets : List ℕ) (kind : TokenKind) (kept : List ℕ) (n m : ℕ) (left : Bool) (c : Content) (held : Held) (s : Option (List ℕ))
+    (found : IsFound (place r) rest octets kind kept n left) (says : said kind kept ≡ Ok c) (holds : held_of c ≡ Some held) (symbol : held_symbol held ≡ Ok s) (passed : IsPassed (drop n octets) m)
+    (within : n + m + 2 < length octets) (one : get_or octets (n + m) 0 ≡ 58) (two : get_or octets (n + m + 1) 0 ≡ 58) where
+  abbrev pub held_back : Reading
+  held_back = at start r.context r.frames r.notes (nows.Pending held (rest.used + n))
+
+  abbrev pub with_note : Reading
+  with_note = at start r.context r.frames (r.notes ++ s ∷ []) nows.Ready
+
+  abbrev past_symbol : Rest
+  past_symbol = past_token (place r) rest kind n
+
+  abbrev past_between : Rest
+  past_between = past_blank past_symbol m
+
+  abbrev past_colons : Rest
+  past_colons = past_token (place r) past_between (kinds.Mark marks.Colons) 2
+
+  module _ (quiet : (k : ℕ) → k ≤ n → Quiet g l r (place r) (resting rest) (take k octets)) (turns : turn g l r (token_of (lexeme_at rest kind kept n) c) ≡ goes held_back)
+      (waits : Notices l held_back (rest.used + length octets)) (notes : Notices l with_note (rest.used + length octets)) where
+    behind_size : length (drop n octets) ≡ length octets - n
+    behind_size = length-drop n octets
+
+    colons_size : length (drop (n + m) octets) ≡ length octets - (n + m)
+    colons_size = length-drop (n + m) octets
+
+    note_is : Passes g l (with_scan (resting rest) r) octets n (with_scan (resting past_symbol) held_back)
+    note_is = by left found
+      where
+        by : (b : Bool) → IsFound (place r) rest octets kind kept n b → Passes g l (with_scan (resting rest) r) octets n (with_scan (resting past_symbol) held_back)
+        by true f = left_found g l r still rest octets kind kept n c held_back says turns f (quiet n (omega arith))
+        by false f = given_found g l r still rest octets kind kept n c held_back says turns f (quiet (n - 1) (omega arith)) (rest.used + length octets) waits (omega arith)
+
+    between_is : Passes g l (with_scan (resting past_symbol) held_back) (drop n octets) m (with_scan (resting past_between) held_back)
+    between_is =
+        let some = behind_size in
+        passes_waiting g l held_back (rest.used + length octets) waits (resting past_symbol) (resting past_between) (drop n octets) m (omega arith) refl refl (passed (place held_back) past_symbol) (omega arith) held (rest.used + n) refl
+
+    may_colons : past_between.colon ≡ true
+    may_colons = blank_colon past_symbol m ∙ symbol_colon (place r) kind kept c held says holds
+
+    same_there : place held_back ≡ place r
+    same_there = same_place r.frames nows.Ready held_back.now refl held (rest.used + n) refl ∙ ap (place_in r.frames) (sym now)
+
+    colons : IsFound (place held_back) past_between (drop (n + m) octets) (kinds.Mark marks.Colons) [] 2 false
+    colons = let some = colons_size in colons_found (place held_back) past_between (drop (n + m) octets) may_colons (omega arith) (at_drop (n + m) octets ∙ one) (next_at (n + m) octets ∙ two)
+
+    first_is : Passes g l (with_scan (resting past_between) held_back) (drop (n + m) octets) 1 (with_scan colons.known held_back)
+    first_is =
+        let some = colons_size in
+        let used = blank_used past_symbol m in
+        passes_waiting g l held_back (rest.used + length octets) waits (resting past_between) colons.known (drop (n + m) octets) 1 (omega arith) refl
+        (colon_idle (place held_back) past_between (drop (n + m) octets) may_colons (at_drop (n + m) octets ∙ one) colons.known colons.ran) colons.ran (omega arith) held (rest.used + n) refl
+
+    second_is : Passes g l (with_scan colons.known held_back) (drop 1 (drop (n + m) octets)) 1 (with_scan (resting past_colons) with_note)
+    second_is =
+        let some = colons_size in
+        let used = blank_used past_symbol m in
+        let rest_of = length-drop 1 (drop (n + m) octets) in
+        let few = length-take-le 1 (drop (n + m) octets) (omega arith) in
+        let counted = next_used (place held_back) (take 1 (drop (n + m) octets)) (resting past_between) colons.known (sym colons.ran) in
+        passes_colons g l held_back held (rest.used + n) refl colons.known (resting past_colons) (drop 1 (drop (n + m) octets)) (lexeme_at past_between (kinds.Mark marks.Colons) [] 2) (Mark' marks.Colons) with_note (omega arith)
+        (ap (feed (place held_back) colons.known) (at_drop 1 (drop (n + m) octets)) ∙ colons.ends) refl (mark_says marks.Colons) (ap (noted start r.context r.frames r.notes) symbol) refl (omega arith) (rest.used + length octets) notes (omega arith)
+
+    pub noted_passes : Passes g l (with_scan (resting rest) r) octets (n + m + 2) (with_scan (resting past_colons) with_note)
+    noted_passes =
+        passes_on g l (with_scan (resting rest) r) (with_scan (resting past_between) held_back) (with_scan (resting past_colons) with_note) octets (n + m) 2
+        (passes_on g l (with_scan (resting rest) r) (with_scan (resting past_symbol) held_back) (with_scan (resting past_between) held_back) octets n m note_is between_is)
+        (passes_on g l (with_scan (resting past_between) held_back) (with_scan colons.known held_back) (with_scan (resting past_colons) with_note) (drop (n + m) octets) 1 1 first_is second_is)
+
 -- The machine over such a token, the blank behind it, and what follows.
 
 named_place : (start : ℕ) (c : List Slot) (q : Reading) (fs : List Frame) (s : Option (List ℕ)) → named start c fs s ≡ goes q → is_name (place_in fs nows.Name) ≡ true
@@ -276,7 +347,7 @@ module _ (g : Catalog) (l : Limits) (r : Reading) (inner : is_top r.frames ≡ f
     is_blank : Passes g l (with_scan (resting behind_token) waiting) (drop n octets) m (with_scan (resting behind_blank) waiting)
     is_blank =
         let some = size in
-        passes_waiting g l waiting inner (resting behind_token) (resting behind_blank) (drop n octets) m (omega arith) refl refl (passed (place waiting) behind_token) (omega arith) held (rest.used + n) refl
+        passes_waiting g l waiting (l.item + r.start) (inner_notices l waiting inner) (resting behind_token) (resting behind_blank) (drop n octets) m (omega arith) refl refl (passed (place waiting) behind_token) (omega arith) held (rest.used + n) refl
 
     is_waiting : Passes g l (with_scan (resting rest) r) octets (n + m) (with_scan (resting behind_blank) waiting)
     is_waiting = passes_on g l (with_scan (resting rest) r) (with_scan (resting behind_token) waiting) (with_scan (resting behind_blank) waiting) octets n m is_token is_blank
@@ -292,7 +363,7 @@ module _ (g : Catalog) (l : Limits) (r : Reading) (inner : is_top r.frames ≡ f
       is_settled : Passes g l (with_scan (resting behind_blank) waiting) (drop (n + m) octets) 0 (with_scan (resting behind_blank) q)
       is_settled =
           let some : length (drop (n + m) octets) ≡ length octets - (n + m) = length-drop (n + m) octets in
-          passes_settled g l waiting inner (resting behind_blank) held (rest.used + n) (drop (n + m) octets) q (omega arith) refl
+          passes_settled g l waiting (resting behind_blank) held (rest.used + n) (drop (n + m) octets) q (omega arith) refl
           (ends_waits (place waiting) behind_blank (get_or (drop (n + m) octets) 0 0) (ap ends_symbol (at_drop (n + m) octets) ∙ ends)) settles (still_settles g l q stays.2)
           (ended_place (under g l) (spot_in r (rest.used + n)) q r.frames (annotated r.notes payload) inner does ∙ (ap (place_in r.frames) (sym now) ∙ sym waits_there))
 
@@ -304,42 +375,14 @@ module _ (g : Catalog) (l : Limits) (r : Reading) (inner : is_top r.frames ≡ f
 
     -- it is an annotation, and `::` follows
     module _ (s : Option (List ℕ)) (symbol : held_symbol held ≡ Ok s) (more : n + m + 2 < length octets) (one : get_or octets (n + m) 0 ≡ 58) (two : get_or octets (n + m + 1) 0 ≡ 58) where
-      abbrev with_note : Reading
-      with_note = at r.start r.context r.frames (r.notes ++ s ∷ []) nows.Ready
+      abbrev noting : Reading
+      noting = at r.start r.context r.frames (r.notes ++ s ∷ []) nows.Ready
 
-      abbrev behind_colons : Rest
-      behind_colons = past_token (place r) behind_blank (kinds.Mark marks.Colons) 2
-
-      left_over : length (drop (n + m) octets) ≡ length octets - (n + m)
-      left_over = length-drop (n + m) octets
-
-      second : get_or (drop (n + m) octets) 1 0 ≡ 58
-      second = next_at (n + m) octets ∙ two
-
-      colons : IsFound (place waiting) behind_blank (drop (n + m) octets) (kinds.Mark marks.Colons) [] 2 false
-      colons = let some = left_over in colons_found (place waiting) behind_blank (drop (n + m) octets) (blank_colon behind_token m ∙ symbol_colon (place r) kind kept c held says holds) (omega arith) (at_drop (n + m) octets ∙ one) second
-
-      is_first : Passes g l (with_scan (resting behind_blank) waiting) (drop (n + m) octets) 1 (with_scan colons.known waiting)
-      is_first =
-          let some = left_over in
-          let used = blank_used behind_token m in
-          passes_waiting g l waiting inner (resting behind_blank) colons.known (drop (n + m) octets) 1 (omega arith) refl
-          (colon_idle (place waiting) behind_blank (drop (n + m) octets) (blank_colon behind_token m ∙ symbol_colon (place r) kind kept c held says holds) (at_drop (n + m) octets ∙ one) colons.known colons.ran) colons.ran (omega arith) held (rest.used + n) refl
-
-      is_second : Passes g l (with_scan colons.known waiting) (drop 1 (drop (n + m) octets)) 1 (with_scan (resting behind_colons) with_note)
-      is_second =
-          let some = left_over in
-          let used = blank_used behind_token m in
-          let rest_of = length-drop 1 (drop (n + m) octets) in
-          let few = length-take-le 1 (drop (n + m) octets) (omega arith) in
-          let counted = next_used (place waiting) (take 1 (drop (n + m) octets)) (resting behind_blank) colons.known (sym colons.ran) in
-          passes_colons g l waiting inner held (rest.used + n) refl colons.known (resting behind_colons) (drop 1 (drop (n + m) octets)) (lexeme_at behind_blank (kinds.Mark marks.Colons) [] 2) (Mark' marks.Colons) with_note (omega arith)
-          (ap (feed (place waiting) colons.known) (at_drop 1 (drop (n + m) octets)) ∙ colons.ends) refl (mark_says marks.Colons) (ap (noted r.start r.context r.frames r.notes) symbol) refl (omega arith) inner (omega arith)
-
-      pub note_passes : Passes g l (with_scan (resting rest) r) octets (n + m + 2) (with_scan (resting behind_colons) with_note)
+      pub note_passes : Passes g l (with_scan (resting rest) r) octets (n + m + 2) (with_scan (resting (past_token (place r) behind_blank (kinds.Mark marks.Colons) 2)) noting)
       note_passes =
-          passes_on g l (with_scan (resting rest) r) (with_scan (resting behind_blank) waiting) (with_scan (resting behind_colons) with_note) octets (n + m) 2 is_waiting
-          (passes_on g l (with_scan (resting behind_blank) waiting) (with_scan colons.known waiting) (with_scan (resting behind_colons) with_note) (drop (n + m) octets) 1 1 is_first is_second)
+          noted_passes g l r r.start now (still_settles g l r still) rest octets kind kept n m left c held s found says holds symbol passed more one two quiet
+          (ready_turns g l r (lexeme_at rest kind kept n) c now inner ∙ waits_so (under g l) (spot_in r (rest.used + n)) r.frames r.notes c held holds)
+          (λ k idle few. inner_notices l waiting inner k idle (omega arith)) (λ k idle few. inner_notices l noting inner k idle (omega arith))
 
   -- where a field's name may come, and its colon
   module _ (now : r.now ≡ nows.Name) (q : Reading) (more : n + m + 1 < length octets) (name : Option (List ℕ)) (names : Names c name)
@@ -361,7 +404,7 @@ module _ (g : Catalog) (l : Limits) (r : Reading) (inner : is_top r.frames ≡ f
     is_key_blank : Passes g l (with_scan (resting behind_token) with_name) (drop n octets) m (with_scan (resting behind_blank) with_name)
     is_key_blank =
         let some = size in
-        passes_blank g l with_name inner (resting behind_token) (resting behind_blank) (drop n octets) m (omega arith) refl refl (passed (place with_name) behind_token) (omega arith) refl
+        passes_blank g l with_name (l.item + r.start) (inner_notices l with_name inner) (resting behind_token) (resting behind_blank) (drop n octets) m (omega arith) refl refl (passed (place with_name) behind_token) (omega arith) refl
 
     may_colon : behind_blank.colon ≡ true
     may_colon = blank_colon behind_token m ∙ name_colon (place r) kind kept c name says names (ap (λ x. is_name (place_in r.frames x)) now ∙ named_place r.start r.context q r.frames name does)
@@ -373,7 +416,7 @@ module _ (g : Catalog) (l : Limits) (r : Reading) (inner : is_top r.frames ≡ f
         let f = colon_found (place with_name) behind_blank (drop (n + m) octets) may_colon (omega arith) (at_drop (n + m) octets ∙ colon) (λ e. one (sym (next_at (n + m) octets) ∙ e)) in
         subst (λ p. Passes g l (with_scan (resting behind_blank) with_name) (drop (n + m) octets) 1 (with_scan (resting (past_token p behind_blank (kinds.Mark marks.Colon) 1)) q)) name_there
         (left_passes g l with_name inner refl behind_blank (drop (n + m) octets) (kinds.Mark marks.Colon) [] 1 (Mark' marks.Colon) q (mark_says marks.Colon) does (omega arith) f
-        (blank_quiet g l with_name inner (place with_name) (take 1 (drop (n + m) octets)) (resting behind_blank) f.known refl (colon_idle (place with_name) behind_blank (drop (n + m) octets) may_colon (at_drop (n + m) octets ∙ colon) f.known f.ran) f.ran (let few = length-take-le 1 (drop (n + m) octets) (omega arith) in omega arith)))
+        (blank_quiet g l with_name (l.item + r.start) (inner_notices l with_name inner) (place with_name) (take 1 (drop (n + m) octets)) (resting behind_blank) f.known refl (colon_idle (place with_name) behind_blank (drop (n + m) octets) may_colon (at_drop (n + m) octets ∙ colon) f.known f.ran) f.ran (let few = length-take-le 1 (drop (n + m) octets) (omega arith) in omega arith)))
 
     pub name_passes : Passes g l (with_scan (resting rest) r) octets (n + m + 1) (with_scan (resting behind_colon) q)
     name_passes =
@@ -441,7 +484,7 @@ in_symbol : Result Payload Reason → Result (Option (List ℕ)) Reason
 in_symbol (Ok (payloads.Symbol x)) = Ok x
 in_symbol _ = Err reasons.KeywordAsName
 
-symbol_held : (h : Held) (s : Option (List ℕ)) → held_payload h ≡ Ok (payloads.Symbol s) → held_symbol h ≡ Ok s
+pub symbol_held : (h : Held) (s : Option (List ℕ)) → held_payload h ≡ Ok (payloads.Symbol s) → held_symbol h ≡ Ok s
 unfolding in_symbol
 symbol_held (helds.Symbol a) s e = ap in_symbol e
 symbol_held (helds.Version ours a) s e = ap in_symbol e

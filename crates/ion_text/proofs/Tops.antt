@@ -1,52 +1,61 @@
--- A struct of the top level that is gone over, with the blank before it.
-use Rattle.std.proofs.Common.{◌≡◌, ℕ, min, ◌+◌, ◌-◌, ◌^◌, ◌<◌, ◌≤◌, true, List, [], ◌∷◌, length, take, drop, get_or, Some, Ok, refl, ap, sym, ◌∙◌, subst, arith, length-drop, inl, inr}
-use Rattle.std.specs.Prelude.{if◌then◌else◌, nat_le}
+-- Items of the top level that are gone over, with the blank before them.
+use Rattle.std.proofs.Common.{◌≡◌, ℕ, min, ◌+◌, ◌-◌, ◌^◌, ◌<◌, ◌≤◌, Bool, true, false, List, [], ◌∷◌, ◌++◌, length, take, drop, get_or, Option, Some, None, Ok, refl, ap, sym, ◌∙◌, subst, arith, length-drop, length-append, inl, inr}
+use Rattle.std.specs.Prelude.{if◌then◌else◌, nat_le, ◌&&◌, IfSome}
 use Rattle.std.specs.Option.{is_some}
 use Rattle.std.proofs.lemmas.Bool.Decides.{nat_tests}
 use Rattle.std.proofs.lemmas.Grind.{common_steps}
-use Rattle.std.proofs.lemmas.List.{length-take-le}
+use Rattle.std.proofs.lemmas.Bool.{cond-true}
+use Rattle.std.proofs.lemmas.List.{length-take-le, drop-take}
 use Rattle.ion_model.specs.declared.value.Value.{Value}
 use Rattle.ion_atoms.specs.declared.refusal.Reason.TheVariants as reasons
 use Rattle.ion_atoms.specs.declared.kind.Kind.{Kind}
 use Rattle.ion_model.specs.declared.outline.Outline.{Outline}
-use Rattle.ion_model.specs.Kinds.{kind_of}
-use Rattle.ion_model.specs.Measures.{bare, depth, nodes}
+use Rattle.ion_model.specs.Kinds.{kind_of, is_table_of, is_table, is_fields}
+use Rattle.ion_model.specs.Measures.{bare, annotated, depth, nodes}
 use Rattle.ion_model.specs.Outlines.{outline_of}
+use Rattle.ion_model.specs.laws.Measures.{depth-out, nodes-out}
 use Rattle.ion_symtab.specs.declared.limits.Limits.{Limits}
 use Rattle.ion_symtab.specs.declared.catalog.Catalog.{Catalog}
 use Rattle.ion_symtab.specs.Slots.{Slot}
+use Rattle.ion_symtab.specs.Next.{next}
+use Rattle.ion_tokens.specs.declared.beside.FoundToken.{FoundToken}
 use Rattle.ion_tokens.specs.declared.mode.Place.TheVariants as places
-use Rattle.ion_tokens.specs.declared.mode.Mark.TheVariants as marks
+use Rattle.ion_tokens.specs.declared.mode.Mark.{Mark}
+use Rattle.ion_tokens.specs.declared.mode.TokenKind.{TokenKind}
 use Rattle.ion_tokens.specs.declared.mode.TokenKind.TheVariants as kinds
 use Rattle.ion_tokens.specs.declared.beside.TokenReader.{TokenReader}
 use Rattle.ion_tokens.specs.declared.scanner.Scanner.{Scanner}
 use Rattle.ion_tokens.specs.declared.whole.Rest.{Rest}
-use Rattle.ion_tokens.specs.Bodies.{Mark'}
-use Rattle.ion_tokens.specs.machine.Rests.{resting, past_blank, past_token, lexeme_at, IsPassed}
-use Rattle.ion_tokens.specs.machine.Scanning.{Known, Outcome, Next, Given, feed}
+use Rattle.ion_tokens.specs.Bodies.{Content, Mark'}
+use Rattle.ion_tokens.specs.machine.Rests.{resting, past_blank, past_token, lexeme_at, IsPassed, IsFound}
+use Rattle.ion_tokens.specs.machine.Said.{said}
+use Rattle.ion_tokens.specs.machine.Scanning.{Known, feed}
 use Rattle.ion_tokens.specs.machine.Scanning as scanning
-use Rattle.ion_tokens.specs.machine.Views.{scanned}
-use Rattle.ion_tokens.proofs.WholeTokens.{fields_open_found}
+use Rattle.ion_tokens.specs.machine.Views.{scanned, begun_in}
+use Rattle.ion_tokens.proofs.Runs.{next_used}
 use Rattle.ion_text.specs.declared.reader.TextReader.{TextReader}
+use Rattle.ion_text.specs.declared.reader.walks.Scalar.{Scalar}
 use Rattle.ion_text.specs.declared.reader.walks.Tally.{Tally}
 use Rattle.ion_text.specs.declared.state.Frame.{Frame}
-use Rattle.ion_text.specs.declared.state.Frame.TheVariants as frames
+use Rattle.ion_text.specs.declared.state.Held.{Held}
 use Rattle.ion_text.specs.declared.state.Now.{Now}
 use Rattle.ion_text.specs.declared.state.Now.TheVariants as nows
 use Rattle.ion_text.specs.machine.AtOnce.{Passes}
-use Rattle.ion_text.specs.machine.EachToken.{under, spot_at, Reading, Symbols, gives, refuses, at, fresh, place, turn}
-use Rattle.ion_text.specs.machine.Nested.{Opens}
-use Rattle.ion_text.specs.machine.Pieces.{led, drive, go_on}
+use Rattle.ion_text.specs.machine.EachToken.{under, spot_at, Reading, Symbols, goes, gives, refuses, at, fresh, place, settle, turn, turned, within, ended, begun_at}
+use Rattle.ion_text.specs.machine.Nested.{Opens, closes}
+use Rattle.ion_text.specs.machine.Pieces.{led, drive, go_on, Quiet}
 use Rattle.ion_text.specs.machine.Progress.{Advances, Stands}
-use Rattle.ion_text.specs.machine.Run.{State, tells, eats, takes, on_scan, on_said, behind_given, unsettled, token_of, run, run_on, with_scan}
-use Rattle.ion_text.specs.machine.Views.{state_of, open_frames, with_beside}
-use Rattle.ion_text.specs.machine.Walked.{IsFresh, most, rested, WalkedContainer}
-use Rattle.ion_text.proofs.Arms.{mark_says, at_drop, blank_used}
-use Rattle.ion_text.proofs.Nested.{close_found, closing}
-use Rattle.ion_text.proofs.Passing.{passes_on, passes_led, passes_left, next_octet, top_quiet}
+use Rattle.ion_text.specs.machine.Run.{State, uses, fails, tells, eats, takes, on_scan, on_said, behind_given, unsettled, reaches, longest_top, is_long_begun, token_of, run, run_on, with_scan}
+use Rattle.ion_text.specs.machine.Views.{state_of, open_frames, with_beside, base}
+use Rattle.ion_text.specs.machine.Walked.{close_of, opened, first_now, behind_note, Ends, IsFresh, IsValue, most, rested, FoundNote, FoundScalar, GivesTop, WalkedBare, WalkedContainer, WalkedNote, WalkedNotes, WalkedTop}
+use Rattle.ion_text.specs.laws.reading.FrontTokens.{held_of}
+use Rattle.ion_text.proofs.Arms.{left_found, given_found, mark_says, at_drop, blank_used}
+use Rattle.ion_text.proofs.Nested.{is_left, open_found, close_found, closing}
+use Rattle.ion_text.proofs.Passing.{Notices, inner_notices, passes_on, passes_none, passes_led, next_octet}
 use Rattle.ion_text.proofs.Stretches.{quiet_within}
 use Rattle.ion_text.proofs.Striding.{still_settles}
-use Rattle.ion_text.proofs.Walking.{open_turns, up_to_close, container_noted}
+use Rattle.ion_text.proofs.Symbols.{held_in, symbol_held, noted_passes, waits_so}
+use Rattle.ion_text.proofs.Walking.{found_within, open_turns, up_to_close, container_noted}
 
 -- a blank at the front of octets
 pub passed_of : (piece front : List ℕ) (n k : ℕ) → front ≡ take k piece → n ≤ k → IsPassed front n → IsPassed piece n
@@ -78,127 +87,361 @@ gives_next g l m n p v piece k within counted passes e =
     none : (n : ℕ) → drop n (take n piece) ≡ []
     none n = grind (arith, common_steps)
 
-abbrev known_in : Outcome → Known → Known
-known_in (Next y) d = y
-known_in _ d = d
+-- behind octets that give nothing, a run over more of them goes on
+pub passes_then : (g : Catalog) (l : Limits) (m n : State) (octets : List ℕ) (a b : ℕ) → 0 < b → Passes g l m octets a n → run g l m.scan.used m (take (a + b) octets) ≡ run g l n.scan.used n (take b (drop a octets))
+passes_then g l m n octets a b some h = h (take (a + b) octets) (front (a + 1) (omega arith)) ∙ ap (run g l n.scan.used n) behind
+  where
+    front : (j : ℕ) → j ≤ a + b → take j (take (a + b) octets) ≡ take j octets
+    front j h = grind (arith, common_steps)
 
-module _ (g : Catalog) (l : Limits) (s : ℕ) (c : List Slot) where
-  abbrev idle : Reading
-  idle = at s c [] [] nows.Ready
+    behind : drop a (take (a + b) octets) ≡ take b (drop a octets)
+    behind = drop-take a b octets
 
-  top_blank : (rest : Rest) (piece : List ℕ) (n : ℕ) → n ≤ length piece → n ≤ l.item → IsPassed piece n → Passes g l (with_scan (resting rest) idle) piece n (with_scan (resting (past_blank rest n)) idle)
-  top_blank rest piece n within few passed =
-      let size = length-take-le n piece within in
-      passes_led g l (with_scan (resting rest) idle) (with_scan (resting (past_blank rest n)) idle) piece n within (blank_used rest n)
-      (drive g l (take n piece) rest.used idle (resting rest) (resting (past_blank rest n)) (passed places.Top rest)
-      (quiet_within g l idle rest.used tt places.Top (take n piece) (resting rest) (omega arith) (omega arith) (omega arith)) (inl refl))
+le_true : (x y : ℕ) → x ≤ y → nat_le x y ≡ true
+le_true x y h = grind (arith, nat_tests)
 
-  top_open : (rest : Rest) (item : List ℕ) → 1 ≤ l.item → 0 < l.depth → 1 < length item → Opens item marks.FieldsOpen
-      → Passes g l (with_scan (resting rest) idle) item 1 (rested (past_token places.Top rest (kinds.Mark marks.FieldsOpen) 1) rest.used c (frames.Fields [] [] ∷ []) [] nows.Name)
-  top_open rest item some deep more opens =
-      let found = fields_open_found places.Top rest item refl more opens.0 opens.1 in
-      passes_left g l idle refl (resting rest) found.known (resting (past_token places.Top rest (kinds.Mark marks.FieldsOpen) 1)) item 1 (lexeme_at rest (kinds.Mark marks.FieldsOpen) [] 1) (Mark' marks.FieldsOpen)
-      (at rest.used c (frames.Fields [] [] ∷ []) [] nows.Name) more (top_quiet g l idle some tt refl refl (resting rest) refl item (omega arith)) found.ran (mark_says marks.FieldsOpen)
-      (open_turns (under g l) (spot_at (rest.used + 1) rest.used c) [] [] item marks.FieldsOpen opens deep) refl refl found.ends
+-- a token whose last octet gives a value
+module _ (g : Catalog) (l : Limits) (r : Reading) (still : settle g l r ≡ goes r) (rest : Rest) (octets : List ℕ) (kind : TokenKind) (kept : List ℕ) (n : ℕ) (c : Content) (v : Value) (q : Reading) (found : IsFound (place r) rest octets kind kept n false)
+    (quiet : Quiet g l r (place r) (resting rest) (take (n - 1) octets)) (says : said kind kept ≡ Ok c) (turns : turn g l r (token_of (lexeme_at rest kind kept n) c) ≡ gives v q) where
+  abbrev last_octet : ℕ
+  last_octet = get_or octets (n - 1) 0
 
-module _ (g : Catalog) (l : Limits) (level : ℕ) (item : List ℕ) (count : ℕ) (before after : Tally) (w : WalkedContainer places.Top marks.FieldsOpen level item count before after) (more : 1 < length item) (opens : Opens item marks.FieldsOpen) where
-  abbrev v : Value
-  v = bare w.inside.payload
+  abbrev behind : Known
+  behind = resting (past_token (place r) rest kind n)
 
-  abbrev start : ℕ
-  start = before.rest.used
+  tells_it : eats g l (with_scan found.known r) last_octet ≡ tells v (with_scan behind q)
+  tells_it =
+      go_on g l (λ m. takes g l 2 m last_octet) r found.known (feed (place r) found.known last_octet) (unsettled found.known r (feed (place r) found.known last_octet)) (inr still)
+      ∙ (ap (on_scan g l (λ m. takes g l 2 m last_octet) r) found.ends
+      ∙ (ap (λ a. on_said a (λ c. behind_given l behind (turn g l r (token_of (lexeme_at rest kind kept n) c)))) says
+      ∙ ap (behind_given l behind) turns))
 
-  -- the close gives the value
-  close_tells : (c : List Slot) (octets : List ℕ) → 0 < length octets → get_or octets 0 0 ≡ 125 → w.last.rest.used + 1 ≤ start + l.item
-      → eats g l (rested w.last.rest start c (w.inside.whole [] ∷ []) [] w.inside.now) (get_or octets 0 0) ≡ tells v (rested after.rest 0 c [] [] nows.Ready)
-  close_tells c octets some first fits =
-      let k = at start c (w.inside.whole [] ∷ []) [] w.inside.now in
-      let rest = w.last.rest in
-      let o = get_or octets 0 0 in
-      let shut = closing g l rest.used (rest.used + 1) start c marks.FieldsClose (w.inside.whole [] ∷ []) w.inside.now (w.inside.closes [] []) in
-      let found = close_found marks.FieldsClose (w.inside.whole [] ∷ []) w.inside.now rest octets (w.inside.closes [] []) some first in
-      let known : found.known ≡ resting rest = sym (ap (λ x. known_in x (resting rest)) found.ran) in
-      let x = lexeme_at rest (kinds.Mark marks.FieldsClose) [] 1 in
-      let b = resting (past_token (place k) rest (kinds.Mark marks.FieldsClose) 1) in
-      let fed : feed (place k) (resting rest) o ≡ Given x b = ap (λ y. feed (place k) y o) (sym known) ∙ found.ends in
-      let turns : turn g l k (token_of x (Mark' marks.FieldsClose)) ≡ gives v (fresh c) = shut.0 ∙ (w.inside.closed (under g l) (spot_at (rest.used + 1) start c) [] [] ∙ ap (λ b. if b then gives v (fresh c) else refuses reasons.ItemTooLong) (fitting (rest.used + 1) (start + l.item) fits)) in
-      let there : b ≡ resting after.rest = ap resting (sym (ap (λ (t : Tally). t.rest) w.shuts)) in
-      go_on g l (λ m. takes g l 2 m o) k (resting rest) (feed (place k) (resting rest) o) (unsettled (resting rest) k (feed (place k) (resting rest) o)) (inr (still_settles g l k shut.1))
-      ∙ (ap (on_scan g l (λ m. takes g l 2 m o) k) fed
-      ∙ (ap (λ a. on_said a (λ c. behind_given l b (turn g l k (token_of x c)))) (mark_says marks.FieldsClose)
-      ∙ (ap (behind_given l b) turns ∙ ap (λ s. tells v (with_scan s (fresh c))) there)))
+  pub token_gives : run g l rest.used (with_scan (resting rest) r) (take n octets) ≡ record { given = (v, rest.used + n) ∷ []; now = Ok (with_scan behind q) }
+  token_gives =
+      let some = found.some in
+      let shown = found.shown in
+      let size = length-take-le (n - 1) octets (omega arith) in
+      let counted = next_used (place r) (take (n - 1) octets) (resting rest) found.known (sym found.ran) in
+      let used : found.known.used ≡ rest.used + (n - 1) = omega arith in
+      let last : n - 1 + 1 ≡ n = omega arith in
+      subst (λ j. run g l rest.used (with_scan (resting rest) r) (take j octets) ≡ record { given = (v, rest.used + j) ∷ []; now = Ok (with_scan behind q) }) last
+      (gives_next g l (with_scan (resting rest) r) (with_scan found.known r) (with_scan behind q) v octets (n - 1) shown used
+      (passes_led g l (with_scan (resting rest) r) (with_scan found.known r) octets (n - 1) (omega arith) used
+      (drive g l (take (n - 1) octets) rest.used r (resting rest) found.known found.ran quiet (inl still))) tells_it)
+
+-- a whole value of the top level is given
+top_ended : (g : Catalog) (l : Limits) (end start : ℕ) (c : List Slot) (v : Value) → is_table v ≡ false → end ≤ start + l.item → ended (under g l) (spot_at end start c) [] v ≡ gives v (fresh c)
+top_ended g l end start c v free room =
+    ap (λ b. if b then turned l.item start end (next c v g) else within l.item start end (gives v (fresh c))) free
+    ∙ ap (λ b. if b then gives v (fresh c) else refuses reasons.ItemTooLong) (le_true end (start + l.item) room)
+
+-- where an item begins behind these annotations of it
+base_begun : (start begin : ℕ) (ss : Symbols) → base [] ss start begin ≡ begun_at start begin [] ss
+base_begun start begin [] = refl
+base_begun start begin (s ∷ ss) = refl
+
+begun_more : (start begin : ℕ) (ss : Symbols) (s : Option (List ℕ)) → begun_at start begin [] (ss ++ s ∷ []) ≡ start
+begun_more start begin [] s = refl
+begun_more start begin (x ∷ ss) s = refl
+
+module _ (g : Catalog) (l : Limits) (start : ℕ) (c : List Slot) (ss : Symbols) where
+  abbrev on_top : Reading
+  on_top = at start c [] ss nows.Ready
+
+  abbrev begin : ℕ → ℕ
+  begin used = begun_at start used [] ss
+
+  top_quiet : (rest : Rest) (octets : List ℕ) (n : ℕ) → n ≤ length octets → rest.used + n ≤ l.item + begin rest.used → Quiet g l on_top places.Top (resting rest) (take n octets)
+  top_quiet rest octets n within room =
+      let size = length-take-le n octets within in
+      let is = base_begun start rest.used ss in
+      quiet_within g l on_top rest.used tt places.Top (take n octets) (resting rest) (omega arith) (omega arith) (omega arith)
+
+  top_blank : (rest : Rest) (piece : List ℕ) (n : ℕ) → n ≤ length piece → rest.used + n ≤ l.item + begin rest.used → IsPassed piece n → Passes g l (rested rest start c [] ss nows.Ready) piece n (rested (past_blank rest n) start c [] ss nows.Ready)
+  top_blank rest piece n within room passed =
+      passes_led g l (rested rest start c [] ss nows.Ready) (rested (past_blank rest n) start c [] ss nows.Ready) piece n within (blank_used rest n)
+      (drive g l (take n piece) rest.used on_top (resting rest) (resting (past_blank rest n)) (passed places.Top rest) (top_quiet rest piece n within room) (inl refl))
+
+  -- a container opens
+  abbrev opening : Rest → Mark → Reading
+  opening rest m = at (begin rest.used) c (opened m ss ∷ []) [] (first_now m)
+
+  top_open : (rest : Rest) (octets : List ℕ) (m : Mark) → 0 < l.depth → 1 < length octets → Opens octets m → rest.used + length octets ≤ l.item + begin rest.used
+      → Passes g l (rested rest start c [] ss nows.Ready) octets 1 (rested (past_token places.Top rest (kinds.Mark m) 1) (begin rest.used) c (opened m ss ∷ []) [] (first_now m))
+  top_open rest octets m deep more opens room = by (is_left m) (open_found m places.Top rest octets opens more refl)
     where
-      fitting : (x y : ℕ) → x ≤ y → nat_le x y ≡ true
-      fitting x y h = grind (arith, nat_tests)
+      turns : turn g l on_top (token_of (lexeme_at rest (kinds.Mark m) [] 1) (Mark' m)) ≡ goes (opening rest m)
+      turns = open_turns (under g l) (spot_at (rest.used + 1) (begin rest.used) c) [] ss octets m opens deep
 
-  module _ (s : ℕ) (c : List Slot) (rest : Rest) (piece : List ℕ) (n k : ℕ) (is : item ≡ take k (drop n piece)) (within : n ≤ length piece) (blank : n ≤ l.item) (few : length item ≤ l.item) (size : length item ≡ min k (length piece - n)) (passed : IsPassed piece n)
-      (begins : before.rest ≡ past_blank rest n) (deep : level ≤ l.depth) where
+      by : (b : Bool) → IsFound places.Top rest octets (kinds.Mark m) [] 1 b → Passes g l (rested rest start c [] ss nows.Ready) octets 1 (rested (past_token places.Top rest (kinds.Mark m) 1) (begin rest.used) c (opened m ss ∷ []) [] (first_now m))
+      by true f = left_found g l on_top refl rest octets (kinds.Mark m) [] 1 (Mark' m) (opening rest m) (mark_says m) turns f (top_quiet rest octets 1 (omega arith) (omega arith))
+      by false f = given_found g l on_top refl rest octets (kinds.Mark m) [] 1 (Mark' m) (opening rest m) (mark_says m) turns f tt (l.item + begin rest.used) (inner_notices l (opening rest m) refl) room
+
+  -- and its close gives the value
+  module _ (level : ℕ) (octets : List ℕ) (count : ℕ) (before after : Tally) (m : Mark) (w : WalkedContainer places.Top m level octets count before after) (more : 1 < length octets) (opens : Opens octets m) (deep : level ≤ l.depth)
+      (room : before.rest.used + length octets ≤ l.item + begin before.rest.used) (free : is_table (annotated ss w.inside.payload) ≡ false) where
+    abbrev v : Value
+    v = annotated ss w.inside.payload
+
     abbrev first : State
-    first = rested rest s c [] [] nows.Ready
+    first = rested before.rest start c [] ss nows.Ready
 
     abbrev mid : State
-    mid = rested before.rest s c [] [] nows.Ready
+    mid = rested (past_token places.Top before.rest (kinds.Mark m) 1) (begin before.rest.used) c (opened m ss ∷ []) [] (first_now m)
 
-    abbrev open' : State
-    open' = rested (past_token places.Top before.rest (kinds.Mark marks.FieldsOpen) 1) start c (frames.Fields [] [] ∷ []) [] nows.Name
+    abbrev inner : Reading
+    inner = at (begin before.rest.used) c (w.inside.whole ss ∷ []) [] w.inside.now
 
     abbrev last : State
-    last = rested w.last.rest start c (w.inside.whole [] ∷ []) [] w.inside.now
+    last = with_scan (resting w.last.rest) inner
 
-    begun : start ≡ rest.used + n
-    begun = ap (λ (r : Rest). r.used) begins ∙ blank_used rest n
+    abbrev close : Mark
+    close = close_of m
 
-    behind_is : w.behind + 1 < length item
-    behind_is = let inside = w.inside.within in let long : length (drop 1 item) ≡ length item - 1 = length-drop 1 item in omega arith
+    abbrev at_close : List ℕ
+    at_close = drop (1 + w.behind) octets
 
-    last_used : w.last.rest.used ≡ start + 1 + w.behind
-    last_used = let used = w.inside.used in let f : w.first.rest.used ≡ start + 1 = ap (λ (t : Tally). t.rest.used) w.opens in omega arith
+    at_close_is : at_close ≡ drop w.behind (drop 1 octets)
+    at_close_is = grind (arith, common_steps)
 
-    up_to : Passes g l first piece (n + (1 + w.behind)) last
+    behind_is : w.behind + 1 < length octets
+    behind_is = let inside = w.inside.within in let long : length (drop 1 octets) ≡ length octets - 1 = length-drop 1 octets in omega arith
+
+    close_size : length at_close ≡ length octets - (1 + w.behind)
+    close_size = length-drop (1 + w.behind) octets
+
+    last_used : w.last.rest.used ≡ before.rest.used + 1 + w.behind
+    last_used = let used = w.inside.used in let f : w.first.rest.used ≡ before.rest.used + 1 = ap (λ (t : Tally). t.rest.used) w.opens in omega arith
+
+    up_to : Passes g l first octets (1 + w.behind) last
     up_to =
         let some = w.some in
-        let fits = behind_is in
-        passes_on g l first mid last piece n (1 + w.behind)
-        (subst (λ r. Passes g l first piece n (rested r s c [] [] nows.Ready)) (sym begins) (top_blank g l s c rest piece n within blank passed))
-        (passes_front g l mid last (drop n piece) k (1 + w.behind) (omega (arith, size))
-        (subst (λ i. Passes g l mid i (1 + w.behind) last) is
-        (passes_on g l mid open' last item 1 w.behind (top_open g l s c before.rest item (omega arith) (omega arith) more opens)
-        (up_to_close places.Top marks.FieldsOpen level item count before after w more opens g l start c [] [] (omega arith) (omega arith)))))
+        passes_on g l first mid last octets 1 w.behind (top_open before.rest octets m (omega arith) more opens room)
+        (up_to_close places.Top m level octets count before after w more opens g l (begin before.rest.used) c ss [] (omega arith) room)
 
-    close_at : get_or piece (n + (1 + w.behind)) 0 ≡ 125
-    close_at =
-        let fits = behind_is in
-        let a : get_or (drop 1 item) w.behind 0 ≡ 125 = w.inside.close in
-        let b : get_or item (1 + w.behind) 0 ≡ 125 = sym (further 1 w.behind item) ∙ a in
-        let d : get_or (take k (drop n piece)) (1 + w.behind) 0 ≡ 125 = ap (λ i. get_or i (1 + w.behind) 0) (sym is) ∙ b in
-        sym (further n (1 + w.behind) piece) ∙ (sym (kept (drop n piece) (1 + w.behind) (omega (arith, size))) ∙ d)
-      where
-        further : (a b : ℕ) (w : List ℕ) → get_or (drop a w) b 0 ≡ get_or w (a + b) 0
-        further a b w = grind (arith, common_steps)
-
-        kept : (w : List ℕ) (j : ℕ) → j < k → get_or (take k w) j 0 ≡ get_or w j 0
-        kept w j h = grind (arith, common_steps)
-
-    pub top_runs : (n + count ≤ length piece) × ((0 < n + count) × (run g l rest.used first (take (n + count) piece) ≡ record { given = (v, rest.used + (n + count)) ∷ []; now = Ok (rested after.rest 0 c [] [] nows.Ready) }))
-    top_runs =
-        let fits = behind_is in
+    close_gives : run g l w.last.rest.used last (take 1 at_close) ≡ record { given = (v, w.last.rest.used + 1) ∷ []; now = Ok (with_scan (resting (past_token (place inner) w.last.rest (kinds.Mark close) 1)) (fresh c)) }
+    close_gives =
         let used = last_used in
-        let front = begun in
-        let total = w.total in
-        let all : n + (1 + w.behind) + 1 ≡ n + count = omega arith in
-        let at_end : n + (1 + w.behind) < length piece = omega (arith, size) in
-        let octet = close_at in
-        let rest_of : length (drop (n + (1 + w.behind)) piece) ≡ length piece - (n + (1 + w.behind)) = length-drop (n + (1 + w.behind)) piece in
-        let one = at_drop (n + (1 + w.behind)) piece in
-        let e : eats g l last (get_or piece (n + (1 + w.behind)) 0) ≡ tells v (rested after.rest 0 c [] [] nows.Ready) =
-        subst (λ o. eats g l last o ≡ tells v (rested after.rest 0 c [] [] nows.Ready)) one (close_tells c (drop (n + (1 + w.behind)) piece) (omega arith) (one ∙ octet) (omega arith)) in (
-          omega arith,
-          (
-            omega arith,
-            subst (λ j. run g l rest.used first (take j piece) ≡ record { given = (v, rest.used + j) ∷ []; now = Ok (rested after.rest 0 c [] [] nows.Ready) }) all
-                (gives_next g l first last (rested after.rest 0 c [] [] nows.Ready) v piece (n + (1 + w.behind)) at_end (omega arith) up_to e),
-          ),
-        )
+        let fits = behind_is in
+        let size = close_size in
+        let shut = closing g l w.last.rest.used (w.last.rest.used + 1) (begin before.rest.used) c close (w.inside.whole ss ∷ []) w.inside.now (w.inside.closes ss []) in
+        token_gives g l inner (still_settles g l inner shut.1) w.last.rest at_close (kinds.Mark close) [] 1 (Mark' close) v (fresh c)
+        (close_found close (w.inside.whole ss ∷ []) w.inside.now w.last.rest at_close (w.inside.closes ss []) (omega arith) (ap (λ w. get_or w 0 0) at_close_is ∙ (at_drop w.behind (drop 1 octets) ∙ w.inside.close))) tt (mark_says close)
+        (shut.0 ∙ (w.inside.closed (under g l) (spot_at (w.last.rest.used + 1) (begin before.rest.used) c) ss [] ∙ top_ended g l (w.last.rest.used + 1) (begin before.rest.used) c v free (omega arith)))
+
+    pub container_gives : GivesTop g l before.rest start c ss octets count after.rest v
+    container_gives =
+        let used = last_used in
+        let all : 1 + w.behind + 1 ≡ count = let t = w.total in omega arith in
+        let end : w.last.rest.used + 1 ≡ before.rest.used + (1 + w.behind + 1) = omega arith in
+        let there : past_token (place inner) w.last.rest (kinds.Mark close) 1 ≡ after.rest = sym (ap (λ (t : Tally). t.rest) w.shuts) in
+        subst (λ j. GivesTop g l before.rest start c ss octets j after.rest v) all
+        (passes_then g l first last octets (1 + w.behind) 1 (omega arith) up_to
+        ∙ (close_gives
+        ∙ (ap (λ j. record { given = (v, j) ∷ []; now = Ok (with_scan (resting (past_token (place inner) w.last.rest (kinds.Mark close) 1)) (fresh c)) }) end
+        ∙ ap (λ r. record { given = (v, before.rest.used + (1 + w.behind + 1)) ∷ []; now = Ok (rested r 0 c [] [] nows.Ready) }) there)))
+
+  -- so does a token whose last octet shows its end
+  pub scalar_gives : (rest : Rest) (octets : List ℕ) (s : Scalar) (f : FoundScalar places.Top rest octets s) → s.waits ≡ false → s.token.left ≡ false → rest.used + length octets ≤ l.item + begin rest.used → is_table (annotated ss f.payload) ≡ false
+      → GivesTop g l rest start c ss octets s.token.count (past_token places.Top rest s.token.kind s.token.count) (annotated ss f.payload)
+  scalar_gives rest octets s f ends given room free =
+      let n = s.token.count in
+      let found : IsFound places.Top rest octets s.token.kind f.kept n false = subst (λ b. IsFound places.Top rest octets s.token.kind f.kept n b) given f.found in
+      let some = found.some in
+      let shown = found.shown in
+      let is : Ends f.content f.payload = subst (λ b. IsValue b f.content f.payload) ends f.is in
+      token_gives g l on_top refl rest octets s.token.kind f.kept n f.content (annotated ss f.payload) (fresh c) found (top_quiet rest octets (n - 1) (omega arith) (omega arith)) f.says
+      (is (under g l) (spot_at (rest.used + n) (begin rest.used) c) [] ss ∙ top_ended g l (rest.used + n) (begin rest.used) c (annotated ss f.payload) free (omega arith))
+
+-- what waits behind an annotation, or behind `::`, isn't too long
+waits_notices : (l : Limits) (start : ℕ) (c : List Slot) (ss : Symbols) (h : Held) (end most : ℕ) → end ≤ start + l.item → Notices l (at start c [] ss (nows.Pending h end)) most
+waits_notices l start c ss h end most room s idle few = ap (λ b. if b then uses (with_scan s (at start c [] ss (nows.Pending h end))) else fails reasons.ItemTooLong) (le_true (end - start) l.item (omega arith))
+
+noted_notices : (l : Limits) (start : ℕ) (c : List Slot) (ss : Symbols) (x : Option (List ℕ)) → Notices l (at start c [] (ss ++ x ∷ []) nows.Ready) (l.item + start)
+noted_notices l start c ss x s idle few =
+    ap (λ b. if b then uses (with_scan s (at start c [] (ss ++ x ∷ []) nows.Ready)) else fails reasons.ItemTooLong) (le_true (reaches [] (at start c [] (ss ++ x ∷ []) nows.Ready) s) l.item (let e = reach ss in omega arith))
+  where
+    none : begun_in s ≡ None
+    none = cond-true _ _ _ idle
+
+    reach : (ss : Symbols) → reaches [] (at start c [] (ss ++ x ∷ []) nows.Ready) s ≡ s.used - start
+    reach [] = ap (λ b. longest_top start s.used nows.Ready (x ∷ []) b (is_long_begun b)) none
+    reach (y ∷ ss) = ap (λ b. longest_top start s.used nows.Ready (y ∷ (ss ++ x ∷ [])) b (is_long_begun b)) none
+
+-- an annotation of the top level
+module _ (octets : List ℕ) (token : FoundToken) (f : FoundNote octets token) (m : ℕ) (within : token.count + m + 2 < length octets) (passed : IsPassed (drop token.count octets) m) (one : get_or octets (token.count + m) 0 ≡ 58) (two : get_or octets (token.count + m + 1) 0 ≡ 58) where
+  note_leads : (g : Catalog) (l : Limits) (start : ℕ) (c : List Slot) (ss : Symbols) (rest : Rest) → rest.used + length octets ≤ l.item + begun_at start rest.used [] ss
+      → Passes g l (rested rest start c [] ss nows.Ready) octets (token.count + m + 2) (rested (behind_note rest token m) (begun_at start rest.used [] ss) c [] (ss ++ f.name ∷ []) nows.Ready)
+  note_leads g l start c ss rest room =
+      let b = f.begins places.Top rest in
+      let n = token.count in
+      let start' = begun_at start rest.used [] ss in
+      let pays = held_in (held_of b.content) _ b.pays in
+      noted_passes g l (at start c [] ss nows.Ready) start' refl refl rest octets token.kind b.kept n m token.left b.content pays.0 f.name b.found b.says pays.1 (symbol_held pays.0 f.name pays.2) passed within one two
+      (λ k few. top_quiet g l start c ss rest octets k (omega arith) (omega arith))
+      (waits_so (under g l) (spot_at (rest.used + n) start' c) [] ss b.content pays.0 pays.1)
+      (waits_notices l start' c ss pays.0 (rest.used + n) (rest.used + length octets) (omega arith))
+      (λ k idle few. noted_notices l start' c ss f.name k idle (omega arith))
+
+  note_used : (rest : Rest) → (behind_note rest token m).used ≡ rest.used + (token.count + m + 2)
+  note_used rest = let used = blank_used (past_token places.Top rest token.kind token.count) m in omega arith
+
+  -- with a blank behind it, and what is noted
+  pub walked_note : (before mid after : Tally) (n : ℕ) (behind : List ℕ) → behind ≡ drop (token.count + m + 2) octets → n ≤ length behind → IsPassed behind n
+      → mid ≡ record { kind = before.kind; level = before.level; nodes = min (before.nodes + 1) most; rest = behind_note before.rest token m } → after ≡ record { kind = mid.kind; level = mid.level; nodes = mid.nodes; rest = past_blank mid.rest n }
+      → WalkedNote octets (token.count + m + 2 + n) before after
+  walked_note before mid after n behind is few blank em ea =
+      let size : length behind ≡ length octets - (token.count + m + 2) = ap (λ (w : List ℕ). length w) is ∙ length-drop (token.count + m + 2) octets in
+      let counted = note_used before.rest in
+      let last = blank_used (behind_note before.rest token m) n in
+      rw (ea, em) (record {
+        name = f.name;
+        leads = λ g l start c ss room.
+            let start' = begun_at start before.rest.used [] ss in
+            let same = begun_more start' (behind_note before.rest token m).used ss f.name in
+            passes_on g l (rested before.rest start c [] ss nows.Ready) (rested (behind_note before.rest token m) start' c [] (ss ++ f.name ∷ []) nows.Ready) (rested (past_blank (behind_note before.rest token m) n) start' c [] (ss ++ f.name ∷ []) nows.Ready) octets (token.count + m + 2) n
+            (note_leads g l start c ss before.rest room)
+            (subst (λ w. Passes g l (rested (behind_note before.rest token m) start' c [] (ss ++ f.name ∷ []) nows.Ready) w n (rested (past_blank (behind_note before.rest token m) n) start' c [] (ss ++ f.name ∷ []) nows.Ready)) is
+            (top_blank g l start' c (ss ++ f.name ∷ []) (behind_note before.rest token m) behind n few (omega arith) blank));
+        within = omega arith;
+        used = omega arith;
+        free = f.free;
+        left = refl;
+        counted = omega arith;
+      })
+
+-- none
+pub notes_none : (octets : List ℕ) (before : Tally) → WalkedNotes octets 0 before before
+notes_none octets before = record {
+  notes = [];
+  leads = λ g l start c few. (start, refl, passes_none g l (rested before.rest start c [] [] nows.Ready) octets);
+  within = omega arith;
+  used = omega arith;
+  free = λ k. refl;
+  left = refl;
+  counted = ap (λ n. min n most) (let i : before.nodes ≡ before.nodes + 0 = omega arith in i);
+}
+
+-- one more
+pub notes_on : (octets rest : List ℕ) (a b : ℕ) (before mid after : Tally) → rest ≡ drop a octets → WalkedNotes octets a before mid → WalkedNote rest b mid after → WalkedNotes octets (a + b) before after
+notes_on octets rest a b before mid after is w x =
+    let size : length rest ≡ length octets - a = ap (λ (w : List ℕ). length w) is ∙ length-drop a octets in
+    let within = w.within in
+    let within' = x.within in
+    let used = w.used in
+    let used' = x.used in
+    let counted = w.counted in
+    let counted' = x.counted in
+    let more : length (w.notes ++ x.name ∷ []) ≡ length w.notes + 1 = length-append w.notes (x.name ∷ []) in
+    record {
+      notes = w.notes ++ x.name ∷ [];
+      leads = λ g l start c few.
+          let y = w.leads g l start c few in
+          let begins = y.1 in (
+            before.rest.used,
+            begun_more before.rest.used after.rest.used w.notes x.name,
+            subst (λ k. Passes g l (rested before.rest start c [] [] nows.Ready) octets (a + b) (rested after.rest k c [] (w.notes ++ x.name ∷ []) nows.Ready)) begins
+                (passes_on g l (rested before.rest start c [] [] nows.Ready) (rested mid.rest y.0 c [] w.notes nows.Ready) (rested after.rest (begun_at y.0 mid.rest.used [] w.notes) c [] (w.notes ++ x.name ∷ []) nows.Ready) octets a b y.2
+                (subst (λ o. Passes g l (rested mid.rest y.0 c [] w.notes nows.Ready) o b (rested after.rest (begun_at y.0 mid.rest.used [] w.notes) c [] (w.notes ++ x.name ∷ []) nows.Ready)) is
+                (x.leads g l y.0 c w.notes (omega arith)))),
+          );
+      within = omega arith;
+      used = omega arith;
+      free = free w.notes w.free;
+      left = x.left ∙ w.left;
+      counted = omega arith;
+    }
+  where
+    free : (ss : Symbols) → ((k : Kind) → is_table_of ss k ≡ false) → (k : Kind) → is_table_of (ss ++ x.name ∷ []) k ≡ false
+    free [] h k = ap (λ b. b && is_fields k) x.free
+    free (s ∷ ss) h k = h k
+
+-- values behind them
+
+pub walked_bare : (level : ℕ) (octets : List ℕ) (count : ℕ) (before after : Tally) (m : Mark) → WalkedContainer places.Top m level octets count before after → 1 < length octets → Opens octets m → before.level ≤ level → WalkedBare level octets count before after
+walked_bare level octets count before after m w more opens low =
+    let inside = w.inside.within in
+    let total = w.total in
+    let long : length (drop 1 octets) ≡ length octets - 1 = length-drop 1 octets in
+    let some = w.some in
+    let deep = w.inside.deep in
+    let nodes_are : after.nodes ≡ min (w.last.nodes + 1) most = ap (λ (t : Tally). t.nodes) w.shuts in
+    let begun : w.first.rest.used ≡ before.rest.used + 1 = ap (λ (t : Tally). t.rest.used) w.opens in
+    let shut : after.rest.used ≡ w.last.rest.used + 1 = ap (λ (t : Tally). t.rest.used) w.shuts in
+    let used = w.inside.used in
+    record {
+      payload = w.inside.payload;
+      gives = λ g l start c ss deep room free. container_gives g l start c ss level octets count before after m w more opens deep room free;
+      some = omega arith;
+      within = omega arith;
+      used = omega arith;
+      deep = omega arith;
+      few = omega arith;
+      noted = container_noted places.Top m level octets count before after w more opens low;
+    }
+
+pub walked_bares : (level : ℕ) (octets : List ℕ) (before after : Tally) (m : Mark) (r : Option ℕ) → IfSome r (λ n. WalkedContainer places.Top m level octets n before after) → 1 < length octets → Opens octets m → before.level ≤ level → IfSome r (λ n. WalkedBare level octets n before after)
+walked_bares level octets before after m None w more opens low = w
+walked_bares level octets before after m (Some n) w more opens low = walked_bare level octets n before after m w more opens low
+
+pub bare_scalar : (level : ℕ) (octets : List ℕ) (s : Scalar) (before after : Tally) (f : FoundScalar places.Top before.rest octets s) → s.waits ≡ false → s.token.left ≡ false → before.level ≤ level
+    → after ≡ record { kind = s.kind; level = before.level; nodes = min (before.nodes + 1) most; rest = past_token places.Top before.rest s.token.kind s.token.count } → WalkedBare level octets s.token.count before after
+bare_scalar level octets s before after f ends given low e =
+    let found = f.found in
+    let some = found.some in
+    let sort = f.flat.sort in
+    let none = f.flat.deep in
+    let one = f.flat.counted in
+    rw e (record {
+      payload = f.payload;
+      gives = λ g l start c ss deep room free. scalar_gives g l start c ss before.rest octets s f ends given room free;
+      some = some;
+      within = found_within places.Top before.rest octets s.token.kind f.kept s.token.count s.token.left f.found;
+      used = refl;
+      deep = omega arith;
+      few = omega arith;
+      noted = record { kind = sym sort; left = omega arith; counted = omega arith };
+    })
+
+-- both
+pub walked_top : (level : ℕ) (octets rest : List ℕ) (a b : ℕ) (before mid after : Tally) → rest ≡ drop a octets → WalkedNotes octets a before mid → WalkedBare level rest b mid after → WalkedTop level octets (a + b) before after
+walked_top level octets rest a b before mid after is w x =
+    let size : length rest ≡ length octets - a = ap (λ (w : List ℕ). length w) is ∙ length-drop a octets in
+    let within = w.within in
+    let within' = x.within in
+    let some = x.some in
+    let used = w.used in
+    let used' = x.used in
+    let deep = x.deep in
+    let few = x.few in
+    let left = w.left in
+    let left' = x.noted.left in
+    let counted = w.counted in
+    let counted' = x.noted.counted in
+    let p = x.payload in
+    let v = annotated w.notes p in
+    let d : depth v ≡ depth (bare p) = depth-out v ∙ sym (depth-out (bare p)) in
+    let n = nodes-out v in
+    let n' = nodes-out (bare p) in
+    let total : mid.rest.used + b ≡ before.rest.used + (a + b) = omega arith in
+    record {
+      value = v;
+      gives = λ g l start c deep few.
+          let y = w.leads g l start c few in
+          let begins = y.1 in
+          let r = x.gives g l y.0 c w.notes deep (omega arith) (w.free (kind_of v)) in
+          passes_then g l (rested before.rest start c [] [] nows.Ready) (rested mid.rest y.0 c [] w.notes nows.Ready) octets a b some y.2
+          ∙ (ap (λ o. run g l mid.rest.used (rested mid.rest y.0 c [] w.notes nows.Ready) (take b o)) (sym is)
+          ∙ (r ∙ ap (λ j. record { given = (v, j) ∷ []; now = Ok (rested after.rest 0 c [] [] nows.Ready) }) total));
+      some = omega arith;
+      within = omega arith;
+      used = omega arith;
+      kind = x.noted.kind;
+      deep = omega arith;
+      left = omega arith;
+      few = few;
+      counted = omega arith;
+    }
 
 same_outline : (j k : Kind) (c d m n : ℕ) → j ≡ k → c ≡ d → m ≡ n → Path Outline (record { kind = j; depth = c; nodes = m }) (record { kind = k; depth = d; nodes = n })
 same_outline j k c d m n e f h =
@@ -206,31 +449,50 @@ same_outline j k c d m n e f h =
     ∙ (ap (λ x. record { kind = k; depth = x; nodes = m }) f ∙ ap (λ x. record { kind = k; depth = d; nodes = x }) h)
 
 -- what is told of it
-pub outlined : (level : ℕ) (item : List ℕ) (count : ℕ) (before after : Tally) (w : WalkedContainer places.Top marks.FieldsOpen level item count before after) → 1 < length item → Opens item marks.FieldsOpen → before.level ≡ level → before.nodes ≡ 0 → level < 2 ^ 32
-    → (after.level ≤ level) × (outline_of (bare w.inside.payload) ≡ record { kind = after.kind; depth = level - after.level; nodes = after.nodes })
-outlined level item count before after w more opens low none levels =
-    let x = container_noted places.Top marks.FieldsOpen level item count before after w more opens (omega arith) in
-    let v = bare w.inside.payload in
-    let deep = w.inside.deep in
-    let some = w.some in
-    let left = x.left in
-    let counted = x.counted in
-    let nodes_are : after.nodes ≡ min (w.last.nodes + 1) most = ap (λ (t : Tally). t.nodes) w.shuts in
-    let d : min (depth v) (2 ^ 64 - 1) ≡ level - after.level = omega (arith, left, low, deep, some, levels) in
-    let n : min (nodes v) (2 ^ 64 - 1) ≡ after.nodes = omega (arith, counted, none, nodes_are) in (
-      omega (arith, left, low),
-      same_outline (kind_of v) after.kind (min (depth v) (2 ^ 64 - 1)) (level - after.level) (min (nodes v) (2 ^ 64 - 1)) after.nodes (sym x.kind) d n,
+pub outlined : (level : ℕ) (item : List ℕ) (count : ℕ) (before after : Tally) (w : WalkedTop level item count before after) → before.level ≡ level → before.nodes ≡ 0 → level < 2 ^ 32
+    → (after.level ≤ level) × (outline_of w.value ≡ record { kind = after.kind; depth = level - after.level; nodes = after.nodes })
+outlined level item count before after w low none levels =
+    let deep = w.deep in
+    let left = w.left in
+    let counted = w.counted in
+    let d : min (depth w.value) (2 ^ 64 - 1) ≡ level - after.level = omega arith in
+    let n : min (nodes w.value) (2 ^ 64 - 1) ≡ after.nodes = omega arith in (
+      omega arith,
+      same_outline (kind_of w.value) after.kind (min (depth w.value) (2 ^ 64 - 1)) (level - after.level) (min (nodes w.value) (2 ^ 64 - 1)) after.nodes (sym w.kind) d n,
     )
+
+-- with the blank before it
+module _ (g : Catalog) (l : Limits) (level : ℕ) (item : List ℕ) (count : ℕ) (before after : Tally) (w : WalkedTop level item count before after) (s : ℕ) (c : List Slot) (rest : Rest) (piece : List ℕ) (n k : ℕ) (is : item ≡ take k (drop n piece)) (inside : n ≤ length piece)
+    (blank : n ≤ l.item) (few : length item ≤ l.item) (size : length item ≡ min k (length piece - n)) (passed : IsPassed piece n) (begins : before.rest ≡ past_blank rest n) (deep : level ≤ l.depth) where
+  pub top_runs : (n + count ≤ length piece) × ((0 < n + count) × (run g l rest.used (rested rest s c [] [] nows.Ready) (take (n + count) piece) ≡ record { given = (w.value, rest.used + (n + count)) ∷ []; now = Ok (rested after.rest 0 c [] [] nows.Ready) }))
+  top_runs =
+      let some = w.some in
+      let fits = w.within in
+      let used : before.rest.used ≡ rest.used + n = ap (λ (r : Rest). r.used) begins ∙ blank_used rest n in
+      let total : before.rest.used + count ≡ rest.used + (n + count) = omega arith in
+      let to_item : take count (drop n piece) ≡ take count item = sym (front (drop n piece) (omega (arith, size))) ∙ ap (take count) (sym is) in
+      let up_to : Passes g l (rested rest s c [] [] nows.Ready) piece n (rested before.rest s c [] [] nows.Ready) = subst (λ r. Passes g l (rested rest s c [] [] nows.Ready) piece n (rested r s c [] [] nows.Ready)) (sym begins) (top_blank g l s c [] rest piece n inside (omega arith) passed) in (
+        omega (arith, size),
+        (
+          omega arith,
+          passes_then g l (rested rest s c [] [] nows.Ready) (rested before.rest s c [] [] nows.Ready) piece n count some up_to
+              ∙ (ap (run g l before.rest.used (rested before.rest s c [] [] nows.Ready)) to_item
+              ∙ (w.gives g l s c deep few ∙ ap (λ j. record { given = (w.value, j) ∷ []; now = Ok (rested after.rest 0 c [] [] nows.Ready) }) total)),
+        ),
+      )
+    where
+      front : (w : List ℕ) → count ≤ k → take count (take k w) ≡ take count w
+      front w h = grind (arith, common_steps)
 
 -- the reader behind it
 abbrev pub gone_on : TextReader → Scanner → TokenReader → TextReader
 gone_on r s b = record { alloc = r.alloc; catalog = r.catalog; limits = r.limits; scanner = s; beside = b; start = 0; context = r.context; frames = r.frames; notes = r.notes; stage = r.stage; given = r.given; awaited = r.awaited; failed = r.failed }
 
-pub top_advances : (old : TextReader) (moved : Scanner) (b : TokenReader) (level : ℕ) (item : List ℕ) (count : ℕ) (before after : Tally) (w : WalkedContainer places.Top marks.FieldsOpen level item count before after) (more : 1 < length item) (opens : Opens item marks.FieldsOpen) (rest : Rest) (piece : List ℕ) (n k : ℕ)
+pub top_advances : (old : TextReader) (moved : Scanner) (b : TokenReader) (level : ℕ) (item : List ℕ) (count : ℕ) (before after : Tally) (w : WalkedTop level item count before after) (rest : Rest) (piece : List ℕ) (n k : ℕ)
     → IsFresh old rest → scanned moved ≡ resting after.rest → item ≡ take k (drop n piece) → n ≤ length piece → n ≤ old.limits.item → length item ≤ old.limits.item → length item ≡ min k (length piece - n) → IsPassed piece n → before.rest ≡ past_blank rest n → level ≤ old.limits.depth
-    → Advances old.catalog.now old.limits (is_some old.awaited) (scanned old.scanner).used (state_of old) piece (Ok (record { used = n + count; value = Some (bare w.inside.payload) })) old.awaited (state_of (gone_on old moved b))
-top_advances old moved b level item count before after w more opens rest piece n k h there is within blank few size passed from deep =
-    let x = top_runs old.catalog.now old.limits level item count before after w more opens old.start old.context rest piece n k is within blank few size passed from deep in
+    → Advances old.catalog.now old.limits (is_some old.awaited) (scanned old.scanner).used (state_of old) piece (Ok (record { used = n + count; value = Some w.value })) old.awaited (state_of (gone_on old moved b))
+top_advances old moved b level item count before after w rest piece n k h there is within blank few size passed from deep =
+    let x = top_runs old.catalog.now old.limits level item count before after w old.start old.context rest piece n k is within blank few size passed from deep in
     let a : state_of old ≡ rested rest old.start old.context [] [] nows.Ready = states (scanned old.scanner) (resting rest) old.start (open_frames old) old.notes old.stage h.rests h.top h.bare h.ready in
     let e : state_of (gone_on old moved b) ≡ rested after.rest 0 old.context [] [] nows.Ready = states (scanned moved) (resting after.rest) 0 (open_frames old) old.notes old.stage there h.top h.bare h.ready in
     let used : (scanned old.scanner).used ≡ rest.used = ap (λ (s : Known). s.used) h.rests in

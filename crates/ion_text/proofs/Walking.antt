@@ -44,7 +44,7 @@ use Rattle.ion_text.specs.machine.AtOnce.{Passes, IsStill}
 use Rattle.ion_text.specs.machine.Walked.{behind_key, Ends, IsValue, most, FoundScalar, FoundName, rested, Leads, LeadsBehind, Noted, Walked, WalkedContainer, WalkedInside, WalkedName, close_of, opened, first_now}
 use Rattle.ion_text.proofs.Arms.{StaysIn, ready_turns, ended_stays, left_passes, given_passes, mark_says, at_drop, blank_used}
 use Rattle.ion_text.proofs.Nested.{is_left, open_found, close_found, closing}
-use Rattle.ion_text.proofs.Passing.{passes_none, passes_on, passes_blank, calm_quiet}
+use Rattle.ion_text.proofs.Passing.{inner_notices, passes_none, passes_on, passes_blank, calm_quiet}
 use Rattle.ion_text.proofs.Striding.{still_settles}
 use Rattle.ion_text.proofs.Symbols.{held_in, symbol_passes, name_passes}
 
@@ -123,7 +123,7 @@ leads_on level a b d octets i j f h k m n o within used x y = λ g l start c ss 
 pub blank_leads : (level : ℕ) (r : Rest) (octets : List ℕ) (n : ℕ) (f : Symbols → Frame) (now : Now) → IsPassed octets n → n ≤ length octets → IsStill now → Leads level r octets n (past_blank r n) f now f now
 blank_leads level r octets n f now passed within still = λ g l start c ss fs deep room.
     let q = at start c (f ss ∷ fs) [] now in
-    passes_blank g l q refl (resting r) (resting (past_blank r n)) octets n within refl refl (passed (place q) r) (omega arith) (still_settles g l q still)
+    passes_blank g l q (l.item + q.start) (inner_notices l q refl) (resting r) (resting (past_blank r n)) octets n within refl refl (passed (place q) r) (omega arith) (still_settles g l q still)
 
 -- a field's name and its colon
 module _ (rest : Rest) (octets : List ℕ) (token : FoundToken) (f : FoundName rest octets token) (m : ℕ) (within : token.count + m + 1 < length octets) (passed : IsPassed (drop token.count octets) m)

@@ -25,6 +25,7 @@ mod steps;
 mod stretches;
 mod structs;
 mod symbols;
+mod tops;
 mod turns;
 mod waiting;
 mod walks;

@@ -1,10 +1,12 @@
 -- What a walk over octets in memory finds of a value that it doesn't build.
-use Rattle.std.specs.Prelude.{◌≡◌, ◌+◌, ◌-◌, ◌^◌, ◌≤◌, ◌<◌, ℕ, suc, min, Bool, true, false, List, [], ◌∷◌, length, drop, get_or, Option, None, Ok}
+use Rattle.std.specs.Prelude.{◌≡◌, ◌+◌, ◌-◌, ◌^◌, ◌≤◌, ◌<◌, ℕ, suc, min, Bool, true, false, List, [], ◌∷◌, ◌++◌, length, take, drop, get_or, Option, None, Ok}
 use Rattle.ion_atoms.specs.declared.kind.Kind.{Kind}
 use Rattle.ion_atoms.specs.declared.kind.Kind.TheVariants as kinds
 use Rattle.ion_model.specs.declared.value.Field.{Field}
 use Rattle.ion_model.specs.declared.value.Payload.{Payload}
-use Rattle.ion_model.specs.Kinds.{kind_of}
+use Rattle.ion_model.specs.declared.value.Payload.TheVariants as payloads
+use Rattle.ion_model.specs.declared.value.Value.{Value}
+use Rattle.ion_model.specs.Kinds.{kind_of, names_table, is_table_of, is_table}
 use Rattle.ion_model.specs.Measures.{depth, nodes, bare, annotated}
 use Rattle.ion_symtab.specs.declared.limits.Limits.{Limits}
 use Rattle.ion_symtab.specs.declared.catalog.Catalog.{Catalog}
@@ -27,11 +29,11 @@ use Rattle.ion_text.specs.declared.state.Frame.{Frame}
 use Rattle.ion_text.specs.declared.state.Frame.TheVariants as frames
 use Rattle.ion_text.specs.declared.state.Now.{Now}
 use Rattle.ion_text.specs.declared.state.Now.TheVariants as nows
-use Rattle.ion_text.specs.laws.reading.FrontTokens.{held_of, Pays, BeginsName}
-use Rattle.ion_text.specs.machine.EachToken.{Setting, Spot, Symbols, at, place_in, on_ready, ended}
+use Rattle.ion_text.specs.laws.reading.FrontTokens.{held_of, Pays, BeginsName, BeginsSymbol}
+use Rattle.ion_text.specs.machine.EachToken.{Setting, Spot, Symbols, at, begun_at, place_in, on_ready, ended}
 use Rattle.ion_text.specs.machine.AtOnce.{Passes}
 use Rattle.ion_text.specs.machine.Nested.{closes, closed, close_octet}
-use Rattle.ion_text.specs.machine.Run.{State, is_top, with_scan}
+use Rattle.ion_text.specs.machine.Run.{State, is_top, run, with_scan}
 use Rattle.ion_text.specs.machine.Views.{open_frames, Puts, IsFine}
 
 -- no item is open and no octet is awaited, and the scanner rests there
@@ -190,3 +192,72 @@ pub record WalkedName (octets : List ℕ) (count : ℕ) (before after : Tally) :
   pub used : after.rest.used ≡ before.rest.used + count
   pub left : after.level ≡ before.level
   pub counted : min after.nodes most ≡ min (before.nodes + 1) most
+
+-- the token at the front of octets is an annotation if `::` follows, and names no local symbol tables
+pub record FoundNote (octets : List ℕ) (token : FoundToken) : Type 0 where
+  pub name : Option (List ℕ)
+  pub begins : (p : Place) (r : Rest) → BeginsSymbol p r octets token (payloads.Symbol name)
+  pub free : names_table name ≡ false
+
+-- where a scanner rests behind an annotation of the top level, a blank of so many octets, and `::`
+abbrev pub behind_note : Rest → FoundToken → ℕ → Rest
+behind_note r token blank = past_token places.Top (past_blank (past_token places.Top r token.kind token.count) blank) (tokens.Mark marks.Colons) 2
+
+-- Octets at the top level, behind some annotations of an item, begin with one more, `::` and a blank. The item begins with its first
+-- annotation.
+pub record WalkedNote (octets : List ℕ) (count : ℕ) (before after : Tally) : Type 0 where
+  pub name : Option (List ℕ)
+  pub leads : (g : Catalog) (l : Limits) (start : ℕ) (c : List Slot) (ss : Symbols)
+      → before.rest.used + length octets ≤ l.item + begun_at start before.rest.used [] ss
+      → Passes g l (rested before.rest start c [] ss nows.Ready) octets count
+      (rested after.rest (begun_at start before.rest.used [] ss) c [] (ss ++ name ∷ []) nows.Ready)
+  pub within : count ≤ length octets
+  pub used : after.rest.used ≡ before.rest.used + count
+  pub free : names_table name ≡ false
+  pub left : after.level ≡ before.level
+  pub counted : min after.nodes most ≡ min (before.nodes + 1) most
+
+-- Octets begin with all annotations of an item of the top level, the first of which names no local symbol tables.
+pub record WalkedNotes (octets : List ℕ) (count : ℕ) (before after : Tally) : Type 0 where
+  pub notes : Symbols
+  pub leads : (g : Catalog) (l : Limits) (start : ℕ) (c : List Slot) → length octets ≤ l.item
+      → (begin : ℕ) × (begun_at begin after.rest.used [] notes ≡ before.rest.used)
+      × Passes g l (rested before.rest start c [] [] nows.Ready) octets count (rested after.rest begin c [] notes nows.Ready)
+  pub within : count ≤ length octets
+  pub used : after.rest.used ≡ before.rest.used + count
+  pub free : (k : Kind) → is_table_of notes k ≡ false
+  pub left : after.level ≡ before.level
+  pub counted : min after.nodes most ≡ min (before.nodes + length notes) most
+
+-- A run over so many octets gives this value with their last.
+abbrev pub GivesTop : Catalog → Limits → Rest → ℕ → List Slot → Symbols → List ℕ → ℕ → Rest → Value → Type 0
+GivesTop g l before start c ss octets count after v =
+    run g l before.used (rested before start c [] ss nows.Ready) (take count octets)
+    ≡ record { given = (v, before.used + count) ∷ []; now = Ok (rested after 0 c [] [] nows.Ready) }
+
+-- Octets at the top level, behind the annotations of an item, begin with its value, which ends with the last of so many.
+pub record WalkedBare (level : ℕ) (octets : List ℕ) (count : ℕ) (before after : Tally) : Type 0 where
+  pub payload : Payload
+  pub gives : (g : Catalog) (l : Limits) (start : ℕ) (c : List Slot) (ss : Symbols) → level ≤ l.depth
+      → before.rest.used + length octets ≤ l.item + begun_at start before.rest.used [] ss → is_table (annotated ss payload) ≡ false
+      → GivesTop g l before.rest start c ss octets count after.rest (annotated ss payload)
+  pub some : 0 < count
+  pub within : count ≤ length octets
+  pub used : after.rest.used ≡ before.rest.used + count
+  pub deep : depth (bare payload) ≤ level
+  pub few : after.nodes ≤ most
+  pub noted : Noted level payload before after
+
+-- Octets at the top level begin with an item, which ends with the last of so many: a value with its annotations.
+pub record WalkedTop (level : ℕ) (octets : List ℕ) (count : ℕ) (before after : Tally) : Type 0 where
+  pub value : Value
+  pub gives : (g : Catalog) (l : Limits) (start : ℕ) (c : List Slot) → level ≤ l.depth → length octets ≤ l.item
+      → GivesTop g l before.rest start c [] octets count after.rest value
+  pub some : 0 < count
+  pub within : count ≤ length octets
+  pub used : after.rest.used ≡ before.rest.used + count
+  pub kind : after.kind ≡ kind_of value
+  pub deep : depth value ≤ level
+  pub left : after.level ≡ min before.level (level - depth value)
+  pub few : after.nodes ≤ most
+  pub counted : after.nodes ≡ min (before.nodes + nodes value) most

@@ -10,10 +10,11 @@ ghost use Rattle.ion_text.specs.machine.Views.{state_of, with_beside, IsFine};
 ghost use Rattle.ion_text.specs.machine.Walked.{IsFresh};
 
 use super::TextReader;
-use super::walks::{Tally, walk_container};
+use super::tops::walk_top;
+use super::walks::Tally;
 use crate::state::Now;
 use ion_model::Outline;
-use ion_tokens::{Mark, Place, Rest, blanks};
+use ion_tokens::{Rest, blanks};
 
 // Octets up to so many.
 fn up_to(octets: &[u8], most: u64) -> &[u8]
@@ -41,9 +42,10 @@ impl TextReader<'_> {
         self.scanner.rest()
     }
 
-    /// Takes up a blank and the struct behind it at the front of a piece without building that: how many
-    /// octets they have, and its outline. `None`, with nothing taken up, where an item is open, or
-    /// the value isn't whole, may not stand here or is in any way unusual.
+    /// Takes up a blank and the item behind it at the front of a piece without building that: how many
+    /// octets they have, and the outline of its value. `None`, with nothing taken up, where an item is
+    /// open, or the value isn't whole, ends before the octet behind it, may be a local symbol table, may
+    /// not stand here or is in any way unusual.
     pub(super) fn walk(&mut self, piece: &[u8]) -> Option<(usize, Outline)>
         requires room { (scanned self.old.scanner).used + length piece.now < 2 ^ 63 }
         ensures gives { IfSome result (λ found. (v : Value) × (outline_of v ≡ found.1)
@@ -60,19 +62,9 @@ impl TextReader<'_> {
         let rest = self.fresh_rest()?;
         let before = blanks(up_to(piece, self.limits.item));
         let item = up_to(&piece[before..], self.limits.item);
-        if item.len() < 2 || item[0] != b'{' || item[1] == b'{' {
-            return None;
-        }
         let depth = self.limits.depth;
         let mut tally = Tally::new(depth, rest.past_blank(before));
-        let count = walk_container(
-            &mut self.beside,
-            Place::Top,
-            Mark::FieldsOpen,
-            item,
-            depth,
-            &mut tally,
-        )?;
+        let count = walk_top(&mut self.beside, item, depth, &mut tally)?;
         self.scanner.move_to(tally.rest);
         self.start = 0;
         Some((before + count, tally.outline(depth)))

@@ -64,7 +64,7 @@ pub(super) fn behind_name(octets: &[u8], count: usize) -> Option<usize>
 }
 
 // How many octets of a blank stand behind an annotation of so many, if `::` and one octet more stand behind them.
-fn behind_annotation(octets: &[u8], count: usize) -> Option<usize>
+pub(super) fn behind_annotation(octets: &[u8], count: usize) -> Option<usize>
     ensures passed { IfSome result (λ between. IsPassed (drop count octets.now) between) }
     ensures within { IfSome result (λ between. count + between + 2 < length octets.now) }
     ensures one { IfSome result (λ between. get_or octets.now (count + between) 0 ≡ 58) }

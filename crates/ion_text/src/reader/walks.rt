@@ -68,9 +68,22 @@ impl Tally {
         self.nodes = self.nodes.saturating_add(1);
     }
 
+    /// Notes the node of an annotation.
+    #[inline(always)]
+    pub fn note_annotation(&mut self)
+        ensures { self.new ≡ record {
+          kind = self.old.kind;
+          level = self.old.level;
+          nodes = min (self.old.nodes + 1) (2 ^ 64 - 1);
+          rest = self.old.rest;
+        } }
+    {
+        self.nodes = self.nodes.saturating_add(1);
+    }
+
     /// It rests behind a token of so many octets.
     #[inline(always)]
-    fn pass_token(&mut self, place: Place, kind: TokenKind, count: usize)
+    pub fn pass_token(&mut self, place: Place, kind: TokenKind, count: usize)
         requires room { self.old.rest.used + count < 2 ^ 63 }
         ensures { self.new ≡ record {
           kind = self.old.kind;
@@ -84,7 +97,7 @@ impl Tally {
 
     /// It rests behind so many octets of a blank.
     #[inline(always)]
-    fn pass_blank(&mut self, count: usize)
+    pub fn pass_blank(&mut self, count: usize)
         requires room { self.old.rest.used + count < 2 ^ 63 }
         ensures { self.new ≡ record {
           kind = self.old.kind;
@@ -98,7 +111,7 @@ impl Tally {
 
     /// Notes such a value, and rests behind its token and a blank: how many octets they have.
     #[inline(always)]
-    fn pass_scalar(&mut self, place: Place, scalar: Scalar, blank: usize) -> usize
+    pub fn pass_scalar(&mut self, place: Place, scalar: Scalar, blank: usize) -> usize
         requires room { self.old.rest.used + scalar.token.count + blank < 2 ^ 63 }
         ensures total { result ≡ scalar.token.count + blank }
         ensures noted { self.new ≡ record {
@@ -176,7 +189,7 @@ fn kind_of_open(mark: Mark) -> Kind
 
 /// A token that is a value without others in it.
 #[derive(Clone, Copy)]
-struct Scalar {
+pub(super) struct Scalar {
     token: FoundToken,
     kind: Kind,
     /// Whether it would be an annotation if `::` followed.
@@ -244,9 +257,11 @@ fn quoted_at(octets: &[u8]) -> Option<Scalar>
 }
 
 // The short string there.
-fn string_at(octets: &[u8]) -> Option<Scalar>
-    ensures { IfSome result (λ scalar. (here : Place) (rest : Rest) →
+pub(super) fn string_at(octets: &[u8]) -> Option<Scalar>
+    ensures found { IfSome result (λ scalar. (here : Place) (rest : Rest) →
         FoundScalar here rest octets.now scalar) }
+    ensures waits { IfSome result (λ scalar. scalar.waits ≡ false) }
+    ensures given { IfSome result (λ scalar. scalar.token.left ≡ false) }
 {
     let count = short_string(octets)?;
     let token = FoundToken {
@@ -449,7 +464,7 @@ fn begins_with(octets: &[u8], octet: u8) -> bool
 }
 
 // Goes over a blank there.
-fn walk_blank(octets: &[u8], tally: &mut Tally) -> usize
+pub(super) fn walk_blank(octets: &[u8], tally: &mut Tally) -> usize
     requires room { tally.old.rest.used + length octets.now < 2 ^ 63 }
     ensures within { result ≤ length octets.now }
     ensures passed { IsPassed octets.now result }

@@ -1,10 +1,7 @@
-use Rattle.std.proofs.Common.{rules, ◌≡◌, ℕ, min, ◌-◌, ◌<◌, ◌≤◌, ◌^◌, length, length-take, length-drop, take, drop, refl, ap, sym, ◌∙◌, arith}
+use Rattle.std.proofs.Common.{◌≡◌, ℕ, min, ◌-◌, ◌<◌, ◌≤◌, ◌^◌, length, length-take, length-drop, take, drop, refl, ap, sym, ◌∙◌, arith}
 use Rattle.std.proofs.lemmas.List.{take_rest}
-use Rattle.ion_model.specs.Measures.{bare}
-use Rattle.ion_tokens.specs.declared.mode.Mark.TheVariants as marks
 use Rattle.ion_tokens.specs.machine.Rests.{past_blank}
 use Rattle.ion_text.specs.declared.reader.walks.Tally.{Tally}
-use Rattle.ion_text.specs.machine.Nested.{Opens}
 use Rattle.ion_text.proofs.Tops.{passed_of, outlined, top_advances}
 use Rattle.ion_text.proofs.reader.TextReader.walk.Goals as goal
 
@@ -30,23 +27,18 @@ returns-clause-gives c =
     let blank : n ≤ most = omega arith in
     let few : length item ≤ most = omega arith in
     let passed = passed_of piece front n (min (length piece) most) c.up_to.ensures (omega arith) c.blanks-before.ensures.passed in
-    let more : 1 < length item = search rules in
-    let opens : Opens item marks.FieldsOpen = search rules in
     let begins : before.rest ≡ past_blank c.in_ok-rest.rest n = ap (λ (t : Tally). t.rest) c.new-tally.ensures ∙ c.past_blank.ensures in
     let level : before.level ≡ old.limits.depth = ap (λ (t : Tally). t.level) c.new-tally.ensures in
     let none : before.nodes ≡ 0 = ap (λ (t : Tally). t.nodes) c.new-tally.ensures in
     let levels : old.limits.depth < 2 ^ 32 = omega (arith, old.limits.deep) in
-    let told = outlined old.limits.depth item count before c.walk_container.new.tally w more opens level none levels in (
-      bare w.inside.payload,
+    let told = outlined old.limits.depth item count before c.walk_top.new.tally w level none levels in (
+      w.value,
       told.1 ∙ sym c.outline.ensures,
-      top_advances old c.move_to.new.self c.walk_container.new.beside old.limits.depth item count before c.walk_container.new.tally w more opens c.in_ok-rest.rest piece n k c.in_ok-rest.ensures c.move_to.ensures.rests is within blank few size passed begins (omega arith),
+      top_advances old c.move_to.new.self c.walk_top.new.beside old.limits.depth item count before c.walk_top.new.tally w c.in_ok-rest.rest piece n k c.in_ok-rest.ensures c.move_to.ensures.rests is within blank few size passed begins (omega arith),
     )
 
 pub returns-in_err-rest-clause-none : goal.returns-in_err-rest-clause-none
 returns-in_err-rest-clause-none c = λ none. (c.args.self.now.beside, refl)
 
-pub returns-then-item-lt2-clause-none : goal.returns-then-item-lt2-clause-none
-returns-then-item-lt2-clause-none c = λ none. (c.args.self.now.beside, refl)
-
 pub returns-in_err-count-clause-none : goal.returns-in_err-count-clause-none
-returns-in_err-count-clause-none c = λ none. (c.walk_container.new.beside, refl)
+returns-in_err-count-clause-none c = λ none. (c.walk_top.new.beside, refl)

@@ -5,8 +5,8 @@ use Rattle.ion_text.proofs.Arms.{short_says}
 use Rattle.ion_text.proofs.Walks.{flat_text}
 use Rattle.ion_text.proofs.reader.walks.string_at.Goals as goal
 
-pub returns : goal.returns
-returns c = λ here rest.
+pub returns-clause-found : goal.returns-clause-found
+returns-clause-found c = λ here rest.
     let kept = take (c.in_ok-count.count - 2) (drop 1 c.args.octets.now) in
     record {
       kept = kept;
