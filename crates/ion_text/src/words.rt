@@ -55,12 +55,16 @@ fn is_version(word: &[u8]) -> bool
     }
 }
 
-/// Whether a word begins as those do that are no symbols unquoted.
+/// Whether a word begins as those do that are no symbols unquoted, and has no more octets.
 #[inline(always)]
 pub(crate) fn may_be_keyword(word: &str) -> bool
     ensures { result ≡ false → is_keyword word.now ≡ false }
 {
-    match word.as_bytes().first() {
+    let octets = word.as_bytes();
+    if octets.len() > 5 {
+        return false;
+    }
+    match octets.first() {
         Some(octet) => *octet == b'n' || *octet == b't' || *octet == b'f',
         None => false,
     }
