@@ -1,4 +1,5 @@
 pub mod Grammar
+pub mod Deciding
 pub mod Output
 pub mod Calls
 pub mod Writing

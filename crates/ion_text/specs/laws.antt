@@ -2,3 +2,4 @@
 pub mod reading
 pub mod showing
 pub mod writing
+pub mod deciding

@@ -1,7 +1,7 @@
 //! Laws of text documents. Each stands on an empty function: its contract is the law. What they say of
 //! reading is said of the definitions of `specs/machine/Run.antt`, which read octet by octet; `TextReader` is
 //! proved to answer what they say.
-ghost use Rattle.std.specs.Prelude.{◌≡◌, ◌↔◌, ◌≤◌, ◌++◌, ℕ, Bool, List, length, codes, Some, None, Err};
+ghost use Rattle.std.specs.Prelude.{◌≡◌, ◌↔◌, ◌≤◌, ◌++◌, ℕ, Bool, List, length, take, codes, Some, None, Err};
 ghost use Rattle.ion_model.specs.declared.value.Value.{Value};
 ghost use Rattle.ion_atoms.specs.declared.refusal.Refusal.{Refusal};
 ghost use Rattle.ion_model.specs.Kept.{AreKept};
@@ -15,6 +15,7 @@ ghost use Rattle.ion_symtab.specs.laws.ContextTexts.{AreTextTables};
 ghost use Rattle.ion_tokens.specs.declared.mode.Place.{Place};
 ghost use Rattle.ion_tokens.specs.Lexed.{LexesTo, Placed};
 ghost use Rattle.ion_text.specs.Grammar.{Document, Means, OpenRest, Whole, span};
+ghost use Rattle.ion_text.specs.Deciding.{Decides, EndDecides, HasRow};
 ghost use Rattle.ion_text.specs.Output.{text_of};
 ghost use Rattle.ion_text.specs.laws.writing.RoundTrip.{FitsIn};
 ghost use Rattle.ion_text.specs.laws.reading.Rows.{AreDocuments, worked_documents};
@@ -130,6 +131,16 @@ pub fn whole_pieces()
 pub fn first_refused()
     ensures { (g : List Table) (l : Limits) (u : List ℕ) (r : Refusal) →
         (trace g l u).refused ≡ Some r → IsFirst (trace g l) u r }
+{}
+
+/// Where an octet is refused for a symbol, a symbol table, a version or a level, the octets up to it are such as
+/// the table of the format names for that reason, and the last of them shows it (`octet`). Where the end refuses
+/// for one of these reasons, they are all the octets, and the end shows it (`end`).
+pub fn deciding()
+    ensures octet { (g : List Table) (l : Limits) (u : List ℕ) (r : Refusal) →
+        (trace g l u).refused ≡ Some r → HasRow r.reason → Decides g l (take r.offset u) r.reason }
+    ensures end { (g : List Table) (l : Limits) (u : List ℕ) (r : Refusal) → (trace g l u).refused ≡ None →
+        (trace g l u).ends ≡ Err r → HasRow r.reason → EndDecides g l u r.reason }
 {}
 
 /// Worked documents denote their streams, under every catalog and all limits of at least two levels and items

@@ -141,7 +141,7 @@ module _ (g : Catalog) (l : Limits) where
       worse_chain e (leaves v m) h = h
 
       -- where a token is left, none is open behind it at the top level
-      left_idle : (s t : Known) (r : Reading) (x : Lexeme) (c : Content) → is_sane s.mode ≡ true → Fine s → feed (place r) s o ≡ Left x t → said x.kind x.octets ≡ Ok c → Leading g l (λ n. is_top n.frames ≡ true → is_idle t.mode ≡ true) (turn g l r (token_of x c))
+      pub left_idle : (s t : Known) (r : Reading) (x : Lexeme) (c : Content) → is_sane s.mode ≡ true → Fine s → feed (place r) s o ≡ Left x t → said x.kind x.octets ≡ Ok c → Leading g l (λ n. is_top n.frames ≡ true → is_idle t.mode ≡ true) (turn g l r (token_of x c))
       left_idle s t r x c sane fine e k = by (is_top r.frames) refl
         where
           P : Reading → Type 0

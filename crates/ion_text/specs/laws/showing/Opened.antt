@@ -97,7 +97,7 @@ quoted_token p colon w r k kept h e n = let i = subst (λ x. IsLexeme p colon w 
     by (o ∷ os) f = absurd (omega (arith, n, ap length f, length-append os (39 ∷ [])))
 
 -- behind a symbol a colon may stand
-symbol_colon : (p : Place) (k : TokenKind) (octets : List ℕ) (c : Content) → IsBody k octets (Ok c) → symbol_said c ≡ true → takes_colon p k ≡ true
+pub symbol_colon : (p : Place) (k : TokenKind) (octets : List ℕ) (c : Content) → IsBody k octets (Ok c) → symbol_said c ≡ true → takes_colon p k ≡ true
 symbol_colon p k octets c h e = go k (symbol_kind k octets c h e) h
   where
     go : (k : TokenKind) → opens_item k ≡ true → IsBody k octets (Ok c) → takes_colon p k ≡ true

@@ -1,0 +1,134 @@
+-- What the reader of tokens holds of the open item is what stands open.
+use Rattle.std.proofs.Common.{◌≡◌, suc, List, [], ◌∷◌, ◌++◌, length, true, Bool, refl, sym, ap, ◌∙◌, subst, append_assoc, append-nil}
+use Rattle.ion_model.specs.declared.value.Value.{Value}
+use Rattle.ion_model.specs.declared.value.Field.{Field}
+use Rattle.ion_model.specs.declared.value.Payload.TheVariants as payloads
+use Rattle.ion_model.specs.Measures.{annotated}
+use Rattle.ion_symtab.specs.declared.limits.Limits.{Limits}
+use Rattle.ion_symtab.specs.declared.catalog.Catalog.{Catalog}
+use Rattle.ion_symtab.specs.Slots.{Slot}
+use Rattle.ion_tokens.specs.declared.mode.Place.TheVariants as places
+use Rattle.ion_tokens.specs.declared.mode.Mark.TheVariants as marks
+use Rattle.ion_tokens.specs.Bodies.{Content, Mark'}
+use Rattle.ion_tokens.specs.Lexed.{Placed}
+use Rattle.ion_text.specs.declared.state.Frame.{Frame}
+use Rattle.ion_text.specs.declared.state.Frame.TheVariants as frames
+use Rattle.ion_text.specs.Grammar.{Says, Annotations, no_annotation, means, Pieces, is_struct, Means, close_place}
+use Rattle.ion_text.specs.Deciding.{Container, InList, InSexp, InStruct, InField, place_of, TakesValue, Open, none_open, list_open, sexp_open, struct_open, named, MayNote, Comes, Ends}
+use Rattle.ion_text.specs.machine.EachToken.{Symbols}
+use Rattle.ion_text.specs.laws.reading.Sound.{Opened, Receives, ReadyFor, value_place}
+
+abbrev pub container : Frame → Container
+container (frames.List ss vs) = InList
+container (frames.Sexp ss vs) = InSexp
+container (frames.Fields ss ms) = InStruct
+container (frames.Named ss ms s) = InField
+
+abbrev pub containers : List Frame → List Container
+containers [] = []
+containers (f ∷ fs) = container f ∷ containers fs
+
+pub place_same : (fs : List Frame) → value_place fs ≡ place_of (containers fs)
+place_same [] = refl
+place_same (frames.List ss vs ∷ fs) = refl
+place_same (frames.Sexp ss vs ∷ fs) = refl
+place_same (frames.Fields ss ms ∷ fs) = refl
+place_same (frames.Named ss ms s ∷ fs) = refl
+
+pub levels_same : (fs : List Frame) → length (containers fs) ≡ length fs
+levels_same [] = refl
+levels_same (f ∷ fs) = ap suc (levels_same fs)
+
+pub takes_value : (fs : List Frame) → Receives fs → TakesValue (containers fs)
+takes_value [] h = tt
+takes_value (frames.List ss vs ∷ fs) h = tt
+takes_value (frames.Sexp ss vs ∷ fs) h = tt
+takes_value (frames.Fields ss ms ∷ fs) h = absurd h
+takes_value (frames.Named ss ms s ∷ fs) h = tt
+
+pub may_note : (fs : List Frame) (notes : List Placed) → Receives fs → MayNote (containers fs) notes
+may_note [] notes h = tt
+may_note (frames.List ss vs ∷ fs) notes h = tt
+may_note (frames.Sexp ss vs ∷ fs) notes h = tt
+may_note (frames.Fields ss ms ∷ fs) notes h = absurd h
+may_note (frames.Named ss ms s ∷ fs) notes h = tt
+
+pub noted_there : (c : List Slot) (fs : List Frame) (notes : List Placed) (ss : Symbols) → Annotations c (value_place fs) notes ss → Annotations c (place_of (containers fs)) notes ss
+noted_there c fs notes ss h = subst (λ p. Annotations c p notes ss) (place_same fs) h
+
+pub says_there : (fs : List Frame) (t : Placed) (said : Content) → Says (value_place fs) t said → Says (place_of (containers fs)) t said
+says_there fs t said h = subst (λ p. Says p t said) (place_same fs) h
+
+-- The open containers of the reader stand open.
+pub opened_open : (c : List Slot) (fs : List Frame) (ts : List Placed) → Opened c fs ts true → Open c (containers fs) ts
+opened_open c [] ts o = subst (Open c []) (sym o) none_open
+opened_open c (frames.List ss vs ∷ fs) ts o =
+    subst (Open c (InList ∷ containers fs)) (sym o.whole)
+    (list_open (containers fs) o.front o.notes o.body ss o.open' vs (opened_open c fs o.front o.outer) (takes_value fs o.receives) (noted_there c fs o.notes ss o.noted) (says_there fs o.open' (Mark' marks.ListOpen) o.opens) o.items)
+opened_open c (frames.Sexp ss vs ∷ fs) ts o =
+    subst (Open c (InSexp ∷ containers fs)) (sym o.whole)
+    (sexp_open (containers fs) o.front o.notes o.body ss o.open' vs (opened_open c fs o.front o.outer) (takes_value fs o.receives) (noted_there c fs o.notes ss o.noted) (says_there fs o.open' (Mark' marks.SexpOpen) o.opens) o.items)
+opened_open c (frames.Fields ss ms ∷ fs) ts o =
+    subst (Open c (InStruct ∷ containers fs)) (sym o.whole)
+    (struct_open (containers fs) o.front o.notes o.body ss o.open' ms (opened_open c fs o.front o.outer) (takes_value fs o.receives) (noted_there c fs o.notes ss o.noted) (says_there fs o.open' (Mark' marks.FieldsOpen) o.opens) o.items)
+opened_open c (frames.Named ss ms s ∷ fs) ts o =
+    let name : List Placed = o.name ++ o.colon ∷ [] in
+    let cut : ts ≡ (o.front ++ (o.notes ++ o.open' ∷ o.body)) ++ name =
+    o.whole ∙ (ap (λ x. o.front ++ x) (sym (append_assoc o.notes (o.open' ∷ o.body) name)) ∙ sym (append_assoc o.front (o.notes ++ o.open' ∷ o.body) name)) in
+    subst (Open c (InField ∷ containers fs)) (sym cut)
+    (named (containers fs) (o.front ++ (o.notes ++ o.open' ∷ o.body)) o.name s o.colon
+    (struct_open (containers fs) o.front o.notes o.body ss o.open' ms (opened_open c fs o.front o.outer) (takes_value fs o.receives) (noted_there c fs o.notes ss o.noted) (says_there fs o.open' (Mark' marks.FieldsOpen) o.opens) o.items)
+    o.named o.colons)
+
+module _ (g : Catalog) (l : Limits) (c : List Slot) (front : List Placed) (vs : List Value) (pieces : Pieces g l front vs c) (t : Placed) (said : Content) where
+  -- a token comes where a value may begin
+  abbrev pub value_comes : (fs : List Frame) (ss : Symbols) (item : List Placed) → ReadyFor c fs ss item → Says (value_place fs) t said → Comes g l c (containers fs) said (front ++ (item ++ t ∷ []))
+  value_comes fs ss item d h = record {
+    front = front;
+    item = d.front;
+    notes = d.notes;
+    token = t;
+    values = vs;
+    symbols = ss;
+    parts = ap (λ x. front ++ (x ++ t ∷ [])) d.whole;
+    pieces = pieces;
+    open' = opened_open c fs d.front d.outer;
+    noted = noted_there c fs d.notes ss d.noted;
+    may = may_note fs d.notes d.receives;
+    says = says_there fs t said h;
+  }
+
+  -- and where a name may
+  pub name_comes : (rs : Symbols) (ms : List Field) (fs : List Frame) (item : List Placed) → Opened c (frames.Fields rs ms ∷ fs) item true → Says places.Name t said
+      → Comes g l c (InStruct ∷ containers fs) said (front ++ (item ++ t ∷ []))
+  name_comes rs ms fs item o h = record {
+    front = front;
+    item = item;
+    notes = [];
+    token = t;
+    values = vs;
+    symbols = [];
+    parts = ap (λ x. front ++ (x ++ t ∷ [])) (sym (append-nil item));
+    pieces = pieces;
+    open' = opened_open c (frames.Fields rs ms ∷ fs) item o;
+    noted = no_annotation;
+    may = refl;
+    says = h;
+  }
+
+-- a struct of the top level is closed
+pub struct_ends : (g : Catalog) (l : Limits) (c : List Slot) (front : List Placed) (vs : List Value) (ss : Symbols) (ms : List Field) (item : List Placed) (more : Bool) (t : Placed) → Pieces g l front vs c
+    → Opened c (frames.Fields ss ms ∷ []) item more → Says (close_place more) t (Mark' marks.FieldsClose) → Ends g l c (annotated ss (payloads.Fields ms)) (front ++ (item ++ t ∷ []))
+struct_ends g l c front vs ss ms item more t pieces o h =
+    let alone : item ≡ o.notes ++ o.open' ∷ o.body = o.whole ∙ ap (λ x. x ++ (o.notes ++ o.open' ∷ o.body)) o.outer in
+    let cut : item ++ t ∷ [] ≡ o.notes ++ (o.open' ∷ (o.body ++ t ∷ [])) = ap (λ x. x ++ t ∷ []) alone ∙ append_assoc o.notes (o.open' ∷ o.body) (t ∷ []) in
+    record {
+      front = front;
+      item = item ++ t ∷ [];
+      values = vs;
+      parts = refl;
+      pieces = pieces;
+      means =
+          subst (λ x. Means c places.Top x (annotated ss (payloads.Fields ms))) (sym cut)
+          (means places.Top o.notes (o.open' ∷ (o.body ++ t ∷ [])) ss (payloads.Fields ms) o.noted (is_struct places.Top o.open' t o.body ms more o.opens o.items h));
+    }

@@ -1,0 +1,254 @@
+-- What octets show of a token that ends with the last of them, or before it.
+use Rattle.std.proofs.Common.{◌≡◌, ℕ, List, [], ◌∷◌, ◌++◌, length, Bool, true, false, Ok, refl, sym, ap, ◌∙◌, subst, append-nil, length-append, arith, ◌⊎◌, inl, inr}
+use Rattle.ion_tokens.specs.declared.mode.Mark.{Mark}
+use Rattle.ion_tokens.specs.declared.mode.Mark.TheVariants as marks
+use Rattle.ion_tokens.specs.declared.mode.Mode.TheVariants as modes
+use Rattle.ion_tokens.specs.declared.mode.Place.{Place}
+use Rattle.ion_tokens.specs.declared.mode.Place.TheVariants as places
+use Rattle.ion_tokens.specs.declared.mode.TokenKind.{TokenKind}
+use Rattle.ion_tokens.specs.declared.mode.TokenKind.TheVariants as kinds
+use Rattle.ion_tokens.specs.machine.Table.{end_of}
+use Rattle.ion_tokens.specs.machine.Bounds.{is_idle}
+use Rattle.ion_tokens.specs.machine.Ahead.{is_sane, is_closing, symbol_waits}
+use Rattle.ion_tokens.specs.Bodies.{Content, Word, Id, Quoted, Short, Long, Number', TypedNull, Operator, Clob, Blob, Mark', IsBody}
+use Rattle.ion_tokens.specs.Lexemes.{IsLexeme}
+use Rattle.ion_tokens.specs.Lexed.{Placed, BeginsWith, colon_behind, LexesTo, Passes}
+use Rattle.ion_tokens.specs.machine.Scanning.{Known, Lexeme, Next, Given, Left, feed, run}
+use Rattle.ion_tokens.specs.machine.Scanned.{Scanned, Continues}
+use Rattle.ion_tokens.proofs.Holds.{IsTold, InMode, Sound}
+use Rattle.ion_tokens.proofs.Moves.{at}
+use Rattle.ion_tokens.proofs.Scans.{placed}
+use Rattle.ion_tokens.proofs.Sounds.{feed_sound}
+use Rattle.ion_text.specs.Deciding.{Are, AwaitsColons, NoColons, Sight, by_octet}
+use Rattle.ion_text.specs.laws.reading.Going.{mark_kind}
+use Rattle.ion_text.specs.laws.reading.Meets.{IdleLeft, end_spans, follows_as, idle_left}
+use Rattle.ion_text.specs.laws.reading.Segments.{never}
+use Rattle.ion_text.specs.laws.showing.Ahead.{octet_colons}
+use Rattle.ion_text.specs.laws.showing.Closing.{colons_close}
+use Rattle.ion_text.specs.laws.showing.Cuts.{Behind, Is, behind_tokens, one_found}
+use Rattle.ion_text.specs.laws.showing.Halts.{symbol_colons}
+
+-- one token more
+lexes_more : (ts : List Placed) (colon : Bool) (before : ℕ) (octets : List ℕ) (after : Bool) (end : ℕ) (rest : List ℕ) (t : Placed) (r : List ℕ) → LexesTo colon before octets ts after end rest → BeginsWith after end rest t r
+    → LexesTo colon before octets (ts ++ t ∷ []) (colon_behind t) t.lexeme.end r
+lexes_more [] colon before octets after end rest t r (c, b, o) h = (r, subst (λ x. BeginsWith x before octets t r) (sym c) (subst (λ (x : ℕ). BeginsWith after x octets t r) (sym b) (subst (λ x. BeginsWith after end x t r) (sym o) h)), (refl, refl, refl))
+lexes_more (x ∷ ts) colon before octets after end rest t r (q, b, l) h = (q, b, lexes_more ts (colon_behind x) x.lexeme.end q after end rest t r l h)
+
+-- whether a colon may stand behind the last of them
+pub last_flag : (ts : List Placed) (t : Placed) (colon : Bool) (before : ℕ) (octets : List ℕ) (after : Bool) (end : ℕ) (rest : List ℕ) → LexesTo colon before octets (ts ++ t ∷ []) after end rest → colon_behind t ≡ after
+last_flag [] t colon before octets after end rest (q, b, h) = h.0
+last_flag (x ∷ ts) t colon before octets after end rest (q, b, h) = last_flag ts t (colon_behind x) x.lexeme.end q after end rest h
+
+-- tokens whose end the octet directly behind them shows
+abbrev pub IsBare : TokenKind → Type 0
+IsBare kinds.Word = Unit {0}
+IsBare kinds.KindName = Unit {0}
+IsBare (kinds.Mark marks.FieldsOpen) = Unit {0}
+IsBare _ = ⊥
+
+-- the first octet behind them shows it
+shorter : (p : Place) (colon : Bool) (w : List ℕ) (a : ℕ) (as' r : List ℕ) (k : TokenKind) (kept : List ℕ) → IsBare k → IsLexeme p colon w (a ∷ (as' ++ r)) k kept → IsLexeme p colon w (a ∷ as') k kept
+shorter p colon w a as' r kinds.Word kept b h = h
+shorter p colon w a as' r kinds.KindName kept b h = h
+shorter p colon w a as' r (kinds.Mark marks.FieldsOpen) kept b h = h
+shorter p colon w a as' r _ kept b h = absurd b
+
+-- what such a token says
+abbrev pub BareSaid : Content → Type 0
+BareSaid (Word w) = Unit {0}
+BareSaid (Id id) = Unit {0}
+BareSaid (TypedNull k) = Unit {0}
+BareSaid (Mark' marks.FieldsOpen) = Unit {0}
+BareSaid _ = ⊥
+
+mark_bare : (m : Mark) → BareSaid (Mark' m) → IsBare (kinds.Mark m)
+mark_bare marks.FieldsOpen h = tt
+mark_bare _ h = absurd h
+
+other_bare : (c d : Content) → c ≡ d → (BareSaid d → ⊥) → BareSaid c → ⊥
+other_bare c d e n h = n (subst BareSaid e h)
+
+pub said_bare : (k : TokenKind) (octets : List ℕ) (c : Content) → IsBody k octets (Ok c) → BareSaid c → IsBare k
+said_bare kinds.Word octets c b h = tt
+said_bare kinds.KindName octets c b h = tt
+said_bare kinds.Number octets (Number' n) b h = absurd h
+said_bare kinds.Number octets _ b h = absurd b
+said_bare kinds.Operator octets c b h = absurd (other_bare c (Operator octets) b.0 (λ x. x) h)
+said_bare kinds.QuotedSymbol octets c b h = absurd (other_bare c (Quoted octets) b.0 (λ x. x) h)
+said_bare kinds.ShortString octets c b h = absurd (other_bare c (Short octets) b.0 (λ x. x) h)
+said_bare kinds.LongString octets c b h = absurd (other_bare c (Long octets) b.0 (λ x. x) h)
+said_bare kinds.Clob octets c b h = absurd (other_bare c (Clob octets) (let e : c ≡ Clob octets = cc in e) (λ x. x) h)
+said_bare kinds.Blob octets c b h = absurd (other_bare c (Blob octets) (let e : c ≡ Blob octets = cc in e) (λ x. x) h)
+said_bare (kinds.Mark m) octets c b h = mark_bare m (subst BareSaid (let e : c ≡ Mark' m = cc in e) h)
+
+module _ (p : Place) (s : Known) (u : List ℕ) (ts : List Placed) (ahead : List ℕ) (h : Scanned p s u ts ahead) (o : ℕ) (next : Continues (o ∷ []) ahead) where
+  abbrev pub k : Behind p s u ts ahead
+  k = behind_tokens p s u ts ahead h
+
+  all : LexesTo false 0 (u ++ o ∷ []) ts k.colon k.end (k.since ++ o ∷ [])
+  all = k.lexes (o ∷ []) next
+
+  -- behind a symbol at the top level an octet shows that no `::` follows
+  pub no_colons : p ≡ places.Top → k.colon ≡ true → is_idle s.mode ≡ true → is_sane s.mode ≡ true → symbol_waits (feed p s o) ≡ false → NoColons (u ++ o ∷ []) ts
+  no_colons top colon idle sane shut =
+      let mode : InMode places.Top true k.end s.mode s.kept s.start k.since = subst (λ c. InMode places.Top c k.end s.mode s.kept s.start k.since) colon (subst (λ q. InMode q k.colon k.end s.mode s.kept s.start k.since) top k.holds.mode) in
+      let close = colons_close k.end s.kept s.start s.used k.since s.mode idle mode in
+      record {
+        rest = k.since;
+        o = o;
+        are = (k.colon, k.end, all);
+        before = (close.octets, close.shows);
+        after = octet_colons p k.end k.since s o sane (subst (λ c. run p k.since (at modes.Blank [] c k.end k.end) ≡ Next s) colon k.reached) (symbol_colons (feed p s o) shut);
+      }
+
+  -- behind one `::` may follow
+  pub awaits_colons : p ≡ places.Top → k.colon ≡ true → is_idle s.mode ≡ true → ahead ≡ [] → AwaitsColons u ts
+  awaits_colons top colon idle none =
+      let mode : InMode places.Top true k.end s.mode s.kept s.start k.since = subst (λ c. InMode places.Top c k.end s.mode s.kept s.start k.since) colon (subst (λ q. InMode q k.colon k.end s.mode s.kept s.start k.since) top k.holds.mode) in
+      let close = colons_close k.end s.kept s.start s.used k.since s.mode idle mode in
+      let here : LexesTo false 0 (u ++ []) ts k.colon k.end (k.since ++ []) = k.lexes [] ([], sym (append-nil ahead ∙ none)) in
+      record {
+        rest = k.since;
+        are = (k.colon, k.end, subst (λ x. LexesTo false 0 x ts k.colon k.end k.since) (append-nil u) (subst (λ x. LexesTo false 0 (u ++ []) ts k.colon k.end x) (append-nil k.since) here));
+        before = (close.octets, close.shows);
+      }
+
+  pub flag : (us : List Placed) (t : Placed) → ts ≡ us ++ t ∷ [] → colon_behind t ≡ true → k.colon ≡ true
+  flag us t e c = sym (last_flag us t false 0 (u ++ o ∷ []) k.colon k.end (k.since ++ o ∷ []) (subst (λ x. LexesTo false 0 (u ++ o ∷ []) x k.colon k.end (k.since ++ o ∷ [])) e all)) ∙ c
+
+  module _ (x : Lexeme) (s' : Known) (pass : Passes x.kind x.octets) where
+    -- 1. A token that ends with the octet.
+
+    told : feed p s o ≡ Given x s' → IsTold p k.colon k.end (k.since ++ o ∷ []) [] [] x s'
+    told e = subst (λ y. Sound p k.colon k.end k.since o y) e (feed_sound p k.colon k.end s k.since o k.holds)
+
+    pub given_ends : feed p s o ≡ Given x s' → Are (u ++ o ∷ []) (ts ++ placed p x ∷ []) []
+    given_ends e =
+        let i = told e in (
+          colon_behind (placed p x),
+          x.end,
+          lexes_more ts false 0 (u ++ o ∷ []) k.colon k.end (k.since ++ o ∷ []) (placed p x) [] all
+              (record { blank = i.front; token = i.token; is_blank = i.blank; cut = i.cut; start = i.start; end = i.end; is = i.found [] pass }),
+        )
+
+    -- Its end isn't shown by the octet behind it.
+    pub given_bare : feed p s o ≡ Given x s' → IsBare x.kind → ⊥
+    given_bare e b = go x.kind refl b
+      where
+        i : IsTold p k.colon k.end (k.since ++ o ∷ []) [] [] x s'
+        i = told e
+
+        more : (n : ℕ) (kind : TokenKind) → x.kind ≡ kind → IsLexeme p k.colon i.token (n ∷ []) kind x.octets
+        more n kind f = subst (λ y. IsLexeme p k.colon i.token (n ∷ []) y x.octets) f (i.found (n ∷ []) pass)
+
+        go : (kind : TokenKind) → x.kind ≡ kind → IsBare kind → ⊥
+        go kinds.Word f b = let w = more 97 kinds.Word f in let n : true ≡ false = w.2 in cc
+        go kinds.KindName f b = let w = more 97 kinds.KindName f in let n : true ≡ false = w.2 in cc
+        go (kinds.Mark marks.FieldsOpen) f b = let w = more 123 (kinds.Mark marks.FieldsOpen) f in let n : true ≡ false = w.3 in cc
+        go _ f b = absurd b
+
+    -- 2. One that ended before the octet.
+
+    left_told : feed p s o ≡ Left x s' → (over : List ℕ) × IsTold p k.colon k.end k.since over (o ∷ []) x s'
+    left_told e = subst (λ y. Sound p k.colon k.end k.since o y) e (feed_sound p k.colon k.end s k.since o k.holds)
+
+    -- directly before it
+    none_over : IsBare x.kind → (over : List ℕ) → IsTold p k.colon k.end k.since over (o ∷ []) x s' → over ≡ []
+    none_over b [] i = refl
+    none_over b (a ∷ as') i =
+        absurd (by (subst (Is p x) k.reached (one_found k.colon k.end k.since (placed p x) (a ∷ as')
+        (record { blank = i.front; token = i.token; is_blank = i.blank; cut = i.cut; start = i.start; end = i.end; is = shorter p k.colon i.token a as' (o ∷ []) x.kind x.octets b (i.found [] pass) }))))
+      where
+        by : Is p x (Next s) → ⊥
+        by (inl e) = omega (arith, (end_spans s (end_of p s.mode) x e).1, i.end, k.holds.used, ap length i.cut, length-append (i.front ++ i.token) (a ∷ as'), length-append i.front i.token)
+        by (inr e) = subst IsBare e.1 b
+
+    pub left_ends : feed p s o ≡ Left x s' → IsBare x.kind → (z : ℕ) × Are (u ++ o ∷ []) (ts ++ placed p x ∷ []) (z ∷ [])
+    left_ends e b =
+        let d = left_told e in
+        let i : IsTold p k.colon k.end k.since [] (o ∷ []) x s' = subst (λ a. IsTold p k.colon k.end k.since a (o ∷ []) x s') (none_over b d.0 d.1) d.1 in (
+          o,
+          (
+            colon_behind (placed p x),
+            x.end,
+            lexes_more ts false 0 (u ++ o ∷ []) k.colon k.end (k.since ++ o ∷ []) (placed p x) (o ∷ []) all
+                (record { blank = i.front; token = i.token; is_blank = i.blank; cut = ap (λ y. y ++ o ∷ []) (i.cut ∙ append-nil (i.front ++ i.token)); start = i.start; end = i.end; is = i.found [] pass }),
+          ),
+        )
+
+    -- No mark but `{` and a colon is left.
+    pub left_mark : is_sane s.mode ≡ true → feed p s o ≡ Left x s' → is_closing x.kind ≡ true → x.kind ≡ kinds.Mark marks.Colon ⊎ (x.kind ≡ kinds.Operator)
+    left_mark sane e c = go (is_idle s.mode) refl
+      where
+        by : IdleLeft p s.used (Left x s') → x.kind ≡ kinds.Mark marks.Colon ⊎ (x.kind ≡ kinds.Operator)
+        by (inl y) = inl y.0
+        by (inr y) = inr y.0
+
+        go : (b : Bool) → is_idle s.mode ≡ b → x.kind ≡ kinds.Mark marks.Colon ⊎ (x.kind ≡ kinds.Operator)
+        go true i = by (subst (IdleLeft p s.used) e (idle_left p s o i))
+        go false i = absurd (never (is_closing x.kind) ((follows_as p s o (Left x s') sane e).1 i) c)
+
+-- 3. What is shown of a token that says this.
+
+abbrev pub MarkShown : Sight → List Placed → Mark → Type 0
+MarkShown sight ts marks.FieldsOpen = sight.struct ts
+MarkShown sight ts marks.Comma = Unit {0}
+MarkShown sight ts marks.Colon = Unit {0}
+MarkShown sight ts _ = sight.mark ts
+
+abbrev pub Shown : Sight → List Placed → Content → Type 0
+Shown sight ts (Word v) = sight.word ts
+Shown sight ts (Id id) = sight.word ts
+Shown sight ts (TypedNull k) = sight.word ts
+Shown sight ts (Mark' m) = MarkShown sight ts m
+Shown sight ts _ = Unit {0}
+
+module _ (p : Place) (s : Known) (u : List ℕ) (ts : List Placed) (ahead : List ℕ) (h : Scanned p s u ts ahead) (o : ℕ) (next : Continues (o ∷ []) ahead) (x : Lexeme) (s' : Known) (pass : Passes x.kind x.octets) (c : Content) (body : IsBody x.kind x.octets (Ok c)) where
+  pub given_shown : feed p s o ≡ Given x s' → Shown (by_octet (u ++ o ∷ [])) (ts ++ placed p x ∷ []) c
+  given_shown e = go c refl
+    where
+      ends : Are (u ++ o ∷ []) (ts ++ placed p x ∷ []) []
+      ends = given_ends p s u ts ahead h o next x s' pass e
+
+      bare : (d : Content) → c ≡ d → BareSaid d → ⊥
+      bare d f b = given_bare p s u ts ahead h o next x s' pass e (said_bare x.kind x.octets c body (subst BareSaid (sym f) b))
+
+      go : (d : Content) → c ≡ d → Shown (by_octet (u ++ o ∷ [])) (ts ++ placed p x ∷ []) d
+      go (Word v) f = absurd (bare (Word v) f tt)
+      go (Id id) f = absurd (bare (Id id) f tt)
+      go (TypedNull k) f = absurd (bare (TypedNull k) f tt)
+      go (Mark' marks.FieldsOpen) f = absurd (bare (Mark' marks.FieldsOpen) f tt)
+      go (Mark' marks.Comma) f = tt
+      go (Mark' marks.Colon) f = tt
+      go (Mark' _) f = ends
+      go _ f = tt
+
+  pub left_shown : is_sane s.mode ≡ true → feed p s o ≡ Left x s' → Shown (by_octet (u ++ o ∷ [])) (ts ++ placed p x ∷ []) c
+  left_shown sane e = go c refl
+    where
+      ends : (d : Content) → c ≡ d → BareSaid d → (z : ℕ) × Are (u ++ o ∷ []) (ts ++ placed p x ∷ []) (z ∷ [])
+      ends d f b = left_ends p s u ts ahead h o next x s' pass e (said_bare x.kind x.octets c body (subst BareSaid (sym f) b))
+
+      closing : (m : Mark) → c ≡ Mark' m → is_closing (kinds.Mark m) ≡ true → (m ≡ marks.Colon → ⊥) → ⊥
+      closing m f i n =
+          let kind : x.kind ≡ kinds.Mark m = mark_kind x.kind x.octets m (subst (λ y. IsBody x.kind x.octets (Ok y)) f body) in
+          by m n kind (left_mark p s u ts ahead h o next x s' pass sane e (ap is_closing kind ∙ i))
+        where
+          by : (m : Mark) → (m ≡ marks.Colon → ⊥) → x.kind ≡ kinds.Mark m → x.kind ≡ kinds.Mark marks.Colon ⊎ (x.kind ≡ kinds.Operator) → ⊥
+          by m n kind (inl y) = n (let q : kinds.Mark m ≡ kinds.Mark marks.Colon = sym kind ∙ y in let q' : m ≡ marks.Colon = cc in q')
+          by m n kind (inr y) = absurd (let q : kinds.Mark m ≡ kinds.Operator = sym kind ∙ y in cc)
+
+      go : (d : Content) → c ≡ d → Shown (by_octet (u ++ o ∷ [])) (ts ++ placed p x ∷ []) d
+      go (Word v) f = ends (Word v) f tt
+      go (Id id) f = ends (Id id) f tt
+      go (TypedNull k) f = ends (TypedNull k) f tt
+      go (Mark' marks.FieldsOpen) f = ends (Mark' marks.FieldsOpen) f tt
+      go (Mark' marks.Comma) f = tt
+      go (Mark' marks.Colon) f = tt
+      go (Mark' marks.FieldsClose) f = absurd (closing marks.FieldsClose f refl (λ q. cc))
+      go (Mark' marks.ListOpen) f = absurd (closing marks.ListOpen f refl (λ q. cc))
+      go (Mark' marks.ListClose) f = absurd (closing marks.ListClose f refl (λ q. cc))
+      go (Mark' marks.SexpOpen) f = absurd (closing marks.SexpOpen f refl (λ q. cc))
+      go (Mark' marks.SexpClose) f = absurd (closing marks.SexpClose f refl (λ q. cc))
+      go (Mark' marks.Colons) f = absurd (closing marks.Colons f refl (λ q. cc))
+      go _ f = tt

@@ -1,0 +1,365 @@
+-- What a token is refused for, and what waits, is a row of the table.
+use Rattle.std.proofs.Common.{◌≡◌, ℕ, ◌+◌, ◌≤◌, nat_le, nat_lt, List, [], ◌∷◌, ◌++◌, length, Bool, true, false, ◌&&◌, ◌||◌, Result, Ok, Err, Option, Some, refl, sym, ap, ◌∙◌, subst, append_assoc, arith, codes, if◌then◌else◌, inl, inr}
+use Rattle.std.proofs.lemmas.Bool.Decides.{nat_tests}
+use Rattle.std.specs.Str.{bytes_eq}
+use Rattle.std.proofs.lemmas.Slice.Eq.{bytes_eq-Decides}
+use Rattle.ion_model.specs.declared.value.Value.{Value}
+use Rattle.ion_model.specs.declared.value.Field.{Field}
+use Rattle.ion_model.specs.declared.value.Payload.{Payload}
+use Rattle.ion_model.specs.declared.value.Payload.TheVariants as payloads
+use Rattle.ion_model.specs.declared.value.Payload.TheViews as views
+use Rattle.ion_model.specs.Measures.{annotated}
+use Rattle.ion_model.specs.Kinds.{is_fields, is_table, layer_kind, names_table}
+use Rattle.ion_atoms.specs.declared.kind.Kind.{Kind}
+use Rattle.ion_atoms.specs.declared.kind.Kind.TheVariants as values
+use Rattle.ion_atoms.specs.declared.refusal.Reason.{Reason}
+use Rattle.ion_atoms.specs.declared.refusal.Reason.TheVariants as reasons
+use Rattle.ion_scalar.specs.declared.number.Number.{Number}
+use Rattle.ion_scalar.specs.declared.number.Number.TheVariants as numbers
+use Rattle.ion_symtab.specs.declared.limits.Limits.{Limits}
+use Rattle.ion_symtab.specs.declared.catalog.Catalog.{Catalog}
+use Rattle.ion_symtab.specs.Slots.{Slot, resolve, system_slots}
+use Rattle.ion_symtab.specs.Next.{next}
+use Rattle.ion_tokens.specs.declared.mode.Place.TheVariants as places
+use Rattle.ion_tokens.specs.declared.mode.Mark.TheVariants as marks
+use Rattle.ion_tokens.specs.Bodies.{Content, Word, Id, Quoted, Short, Long, Number', TypedNull, Operator, Clob, Blob, Mark'}
+use Rattle.ion_tokens.specs.Lexed.{Placed}
+use Rattle.ion_text.specs.declared.state.Held.{Held}
+use Rattle.ion_text.specs.declared.state.Held.TheVariants as helds
+use Rattle.ion_text.specs.declared.state.Now.{Now}
+use Rattle.ion_text.specs.declared.state.Now.TheVariants as nows
+use Rattle.ion_text.specs.declared.state.Frame.{Frame}
+use Rattle.ion_text.specs.declared.state.Frame.TheVariants as frames
+use Rattle.ion_text.specs.Grammar.{Says, Means, means, one_token, Pieces, close_place, is_keyword, is_version, the_marker}
+use Rattle.ion_text.specs.Deciding.{Ends, IsKeyword, InStruct, Sight, Gives, HasRow, no_symbol, keyword_as_name, keyword_as_annotation, other_version, null_table, too_deep, struct_too_deep, bad_table}
+use Rattle.ion_text.specs.machine.EachToken.{under, spot_at, token_at, Turn, goes, gives, refuses, late, Symbols, at, fresh, place_in, settle, turn_now, ended, within, turned, held_word, held_symbol, released, begun_at, on_ready, on_pending, on_after, on_name, on_comma, on_long, on_long_name, on_keyed, resolved, noted, keyed, named, list_closed, sexp_closed, number_payload}
+use Rattle.ion_text.specs.laws.reading.Held.{none_noted}
+use Rattle.ion_text.specs.laws.reading.Places.{pending_at}
+use Rattle.ion_text.specs.laws.reading.Segments.{never}
+use Rattle.ion_text.specs.laws.reading.Sound.{Opened, ReadyFor, PendingFor, NowStands, IsHeld, symbol_said, value_place}
+use Rattle.ion_text.specs.laws.deciding.Openings.{containers, levels_same, takes_value, says_there, value_comes, name_comes, struct_ends}
+use Rattle.ion_text.specs.laws.deciding.Shows.{Shown}
+
+-- 1. Of what is no local symbol table, and of words.
+
+-- what isn't of the kind of structs is no local symbol table
+no_table : (ss : Symbols) (q : Payload) → is_fields (layer_kind (views.out-Payload q)) ≡ false → is_table (annotated ss q) ≡ false
+no_table [] q h = refl
+no_table (s ∷ ss) q h = go (names_table s) (is_fields (layer_kind (views.out-Payload q))) h
+  where
+    go : (a b : Bool) → b ≡ false → (a && b) ≡ false
+    go true b h = h
+    go false b h = refl
+
+flat_number : (n : Number) → is_fields (layer_kind (views.out-Payload (number_payload n))) ≡ false
+flat_number (numbers.Int z) = ap (λ y. is_fields (layer_kind y)) (views.outs-Int z)
+flat_number (numbers.Decimal d) = ap (λ y. is_fields (layer_kind y)) (views.outs-Decimal d)
+flat_number (numbers.Timestamp t) = ap (λ y. is_fields (layer_kind y)) (views.outs-Timestamp t)
+
+not_less : (a b : ℕ) → nat_lt a b ≡ false → b ≤ a
+not_less a b h = grind (arith, nat_tests)
+
+-- a word that is held as no symbol
+word_keyword : (w : List ℕ) (e : Reason) → held_symbol (held_word w) ≡ Err e → (is_keyword w ≡ true) × (reasons.KeywordAsName ≡ e)
+word_keyword w e h = go (bytes_eq w (codes "null")) (bytes_eq w (codes "true")) (bytes_eq w (codes "false")) (bytes_eq w (codes "nan")) (is_version w) h
+  where
+    go : (a b c d v : Bool) → held_symbol (if a then helds.Null values.Null else (if b then helds.Truth true else (if c then helds.Truth false else (if d then helds.Nan else (if v then helds.Version (bytes_eq w the_marker) (Some w) else helds.Symbol (Some w)))))) ≡ Err e
+        → (((a || b) || (c || d)) ≡ true) × (reasons.KeywordAsName ≡ e)
+    go true b c d v h = (refl, let k : reasons.KeywordAsName ≡ e = cc in k)
+    go false true c d v h = (refl, let k : reasons.KeywordAsName ≡ e = cc in k)
+    go false false true d v h = (refl, let k : reasons.KeywordAsName ≡ e = cc in k)
+    go false false false true v h = (refl, let k : reasons.KeywordAsName ≡ e = cc in k)
+    go false false false false true h = absurd cc
+    go false false false false false h = absurd cc
+
+held_keyword : (c : List Slot) (said : Content) (h : Held) (e : Reason) → symbol_said said ≡ true → IsHeld c said h → held_symbol h ≡ Err e → IsKeyword said × (reasons.KeywordAsName ≡ e)
+held_keyword c (Word w) h e n k f = word_keyword w e (ap held_symbol (sym k) ∙ f)
+held_keyword c (Id id) h e n k f = absurd (let x : Ok k.0 ≡ Err e = ap held_symbol (sym k.2) ∙ f in cc)
+held_keyword c (Quoted w) h e n k f = absurd (let x : Ok (Some w) ≡ Err e = ap held_symbol (sym k) ∙ f in cc)
+held_keyword c (TypedNull kind) h e n k f = (tt, let x : Err reasons.KeywordAsName ≡ Err e = ap held_symbol (sym k) ∙ f in let y : reasons.KeywordAsName ≡ e = cc in y)
+held_keyword c _ h e n k f = absurd cc
+
+-- what is held as the marker of another version is such a word
+record OtherVersion (said : Content) : Type 0 where
+  word : List ℕ
+  is : said ≡ Word word
+  version : is_version word ≡ true
+  other : bytes_eq word the_marker ≡ false
+
+word_other : (w : List ℕ) (s : Option (List ℕ)) → helds.Version false s ≡ held_word w → OtherVersion (Word w)
+word_other w s h = go (bytes_eq w (codes "null")) (bytes_eq w (codes "true")) (bytes_eq w (codes "false")) (bytes_eq w (codes "nan")) (is_version w) refl h
+  where
+    which : Held → Bool
+    which (helds.Version b s) = b
+    which _ = true
+
+    go : (a b c d v : Bool) → is_version w ≡ v → helds.Version false s ≡ (if a then helds.Null values.Null else (if b then helds.Truth true else (if c then helds.Truth false else (if d then helds.Nan else (if v then helds.Version (bytes_eq w the_marker) (Some w) else helds.Symbol (Some w))))))
+        → OtherVersion (Word w)
+    go true b c d v f h = absurd cc
+    go false true c d v f h = absurd cc
+    go false false true d v f h = absurd cc
+    go false false false true v f h = absurd cc
+    go false false false false true f h = record { word = w; is = refl; version = f; other = sym (ap which h) }
+    go false false false false false f h = absurd cc
+
+held_other : (c : List Slot) (said : Content) (s : Option (List ℕ)) → symbol_said said ≡ true → IsHeld c said (helds.Version false s) → OtherVersion said
+held_other c (Word w) s n k = word_other w s k
+held_other c (Id id) s n k = absurd (let x : helds.Version false s ≡ helds.Symbol k.0 = k.2 in cc)
+held_other c (Quoted w) s n k = absurd cc
+held_other c (TypedNull kind) s n k = absurd cc
+held_other c _ s n k = absurd cc
+
+-- 2. Turns.
+
+module _ (g : Catalog) (l : Limits) (sight : Sight) where
+  -- if rows have such a reason, one of them says that this is seen
+  abbrev pub Decided : Reason → Type 0
+  Decided e = HasRow e → Gives g l sight e
+
+  abbrev pub TurnDecided : Turn → Type 0
+  TurnDecided (goes r) = Unit {0}
+  TurnDecided (gives v r) = Unit {0}
+  TurnDecided (refuses e) = Decided e
+  TurnDecided (late e r) = Decided e
+
+  within_decided : (item start end : ℕ) (t : Turn) → TurnDecided t → TurnDecided (within item start end t)
+  within_decided item start end t h = go (nat_le end (start + item))
+    where
+      go : (b : Bool) → TurnDecided (if b then t else refuses reasons.ItemTooLong)
+      go true = h
+      go false = λ i. absurd i
+
+  top_decided : (item start end : ℕ) (c : List Slot) (v : Value) (d : Result (List Slot) Reason) (b : Bool) → ((e : Reason) → b ≡ true → d ≡ Err e → Decided e)
+      → TurnDecided (if b then turned item start end d else within item start end (gives v (fresh c)))
+  top_decided item start end c v (Ok d) true f = within_decided item start end (goes (fresh d)) tt
+  top_decided item start end c v (Err e) true f = f e refl refl
+  top_decided item start end c v d false f = within_decided item start end (gives v (fresh c)) tt
+
+  ended_decided : (start end : ℕ) (c : List Slot) (fs : List Frame) (v : Value) → ((e : Reason) → fs ≡ [] → is_table v ≡ true → next c v g ≡ Err e → Decided e) → TurnDecided (ended (under g l) (spot_at end start c) fs v)
+  ended_decided start end c [] v f = top_decided l.item start end c v (next c v g) (is_table v) (λ e i j. f e refl i j)
+  ended_decided start end c (frames.List ss vs ∷ fs) v f = tt
+  ended_decided start end c (frames.Sexp ss vs ∷ fs) v f = tt
+  ended_decided start end c (frames.Named ss ms s ∷ fs) v f = tt
+  ended_decided start end c (frames.Fields ss ms ∷ fs) v f = λ i. absurd i
+
+  flat_decided : (start end : ℕ) (c : List Slot) (fs : List Frame) (ss : Symbols) (q : Payload) → is_fields (layer_kind (views.out-Payload q)) ≡ false → TurnDecided (ended (under g l) (spot_at end start c) fs (annotated ss q))
+  flat_decided start end c fs ss q h = ended_decided start end c fs (annotated ss q) (λ e i j k. absurd (never (is_table (annotated ss q)) (no_table ss q h) j))
+
+  inside_decided : (start end : ℕ) (c : List Slot) (f : Frame) (fs : List Frame) (v : Value) → TurnDecided (ended (under g l) (spot_at end start c) (f ∷ fs) v)
+  inside_decided start end c f fs v = ended_decided start end c (f ∷ fs) v (λ e i j k. absurd (let n : f ∷ fs ≡ [] = i in cc))
+
+  list_decided : (start end : ℕ) (c : List Slot) (fs : List Frame) → TurnDecided (list_closed (under g l) (spot_at end start c) fs)
+  list_decided start end c (frames.List ss vs ∷ fs) = flat_decided start end c fs ss (payloads.List vs) (ap (λ y. is_fields (layer_kind y)) (views.outs-List vs))
+  list_decided start end c (frames.Sexp ss vs ∷ fs) = λ i. absurd i
+  list_decided start end c (frames.Fields ss ms ∷ fs) = λ i. absurd i
+  list_decided start end c (frames.Named ss ms s ∷ fs) = λ i. absurd i
+  list_decided start end c [] = λ i. absurd i
+
+  sexp_decided : (start end : ℕ) (c : List Slot) (fs : List Frame) → TurnDecided (sexp_closed (under g l) (spot_at end start c) fs)
+  sexp_decided start end c (frames.Sexp ss vs ∷ fs) = flat_decided start end c fs ss (payloads.Sexp vs) (ap (λ y. is_fields (layer_kind y)) (views.outs-Sexp vs))
+  sexp_decided start end c (frames.List ss vs ∷ fs) = λ i. absurd i
+  sexp_decided start end c (frames.Fields ss ms ∷ fs) = λ i. absurd i
+  sexp_decided start end c (frames.Named ss ms s ∷ fs) = λ i. absurd i
+  sexp_decided start end c [] = λ i. absurd i
+
+  module _ (c : List Slot) (front : List Placed) (vs : List Value) (pieces : Pieces g l front vs c) where
+    -- a struct is closed
+    closed_decided : (start end : ℕ) (ss : Symbols) (ms : List Field) (fs : List Frame) (item : List Placed) (more : Bool) (t : Placed) → Opened c (frames.Fields ss ms ∷ fs) item more → Says (close_place more) t (Mark' marks.FieldsClose)
+        → sight.mark (front ++ (item ++ t ∷ [])) → TurnDecided (ended (under g l) (spot_at end start c) fs (annotated ss (payloads.Fields ms)))
+    closed_decided start end ss ms fs item more t o says shown =
+        ended_decided start end c fs (annotated ss (payloads.Fields ms))
+        (λ e none i j k. bad_table (front ++ (item ++ t ∷ [])) c ss ms e shown (struct_ends g l c front vs ss ms item more t pieces (subst (λ y. Opened c (frames.Fields ss ms ∷ y) item more) none o) says) i j)
+
+    module _ (t : Placed) (start end : ℕ) (item : List Placed) where
+      abbrev ts : List Placed
+      ts = front ++ (item ++ t ∷ [])
+
+      -- where a value may come
+      ready_decided : (fs : List Frame) (ss : Symbols) (said : Content) → ReadyFor c fs ss item → Says (value_place fs) t said → Shown sight ts said → TurnDecided (on_ready (under g l) (spot_at end start c) fs ss said)
+      ready_decided fs ss (Word x) d says shown = tt
+      ready_decided fs ss (Id id) d says shown = go (resolve c id) refl
+        where
+          go : (r : Result (Option (List ℕ)) Reason) → resolve c id ≡ r → TurnDecided (resolved r (λ s. goes (at start c fs ss (nows.Pending (helds.Symbol s) end))))
+          go (Ok s) e = tt
+          go (Err e) f = λ i. no_symbol ts c (containers fs) id e shown (value_comes g l c front vs pieces t (Id id) fs ss item d says) f
+      ready_decided fs ss (Quoted x) d says shown = tt
+      ready_decided fs ss (TypedNull k) d says shown = tt
+      ready_decided fs ss (Long x) d says shown = tt
+      ready_decided fs ss (Short x) d says shown = flat_decided start end c fs ss (payloads.Str x) (ap (λ y. is_fields (layer_kind y)) (views.outs-Str x))
+      ready_decided fs ss (Number' n) d says shown = flat_decided start end c fs ss (number_payload n) (flat_number n)
+      ready_decided fs ss (Operator x) d says shown = flat_decided start end c fs ss (payloads.Symbol (Some x)) (ap (λ y. is_fields (layer_kind y)) (views.outs-Symbol (Some x)))
+      ready_decided fs ss (Clob x) d says shown = flat_decided start end c fs ss (payloads.Clob x) (ap (λ y. is_fields (layer_kind y)) (views.outs-Clob x))
+      ready_decided fs ss (Blob x) d says shown = flat_decided start end c fs ss (payloads.Blob x) (ap (λ y. is_fields (layer_kind y)) (views.outs-Blob x))
+      ready_decided fs ss (Mark' marks.ListOpen) d says shown = go (nat_lt (length fs) l.depth) refl
+        where
+          go : (b : Bool) → nat_lt (length fs) l.depth ≡ b → TurnDecided (if b then goes (at start c (frames.List ss [] ∷ fs) [] nows.Ready) else refuses reasons.Depth)
+          go true e = tt
+          go false e = λ i. too_deep ts c (containers fs) (Mark' marks.ListOpen) shown (value_comes g l c front vs pieces t (Mark' marks.ListOpen) fs ss item d says) (takes_value fs d.receives) (inl refl) (omega (arith, not_less (length fs) l.depth e, levels_same fs))
+      ready_decided fs ss (Mark' marks.SexpOpen) d says shown = go (nat_lt (length fs) l.depth) refl
+        where
+          go : (b : Bool) → nat_lt (length fs) l.depth ≡ b → TurnDecided (if b then goes (at start c (frames.Sexp ss [] ∷ fs) [] nows.Ready) else refuses reasons.Depth)
+          go true e = tt
+          go false e = λ i. too_deep ts c (containers fs) (Mark' marks.SexpOpen) shown (value_comes g l c front vs pieces t (Mark' marks.SexpOpen) fs ss item d says) (takes_value fs d.receives) (inr refl) (omega (arith, not_less (length fs) l.depth e, levels_same fs))
+      ready_decided fs ss (Mark' marks.FieldsOpen) d says shown = go (nat_lt (length fs) l.depth) refl
+        where
+          go : (b : Bool) → nat_lt (length fs) l.depth ≡ b → TurnDecided (if b then goes (at start c (frames.Fields ss [] ∷ fs) [] nows.Name) else late reasons.Depth (at start c (frames.Fields ss [] ∷ fs) [] nows.Name))
+          go true e = tt
+          go false e = λ i. struct_too_deep ts c (containers fs) shown (value_comes g l c front vs pieces t (Mark' marks.FieldsOpen) fs ss item d says) (takes_value fs d.receives) (omega (arith, not_less (length fs) l.depth e, levels_same fs))
+      ready_decided fs [] (Mark' marks.ListClose) d says shown = list_decided start end c fs
+      ready_decided fs (s ∷ ss) (Mark' marks.ListClose) d says shown = λ i. absurd i
+      ready_decided fs [] (Mark' marks.SexpClose) d says shown = sexp_decided start end c fs
+      ready_decided fs (s ∷ ss) (Mark' marks.SexpClose) d says shown = λ i. absurd i
+      ready_decided fs ss (Mark' marks.FieldsClose) d says shown = λ i. absurd i
+      ready_decided fs ss (Mark' marks.Comma) d says shown = λ i. absurd i
+      ready_decided fs ss (Mark' marks.Colon) d says shown = λ i. absurd i
+      ready_decided fs ss (Mark' marks.Colons) d says shown = λ i. absurd i
+
+      -- behind what may be an annotation
+      pending_decided : (fs : List Frame) (ss : Symbols) (h : Held) (said : Content) → PendingFor c fs ss h item → Says (value_place fs) t said → Shown sight ts said → TurnDecided (on_pending start c fs ss h said)
+      pending_decided fs ss h (Mark' marks.Colons) d says shown = go (held_symbol h) refl
+        where
+          whole : ts ≡ (front ++ (d.before ++ d.token ∷ [])) ++ t ∷ []
+          whole = sym (append_assoc front item (t ∷ [])) ∙ ap (λ x. (front ++ x) ++ t ∷ []) d.whole
+
+          go : (r : Result (Option (List ℕ)) Reason) → held_symbol h ≡ r → TurnDecided (noted start c fs ss r)
+          go (Ok s) e = tt
+          go (Err e) f =
+              let k = held_keyword c d.said h e d.named d.known f in
+              subst Decided k.1
+              (λ i. keyword_as_annotation (front ++ (d.before ++ d.token ∷ [])) t c (containers fs) d.said (subst sight.mark whole shown)
+              (value_comes g l c front vs pieces d.token d.said fs ss d.before d.ready d.says) (takes_value fs d.ready.receives) k.0 (says_there fs t (Mark' marks.Colons) says))
+      pending_decided fs ss h _ d says shown = λ i. absurd i
+
+      comma_decided : (fs : List Frame) → TurnDecided (on_comma start c fs)
+      comma_decided (frames.List ss vs ∷ fs) = tt
+      comma_decided (frames.Fields ss ms ∷ fs) = tt
+      comma_decided (frames.Sexp ss vs ∷ fs) = λ i. absurd i
+      comma_decided (frames.Named ss ms s ∷ fs) = λ i. absurd i
+      comma_decided [] = λ i. absurd i
+
+      -- behind an element or a field
+      after_decided : (fs : List Frame) (said : Content) → Opened c fs item false → Says (place_in fs nows.After) t said → Shown sight ts said → TurnDecided (on_after (under g l) (spot_at end start c) fs said)
+      after_decided fs (Mark' marks.Comma) o says shown = comma_decided fs
+      after_decided fs (Mark' marks.ListClose) o says shown = list_decided start end c fs
+      after_decided (frames.Fields ss ms ∷ fs) (Mark' marks.FieldsClose) o says shown = closed_decided start end ss ms fs item false t o says shown
+      after_decided (frames.List ss vs ∷ fs) (Mark' marks.FieldsClose) o says shown = λ i. absurd i
+      after_decided (frames.Sexp ss vs ∷ fs) (Mark' marks.FieldsClose) o says shown = λ i. absurd i
+      after_decided (frames.Named ss ms s ∷ fs) (Mark' marks.FieldsClose) o says shown = λ i. absurd i
+      after_decided [] (Mark' marks.FieldsClose) o says shown = λ i. absurd i
+      after_decided fs _ o says shown = λ i. absurd i
+
+      -- where a name may come
+      name_decided : (ss : Symbols) (ms : List Field) (fs : List Frame) (said : Content) → Opened c (frames.Fields ss ms ∷ fs) item true → Says places.Name t said → Shown sight ts said → TurnDecided (on_name (under g l) (spot_at end start c) (frames.Fields ss ms ∷ fs) said)
+      name_decided ss ms fs (Word x) o says shown = go (is_keyword x) refl
+        where
+          go : (b : Bool) → is_keyword x ≡ b → TurnDecided (if b then late reasons.KeywordAsName (keyed start c (frames.Fields ss ms ∷ fs) (Some x)) else goes (keyed start c (frames.Fields ss ms ∷ fs) (Some x)))
+          go true e = λ i. keyword_as_name ts c (containers fs) (Word x) shown (name_comes g l c front vs pieces t (Word x) ss ms fs item o says) e
+          go false e = tt
+      name_decided ss ms fs (TypedNull k) o says shown = λ i. keyword_as_name ts c (containers fs) (TypedNull k) shown (name_comes g l c front vs pieces t (TypedNull k) ss ms fs item o says) tt
+      name_decided ss ms fs (Id id) o says shown = go (resolve c id) refl
+        where
+          go : (r : Result (Option (List ℕ)) Reason) → resolve c id ≡ r → TurnDecided (resolved r (λ s. goes (keyed start c (frames.Fields ss ms ∷ fs) s)))
+          go (Ok s) e = tt
+          go (Err e) f = λ i. no_symbol ts c (InStruct ∷ containers fs) id e shown (name_comes g l c front vs pieces t (Id id) ss ms fs item o says) f
+      name_decided ss ms fs (Quoted x) o says shown = tt
+      name_decided ss ms fs (Short x) o says shown = tt
+      name_decided ss ms fs (Long x) o says shown = tt
+      name_decided ss ms fs (Mark' marks.FieldsClose) o says shown = closed_decided start end ss ms fs item true t o says shown
+      name_decided ss ms fs _ o says shown = λ i. absurd i
+
+      -- behind a segment of a long name
+      long_name_decided : (fs : List Frame) (v : List ℕ) (said : Content) → TurnDecided (on_long_name start c fs v said)
+      long_name_decided fs v (Long x) = tt
+      long_name_decided fs v _ = λ i. absurd i
+
+      named_decided : (fs : List Frame) (s : Option (List ℕ)) → TurnDecided (named start c fs s)
+      named_decided (frames.Fields ss ms ∷ fs) s = tt
+      named_decided (frames.List ss vs ∷ fs) s = λ i. absurd i
+      named_decided (frames.Sexp ss vs ∷ fs) s = λ i. absurd i
+      named_decided (frames.Named ss ms x ∷ fs) s = λ i. absurd i
+      named_decided [] s = λ i. absurd i
+
+      keyed_decided : (fs : List Frame) (s : Option (List ℕ)) (said : Content) → TurnDecided (on_keyed start c fs s said)
+      keyed_decided fs s (Mark' marks.Colon) = named_decided fs s
+      keyed_decided fs s _ = λ i. absurd i
+
+      long_decided : (fs : List Frame) (ss : Symbols) (v : List ℕ) (said : Content) → TurnDecided (on_long (spot_at end start c) fs ss v said)
+      long_decided fs ss v (Long x) = tt
+      long_decided fs ss v _ = λ i. absurd i
+
+    -- What a token is refused for is a row.
+    pub token_decided : (t : Placed) (begin end start : ℕ) (item : List Placed) (fs : List Frame) (ss : Symbols) (said : Content) (now : Now) → NowStands c fs ss item now → Says (place_in fs now) t said
+        → Shown sight (front ++ (item ++ t ∷ [])) said → TurnDecided (turn_now (under g l) (at start c fs ss now) (token_at begin end said) now)
+    token_decided t begin end start item fs ss said nows.Ready d says shown = ready_decided t (begun_at start begin fs ss) end item fs ss said d says shown
+    token_decided t begin end start item fs ss said (nows.Pending h e) d says shown = pending_decided t start end item fs ss h said d (subst (λ p. Says p t said) (pending_at fs h e) says) shown
+    token_decided t begin end start item fs ss said (nows.Long v e) d says shown = long_decided t start end item fs ss v said
+    token_decided t begin end start item fs ss said nows.After d says shown = after_decided t start end item fs said d.0 says shown
+    token_decided t begin end start item (frames.Fields rs ms ∷ fs) ss said nows.Name d says shown = name_decided t start end item rs ms fs said d.0 says shown
+    token_decided t begin end start item [] ss said nows.Name d says shown = absurd d.1
+    token_decided t begin end start item (frames.List rs xs ∷ fs) ss said nows.Name d says shown = absurd d.1
+    token_decided t begin end start item (frames.Sexp rs xs ∷ fs) ss said nows.Name d says shown = absurd d.1
+    token_decided t begin end start item (frames.Named rs ms x ∷ fs) ss said nows.Name d says shown = absurd d.1
+    token_decided t begin end start item fs ss said (nows.LongName v) d says shown = long_name_decided t start end item fs v said
+    token_decided t begin end start item fs ss said (nows.Keyed x) d says shown = keyed_decided t start end item fs x said
+
+    -- 3. What waited.
+
+    module _ (start end : ℕ) (item : List Placed) where
+      -- a null of structs may be a local symbol table
+      null_decided : (ss : Symbols) (k : Kind) → PendingFor c [] ss (helds.Null k) item → sight.alone (front ++ item) → TurnDecided (ended (under g l) (spot_at end start c) [] (annotated ss (payloads.Null k)))
+      null_decided ss k d shown = ended_decided start end c [] v (λ e i j f h. null_table (front ++ item) c ss k e shown there j f)
+        where
+          v : Value
+          v = annotated ss (payloads.Null k)
+
+          alone : d.ready.notes ++ d.token ∷ [] ≡ item
+          alone = sym (d.whole ∙ ap (λ x. x ++ d.token ∷ []) (d.ready.whole ∙ ap (λ x. x ++ d.ready.notes) d.ready.outer))
+
+          there : Ends g l c v (front ++ item)
+          there = record {
+            front = front;
+            item = item;
+            values = vs;
+            parts = refl;
+            pieces = pieces;
+            means =
+                subst (λ x. Means c places.Top x v) alone
+                (means places.Top d.ready.notes (d.token ∷ []) ss (payloads.Null k) d.ready.noted (one_token places.Top d.token d.said (payloads.Null k) d.says (d.stood.value (payloads.Null k) refl)));
+          }
+
+      version_decided : (s : Option (List ℕ)) → PendingFor c [] [] (helds.Version false s) item → sight.alone (front ++ item) → Decided reasons.Version
+      version_decided s d shown i =
+          let x = held_other c d.said s d.named d.known in
+          let says = subst (Says places.Top d.token) x.is d.says in
+          let none : d.ready.notes ≡ [] = none_noted c places.Top d.ready.notes [] d.ready.noted refl in
+          other_version (front ++ (d.before ++ d.token ∷ [])) c x.word (subst sight.alone (ap (λ y. front ++ y) d.whole) shown)
+          (value_comes g l c front vs pieces d.token (Word x.word) [] [] d.before d.ready says) none x.version (λ q. never (bytes_eq x.word the_marker) x.other ((bytes_eq-Decides x.word the_marker).1 q))
+
+      released_decided : (fs : List Frame) (ss : Symbols) (h : Held) → PendingFor c fs ss h item → (fs ≡ [] → sight.alone (front ++ item)) → TurnDecided (released (under g l) (spot_at end start c) fs ss h)
+      released_decided [] [] (helds.Version true s) d f = within_decided l.item start end (goes (fresh system_slots)) tt
+      released_decided [] [] (helds.Version false s) d f = version_decided s d (f refl)
+      released_decided [] [] (helds.Symbol s) d f = flat_decided start end c [] [] (payloads.Symbol s) (ap (λ y. is_fields (layer_kind y)) (views.outs-Symbol s))
+      released_decided [] [] (helds.Null k) d f = null_decided [] k d (f refl)
+      released_decided [] [] (helds.Truth b) d f = flat_decided start end c [] [] (payloads.Truth b) (ap (λ y. is_fields (layer_kind y)) (views.outs-Truth b))
+      released_decided [] [] helds.Nan d f = λ i. absurd i
+      released_decided [] (x ∷ ss) (helds.Version b s) d f = flat_decided start end c [] (x ∷ ss) (payloads.Symbol s) (ap (λ y. is_fields (layer_kind y)) (views.outs-Symbol s))
+      released_decided [] (x ∷ ss) (helds.Symbol s) d f = flat_decided start end c [] (x ∷ ss) (payloads.Symbol s) (ap (λ y. is_fields (layer_kind y)) (views.outs-Symbol s))
+      released_decided [] (x ∷ ss) (helds.Null k) d f = null_decided (x ∷ ss) k d (f refl)
+      released_decided [] (x ∷ ss) (helds.Truth b) d f = flat_decided start end c [] (x ∷ ss) (payloads.Truth b) (ap (λ y. is_fields (layer_kind y)) (views.outs-Truth b))
+      released_decided [] (x ∷ ss) helds.Nan d f = λ i. absurd i
+      released_decided (y ∷ fs) ss (helds.Version b s) d f = inside_decided start end c y fs (annotated ss (payloads.Symbol s))
+      released_decided (y ∷ fs) ss (helds.Symbol s) d f = inside_decided start end c y fs (annotated ss (payloads.Symbol s))
+      released_decided (y ∷ fs) ss (helds.Null k) d f = inside_decided start end c y fs (annotated ss (payloads.Null k))
+      released_decided (y ∷ fs) ss (helds.Truth b) d f = inside_decided start end c y fs (annotated ss (payloads.Truth b))
+      released_decided (y ∷ fs) ss helds.Nan d f = λ i. absurd i
+
+    -- What is refused of what waited is a row.
+    pub settled_decided : (start : ℕ) (item : List Placed) (fs : List Frame) (ss : Symbols) (now : Now) → NowStands c fs ss item now → ((h : Held) (end : ℕ) → now ≡ nows.Pending h end → fs ≡ [] → sight.alone (front ++ item))
+        → TurnDecided (settle g l (at start c fs ss now))
+    settled_decided start item fs ss (nows.Pending h end) d f = released_decided start end item fs ss h d (f h end refl)
+    settled_decided start item fs ss (nows.Long v end) d f = flat_decided start end c fs ss (payloads.Str v) (ap (λ y. is_fields (layer_kind y)) (views.outs-Str v))
+    settled_decided start item fs ss (nows.LongName v) d f = tt
+    settled_decided start item fs ss nows.Ready d f = tt
+    settled_decided start item fs ss nows.After d f = tt
+    settled_decided start item fs ss nows.Name d f = tt
+    settled_decided start item fs ss (nows.Keyed x) d f = tt
