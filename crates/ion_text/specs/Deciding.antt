@@ -9,7 +9,8 @@ use Rattle.ion_model.specs.Measures.{annotated}
 use Rattle.ion_model.specs.Kinds.{is_table}
 use Rattle.ion_atoms.specs.declared.kind.Kind.{Kind}
 use Rattle.ion_atoms.specs.declared.refusal.Reason.{Reason}
-use Rattle.ion_atoms.specs.declared.refusal.Reason.TheVariants.{SymbolRange, ImportGap, MissingImport, RepeatedField, TableTooLarge, NullTable, Depth, Version, KeywordAsName}
+use Rattle.ion_atoms.specs.declared.refusal.Reason.TheVariants.{Depth, Version, KeywordAsName}
+use Rattle.ion_atoms.specs.declared.refusal.Reason.TheVariants.{SymbolRange, ImportGap, MissingImport, RepeatedField, TableTooLarge, NullTable}
 use Rattle.ion_symtab.specs.declared.limits.Limits.{Limits}
 use Rattle.ion_symtab.specs.declared.catalog.Catalog.{Catalog}
 use Rattle.ion_symtab.specs.Slots.{Slot, resolve}
@@ -155,26 +156,29 @@ OpensRow said = (said ≡ Mark' marks.ListOpen) ⊎ (said ≡ Mark' marks.SexpOp
 
 pub data Gives (g : Catalog) (l : Limits) (sight : Sight) : Reason → Type 0 where
   -- "an id of a symbol; `KeywordAsName` of a field's name | the octet that ends the word"
-  no_symbol : (ts : List Placed) (c : List Slot) (ks : List Container) (id : ℕ) (e : Reason) → sight.word ts → Comes g l c ks (Id id) ts → resolve c id ≡ Err e
-      → Gives g l sight e
-  keyword_as_name : (ts : List Placed) (c : List Slot) (ks : List Container) (said : Content) → sight.word ts → Comes g l c (InStruct ∷ ks) said ts → IsKeyword said
-      → Gives g l sight KeywordAsName
+  no_symbol : (ts : List Placed) (c : List Slot) (ks : List Container) (id : ℕ) (e : Reason)
+      → sight.word ts → Comes g l c ks (Id id) ts → resolve c id ≡ Err e → Gives g l sight e
+  keyword_as_name : (ts : List Placed) (c : List Slot) (ks : List Container) (said : Content)
+      → sight.word ts → Comes g l c (InStruct ∷ ks) said ts → IsKeyword said → Gives g l sight KeywordAsName
   -- "`KeywordAsName` of an annotation | the second colon"
-  keyword_as_annotation : (ts : List Placed) (colons : Placed) (c : List Slot) (ks : List Container) (said : Content) → sight.mark (ts ++ colons ∷ [])
-      → Comes g l c ks said ts → TakesValue ks → IsKeyword said → Says (place_of ks) colons (Mark' marks.Colons) → Gives g l sight KeywordAsName
+  keyword_as_annotation : (ts : List Placed) (colons : Placed) (c : List Slot) (ks : List Container) (said : Content)
+      → sight.mark (ts ++ colons ∷ []) → Comes g l c ks said ts → TakesValue ks → IsKeyword said → Says (place_of ks) colons (Mark' marks.Colons)
+      → Gives g l sight KeywordAsName
   -- "`nan`, `Version`, `NullTable` | the octet that shows that no `::` follows, or the end"
-  other_version : (ts : List Placed) (c : List Slot) (w : List ℕ) → sight.alone ts → (h : Comes g l c [] (Word w) ts) → h.notes ≡ [] → is_version w ≡ true → w ≢ the_marker
-      → Gives g l sight Version
-  null_table : (ts : List Placed) (c : List Slot) (ss : List (Option (List ℕ))) (k : Kind) (e : Reason) → sight.alone ts → Ends g l c (annotated ss (payloads.Null k)) ts
-      → is_table (annotated ss (payloads.Null k)) ≡ true → next c (annotated ss (payloads.Null k)) g ≡ Err e → Gives g l sight e
+  other_version : (ts : List Placed) (c : List Slot) (w : List ℕ)
+      → sight.alone ts → (h : Comes g l c [] (Word w) ts) → h.notes ≡ [] → is_version w ≡ true → w ≢ the_marker → Gives g l sight Version
+  null_table : (ts : List Placed) (c : List Slot) (ss : List (Option (List ℕ))) (k : Kind) (e : Reason)
+      → sight.alone ts → Ends g l c (annotated ss (payloads.Null k)) ts → is_table (annotated ss (payloads.Null k)) ≡ true
+      → next c (annotated ss (payloads.Null k)) g ≡ Err e → Gives g l sight e
   -- "`Depth` | the `[` or `(`; of a struct the octet after `{`, which shows that no lob begins"
-  too_deep : (ts : List Placed) (c : List Slot) (ks : List Container) (said : Content) → sight.mark ts → Comes g l c ks said ts → TakesValue ks → OpensRow said
-      → l.depth ≤ length ks → Gives g l sight Depth
-  struct_too_deep : (ts : List Placed) (c : List Slot) (ks : List Container) → sight.struct ts → Comes g l c ks (Mark' marks.FieldsOpen) ts → TakesValue ks
-      → l.depth ≤ length ks → Gives g l sight Depth
+  too_deep : (ts : List Placed) (c : List Slot) (ks : List Container) (said : Content)
+      → sight.mark ts → Comes g l c ks said ts → TakesValue ks → OpensRow said → l.depth ≤ length ks → Gives g l sight Depth
+  struct_too_deep : (ts : List Placed) (c : List Slot) (ks : List Container)
+      → sight.struct ts → Comes g l c ks (Mark' marks.FieldsOpen) ts → TakesValue ks → l.depth ≤ length ks → Gives g l sight Depth
   -- "a local symbol table, but `NullTable` | its `}`"
-  bad_table : (ts : List Placed) (c : List Slot) (ss : List (Option (List ℕ))) (ms : List Field) (e : Reason) → sight.mark ts → Ends g l c (annotated ss (payloads.Fields ms)) ts
-      → is_table (annotated ss (payloads.Fields ms)) ≡ true → next c (annotated ss (payloads.Fields ms)) g ≡ Err e → Gives g l sight e
+  bad_table : (ts : List Placed) (c : List Slot) (ss : List (Option (List ℕ))) (ms : List Field) (e : Reason)
+      → sight.mark ts → Ends g l c (annotated ss (payloads.Fields ms)) ts → is_table (annotated ss (payloads.Fields ms)) ≡ true
+      → next c (annotated ss (payloads.Fields ms)) g ≡ Err e → Gives g l sight e
 
 -- the last of these octets decides
 abbrev pub Decides : Catalog → Limits → List ℕ → Reason → Type 0
