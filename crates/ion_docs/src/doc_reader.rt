@@ -110,6 +110,7 @@ impl<'a> DocReader<'a> {
             (0 < refusal.offset) × (refusal.offset ≤ length piece.now)) }
         ensures memory { IfErr result (λ refusal. refusal.reason ≡ Memory → refusal.offset ≡ 0) }
         ensures fails { IfErr result (λ refusal. failed_of self.new.format ≡ Some refusal) }
+        ensures unawaited { IfErr result (λ _. IsNone (awaits_of self.new.format)) }
     {
         match piece.first() {
             None => Ok(Step {

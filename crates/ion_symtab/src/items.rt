@@ -113,15 +113,16 @@ pub trait Items: Sized {
     /// no document within the limits and under the catalog begins with the first n octets, and the values
     /// given are those that these n octets show. `Memory` alone says nothing of the octets; its offset is the number of octets
     /// that earlier steps used. `Incomplete`, `DuplicateTable` and `BadTable` are no refusals of a
-    /// step. After a refusal each later call answers that refusal.
+    /// step. After a refusal no octet is awaited, and each later call answers that refusal.
     ///
     /// A value may be given before the octet that showed its end, where that octet isn't part of
     /// it: then `used` doesn't count the octet, and the next piece has to begin with it. The step
     /// over that piece uses one octet at least, or refuses.
     ///
-    /// The octets of all pieces together have to be fewer than 2^63.
+    /// The octets of all pieces together have to be fewer than 2^63. After a refusal any piece may be
+    /// handed in.
     fn step(&mut self, piece: &[u8]) -> Result<Step, Refusal>
-        requires room { taken self.old + length piece.now < 2 ^ 63 }
+        requires room { IsNone (failed self.old) → taken self.old + length piece.now < 2 ^ 63 }
         requires begins { IfSome (awaits self.old) (λ octet.
             (rest : List ℕ) × (piece.now ≡ octet ∷ rest)) }
         ensures catalog { catalog self.new ≡ catalog self.old }
@@ -148,11 +149,12 @@ pub trait Items: Sized {
         ensures memory { IfErr result (λ refusal. refusal.reason ≡ Memory →
             IsNone (failed self.old) → refusal.offset ≡ taken self.old) }
         ensures fails { IfErr result (λ refusal. failed self.new ≡ Option.Some refusal) }
+        ensures unawaited { IfErr result (λ _. IsNone (awaits self.new)) }
         ensures again { IfSome (failed self.old) (λ refusal. result ≡ Result.Err refusal) };
 
     /// Takes up octets as `step` does, but doesn't hand out the value: only its outline.
     fn pass(&mut self, piece: &[u8]) -> Result<Passed, Refusal>
-        requires room { taken self.old + length piece.now < 2 ^ 63 }
+        requires room { IsNone (failed self.old) → taken self.old + length piece.now < 2 ^ 63 }
         requires begins { IfSome (awaits self.old) (λ octet.
             (rest : List ℕ) × (piece.now ≡ octet ∷ rest)) }
         ensures catalog { catalog self.new ≡ catalog self.old }
@@ -183,6 +185,7 @@ pub trait Items: Sized {
         ensures memory { IfErr result (λ refusal. refusal.reason ≡ Memory →
             IsNone (failed self.old) → refusal.offset ≡ taken self.old) }
         ensures fails { IfErr result (λ refusal. failed self.new ≡ Option.Some refusal) }
+        ensures unawaited { IfErr result (λ _. IsNone (awaits self.new)) }
         ensures again { IfSome (failed self.old) (λ refusal. result ≡ Result.Err refusal) }
     {
         match self.step(piece) {

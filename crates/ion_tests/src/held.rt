@@ -9,7 +9,8 @@ pub type Held = (usize, bool, bool);
 
 /// What a step uses and gives, and whether octets are held behind it; or why it refuses.
 pub fn held_behind<R: Items>(reader: &mut R, octets: &[u8]) -> Result<Held, Refusal>
-    requires room { R.taken reader.old + length octets.now < 2 ^ 63 }
+    requires room { IsNone (R.failed reader.old) →
+        R.taken reader.old + length octets.now < 2 ^ 63 }
     requires begins { IsNone (R.awaits reader.old) }
     ensures used { IfOk result (λ held. held.0 ≤ length octets.now) }
     ensures counts { IfOk result (λ held. R.taken reader.new ≡ R.taken reader.old + held.0) }
@@ -17,6 +18,7 @@ pub fn held_behind<R: Items>(reader: &mut R, octets: &[u8]) -> Result<Held, Refu
     ensures holds { IfOk result (λ held.
         MatchBool held.2 (0 < R.kept reader.new) (R.kept reader.new ≡ 0)) }
     ensures fails { IfErr result (λ refusal. R.failed reader.new ≡ Option.Some refusal) }
+    ensures unawaited { IfErr result (λ _. IsNone (R.awaits reader.new)) }
 {
     match reader.step(octets) {
         Ok(step) => {

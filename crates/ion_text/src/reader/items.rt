@@ -159,6 +159,7 @@ impl Items for TextReader<'_> {
 
     fn step(&mut self, piece: &[u8]) -> Result<Step, Refusal> {
         if let Some(refusal) = self.failure() {
+            self.awaited = None;
             return Err(refusal);
         }
         let result = self.advance(piece);
@@ -170,6 +171,7 @@ impl Items for TextReader<'_> {
 
     fn pass(&mut self, piece: &[u8]) -> Result<Passed, Refusal> {
         if let Some(refusal) = self.failure() {
+            self.awaited = None;
             return Err(refusal);
         }
         if let Some((used, outline)) = self.walk(piece) {

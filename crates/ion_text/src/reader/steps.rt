@@ -1,5 +1,5 @@
 //! Steps over pieces.
-ghost use Rattle.std.specs.Prelude.{◌≡◌, ◌≢◌, ◌+◌, ◌<◌, ◌^◌, length, IfOk, IfErr};
+ghost use Rattle.std.specs.Prelude.{◌≡◌, ◌≢◌, ◌+◌, ◌<◌, ◌^◌, length, IfOk, IfErr, IsNone};
 ghost use Rattle.std.specs.Option.{is_some};
 ghost use Rattle.ion_atoms.specs.declared.refusal.Reason.TheVariants.{Memory};
 ghost use Rattle.ion_tokens.specs.machine.Views.{scanned};
@@ -82,6 +82,7 @@ impl TextReader<'_> {
             (scanned self.new.scanner).used ≡ (scanned self.old.scanner).used + step.used) }
         ensures memory { IfErr result (λ refusal.
             refusal.reason ≡ Memory → refusal.offset ≡ (scanned self.old.scanner).used) }
+        ensures unawaited { IfErr result (λ _. IsNone self.new.awaited) }
         ensures fine { IfOk result (λ _. IsFine self.new) }
         ensures steady { IfOk result (λ _. StaysSteady self.old self.new) }
         ensures setting { SameSettings self.old self.new }
