@@ -165,7 +165,7 @@ impl Items for DocReader<'_> {
     ghost use Rattle.ion_docs.specs.Documents.{Denotes, Pieces, OpenAfter};
     ghost use Rattle.ion_docs.specs.reading.Chosen.{chosen};
     ghost use Rattle.ion_docs.specs.reading.DocStands.{DocStands, taken_of, failed_of, awaits_of, pending_of, kept_of};
-    ghost use Rattle.ion_docs.specs.laws.Documents.{one_document, one_shown, promised, document_pieces, whole_document};
+    ghost use Rattle.ion_docs.specs.laws.Documents.{one_document, one_shown, promised, document_pieces, whole_document, nodes_between};
     ghost use Rattle.ion_docs.specs.laws.Readers.{doc_counted, doc_not_failed, doc_not_refused, doc_given, doc_given_next, doc_bounded};
 
     ghost catalog = { λ r. r.catalog.now };
@@ -227,6 +227,8 @@ impl Items for DocReader<'_> {
     ghost reasons = { λ g l u. (promised g l u).reasons };
 
     ghost small = { λ g l u. (promised g l u).small };
+
+    ghost nodes_between = { nodes_between };
 
     ghost no_tables = { λ g l u. (promised g l u).no_tables };
 

@@ -55,7 +55,7 @@ pub record HasPieces (pieces : List ℕ → List ℕ → List Value → Type 0) 
   pub rest : open_after front open_rest
 
 -- A span behind the first `from` octets and within the first `at`: of at most `item` octets, and of at least as many as the value has
--- nodes. It isn't said here which octets of them are the value's own: that these are as many as its nodes is a law of each grammar.
+-- nodes. It isn't said here which octets of them are the value's own: that these are as many as its nodes is a law by itself.
 pub record HasSpan (item from at : ℕ) (v : Value) : Type 0 where
   pub start : ℕ
   pub end : ℕ

@@ -1,6 +1,7 @@
 //! What every reader of documents promises.
 ghost use Rattle.std.specs.Prelude.{◌≡◌, ◌≢◌, ℕ, ◌+◌, ◌*◌, ◌≤◌, ◌<◌, ◌^◌, List, [], ◌∷◌, ◌++◌, length, take, drop, Option, Result, IfOk, IfErr, IfSome, IsNone, IsSome, option_map, true, false, ◌↔◌};
 ghost use Rattle.ion_model.specs.declared.value.Value.{Value};
+ghost use Rattle.ion_model.specs.Measures.{nodes};
 ghost use Rattle.ion_model.specs.Outlines.{outline_of};
 ghost use Rattle.ion_atoms.specs.declared.refusal.Reason.TheVariants.{Memory};
 ghost use Rattle.ion_symtab.specs.Trace.{Trace, Answers, Finishes, UsesAll, Grows, Streams, IsFront, plain, given_at};
@@ -298,6 +299,12 @@ pub trait Items: Sized {
     /// A value has at most as many nodes as octets were used since the value before it came, and at
     /// most as many as the limit on items allows octets.
     ghost small: { (g : Catalog) (l : Limits) (u : List ℕ) → IsSmall l.item u (trace g l u) };
+
+    /// A value has at most as many nodes as its own item has octets: wherever whole pieces with the
+    /// values before it end, and whole pieces with it, its item stands between.
+    ghost nodes_between: { (g : Catalog) (l : Limits) (front span behind : List ℕ)
+        (before : List Value) (v : Value) → pieces g l front (span ++ behind) before →
+        pieces g l (front ++ span) behind (before ++ v ∷ []) → nodes v ≤ length span };
 
     /// A local symbol table where one may stand is no value: it changes what symbol ids stand for.
     ghost no_tables: { (g : Catalog) (l : Limits) (u : List ℕ) → GivesNoTable (trace g l u) };

@@ -13,6 +13,7 @@ pub mod Rows
 pub mod Documents
 pub mod Stops
 pub mod Promises
+pub mod Apart
 pub mod Standing
 pub mod GivesKept
 pub mod DocumentKept

@@ -104,6 +104,7 @@ impl Items for BinaryReader<'_> {
     ghost use Rattle.ion_binary.specs.machine.Run.{trace};
     ghost use Rattle.ion_binary.specs.machine.Views.{Stands, body_so_far};
     ghost use Rattle.ion_binary.specs.laws.reading.Promises.{exact, one_stream, one_shown, refused, decided, documents_are_pieces, pieces_are_documents, shown, unfinished, reasons, small, grows, no_tables};
+    ghost use Rattle.ion_binary.specs.laws.reading.Apart.{nodes_between};
     ghost use Rattle.ion_binary.specs.laws.reading.Standing.{given_of, not_failed, not_refused, bounded};
 
     ghost catalog = { λ r. r.catalog.now };
@@ -165,6 +166,8 @@ impl Items for BinaryReader<'_> {
     ghost reasons = { reasons };
 
     ghost small = { small };
+
+    ghost nodes_between = { λ g l front span behind. nodes_between g l front span };
 
     ghost no_tables = { no_tables };
 

@@ -1,6 +1,7 @@
 -- The promises of a reader of either encoding, from those of both: the first octet chooses.
-use Rattle.std.proofs.Common.{◌≡◌, ℕ, List, [], ◌∷◌, ◌++◌, ◌<◌, length, None, refl, ap, sym, ◌∙◌, arith, Bool, true, false, cond, ◌==◌, length-append}
+use Rattle.std.proofs.Common.{◌≡◌, ℕ, List, [], ◌∷◌, ◌++◌, ◌<◌, ◌≤◌, length, None, refl, ap, sym, ◌∙◌, arith, Bool, true, false, cond, ◌==◌, append_assoc, length-append}
 use Rattle.ion_model.specs.declared.value.Value.{Value}
+use Rattle.ion_model.specs.Measures.{nodes}
 use Rattle.ion_symtab.specs.declared.catalog.Catalog.{Catalog}
 use Rattle.ion_symtab.specs.declared.limits.Limits.{Limits}
 use Rattle.ion_symtab.specs.Promises.{HasPieces, Shown, Shows}
@@ -9,6 +10,7 @@ use Rattle.ion_symtab.specs.Slots.{system_slots}
 use Rattle.ion_binary.specs.Grammar as binary
 use Rattle.ion_binary.specs.machine.Run as binary_run
 use Rattle.ion_binary.specs.laws.reading.Promises as binary_laws
+use Rattle.ion_binary.specs.laws.reading.Apart as binary_apart
 use Rattle.ion_text.specs.Grammar as text
 use Rattle.ion_text.specs.machine.Run as text_run
 use Rattle.ion_text.specs.machine.Pieces as text_runs
@@ -17,6 +19,7 @@ use Rattle.ion_text.specs.laws.reading.Stops as text_stops
 use Rattle.ion_text.specs.laws.reading.Small as text_small
 use Rattle.ion_text.specs.laws.showing.Alone as text_alone
 use Rattle.ion_text.specs.laws.showing.Once as text_once
+use Rattle.ion_text.specs.laws.showing.Apart as text_apart
 use Rattle.ion_text.specs.laws.showing.Given as text_given
 use Rattle.ion_text.specs.laws.showing.Refusing as text_refusing
 use Rattle.ion_docs.specs.Documents.{is_binary, Denotes, in_binary, in_text, Pieces, binary_pieces, text_pieces, OpenAfter, binary_rest, text_rest}
@@ -190,3 +193,12 @@ module _ (g : Catalog) (l : Limits) where
   whole_document [] following s p some = absurd (omega arith)
   whole_document (x ∷ u) following s (binary_pieces h p) some = in_binary h (binary_laws.pieces_are_documents g l (x ∷ u) following s p some)
   whole_document (x ∷ u) following s (text_pieces h p) some = in_text h (text_alone.whole_document g l (x ∷ u) following s p)
+
+  -- 7. Between whole pieces with the values before a value and whole pieces with it stand at least as many octets as it has nodes.
+  pub nodes_between : (front span behind : List ℕ) (before : List Value) (v : Value) → Pieces g l front (span ++ behind) before → Pieces g l (front ++ span) behind (before ++ v ∷ []) → nodes v ≤ length span
+  nodes_between front span behind before v (binary_pieces h p) (binary_pieces k q) = binary_apart.nodes_between g l front span before v p q
+  nodes_between front span behind before v (text_pieces h p) (text_pieces k q) = text_apart.nodes_between g l front span behind before v p q
+  nodes_between front span behind before v (binary_pieces h p) (text_pieces k q) =
+      differ (is_binary (front ++ (span ++ behind))) h (ap is_binary (sym (append_assoc front span behind)) ∙ k)
+  nodes_between front span behind before v (text_pieces h p) (binary_pieces k q) =
+      differ (is_binary (front ++ (span ++ behind))) (ap is_binary (sym (append_assoc front span behind)) ∙ k) h

@@ -1,5 +1,5 @@
 -- What follows from a reader's promises.
-use Rattle.std.proofs.Common.{◌≡◌, ℕ, zero, suc, ◌+◌, ◌<◌, List, [], ◌∷◌, ◌++◌, length, take, drop, Option, Some, None, IsSome, refl, ap, sym, ◌∙◌, subst, arith}
+use Rattle.std.proofs.Common.{◌≡◌, ℕ, zero, suc, ◌+◌, ◌<◌, List, [], ◌∷◌, ◌++◌, length, take, drop, Option, Some, None, IsSome, refl, ap, sym, ◌∙◌, subst, arith, length-append}
 use Rattle.std.proofs.Math.Seq.{take-append-add}
 use Rattle.std.proofs.lemmas.List.{take-append-drop}
 use Rattle.ion_model.specs.declared.value.Value.{Value}
@@ -8,11 +8,11 @@ use Rattle.ion_symtab.specs.Trace.{Trace, Grows}
 use Rattle.ion_symtab.specs.Promises.{IsFirst, Shown}
 
 -- two fronts of the same length, and what stands behind them
-record SameCut (front other rest more : List ℕ) : Type 0 where
+pub record SameCut (front other rest more : List ℕ) : Type 0 where
   pub fronts : front ≡ other
   pub rests : rest ≡ more
 
-same_cut : (front other rest more : List ℕ) → front ++ rest ≡ other ++ more → length front ≡ length other → SameCut front other rest more
+pub same_cut : (front other rest more : List ℕ) → front ++ rest ≡ other ++ more → length front ≡ length other → SameCut front other rest more
 same_cut [] [] rest more e h = record { fronts = refl; rests = e }
 same_cut [] (y ∷ other) rest more e h = absurd (omega arith)
 same_cut (x ∷ front) [] rest more e h = absurd (omega arith)
@@ -62,3 +62,12 @@ first_refused trace grows u before rest o r parts offset fine refused = record {
             let same = (grows (take k u) (drop k before)).refused (subst IsSome (sym e) refl) in
             let never : Some q ≡ None = sym e ∙ (sym (ap (λ (t : Trace). t.refused) same) ∙ (ap (λ w. (trace w).refused) cut ∙ fine)) in
             cc
+
+-- lists that end with a value each are equal only where the two are
+pub same_last : (s t : List Value) (v w : Value) → s ++ v ∷ [] ≡ t ++ w ∷ [] → v ≡ w
+same_last [] [] v w e = cc
+same_last [] (y ∷ t) v w e = absurd (omega (arith, ap length e, length-append t (w ∷ [])))
+same_last (x ∷ s) [] v w e = absurd (omega (arith, ap length e, length-append s (v ∷ [])))
+same_last (x ∷ s) (y ∷ t) v w e =
+    let tail : s ++ v ∷ [] ≡ t ++ w ∷ [] = cc in
+    same_last s t v w tail

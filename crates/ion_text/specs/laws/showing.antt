@@ -27,3 +27,4 @@ pub mod Unended
 pub mod Awaited
 pub mod Refusing
 pub mod Given
+pub mod Apart

@@ -91,6 +91,7 @@ impl Items for TextReader<'_> {
     ghost use Rattle.ion_text.specs.laws.reading.Stands.{not_failed, not_refused, given_so_far, given_with_next};
     ghost use Rattle.ion_text.specs.laws.reading.Bounded.{bounded};
     ghost use Rattle.ion_text.specs.laws.showing.Alone.{document_pieces, whole_document};
+    ghost use Rattle.ion_text.specs.laws.showing.Apart.{nodes_between};
     ghost use Rattle.ion_text.specs.laws.showing.Once.{one_shown};
     ghost use Rattle.ion_text.specs.laws.showing.Given.{shown};
     ghost use Rattle.ion_text.specs.laws.showing.Refusing.{refuses};
@@ -154,6 +155,8 @@ impl Items for TextReader<'_> {
     ghost reasons = { has_reasons };
 
     ghost small = { is_small };
+
+    ghost nodes_between = { nodes_between };
 
     ghost no_tables = { no_tables };
 

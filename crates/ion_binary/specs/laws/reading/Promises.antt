@@ -98,7 +98,7 @@ cut_of : (g : Catalog) (l : Limits) (u : List ℕ) (given : List (Value × ℕ))
 cut_of g l u given m e = standing_open g l m.spot.start m.spot.context (plain given) m.frames m.body m.phase u (ran_stands g l u given m e).standing
 
 -- two lists of octets begin alike
-front_of : (before w v rest : List ℕ) → before ++ w ≡ v ++ rest → length v ≤ length before → (r : List ℕ) × (before ≡ v ++ r)
+pub front_of : (before w v rest : List ℕ) → before ++ w ≡ v ++ rest → length v ≤ length before → (r : List ℕ) × (before ≡ v ++ r)
 front_of before w [] rest e h = (before, refl)
 front_of [] w (x ∷ v) rest e h = absurd (omega arith)
 front_of (y ∷ before) w (x ∷ v) rest e h =
@@ -228,7 +228,7 @@ reasons g l u = record {
   end = λ r h. end_reason g l u (run g l 0 initial u).now r refl h;
 }
 
-plain_long : (given : List (Value × ℕ)) → length (plain given) ≡ length given
+pub plain_long : (given : List (Value × ℕ)) → length (plain given) ≡ length given
 plain_long [] = refl
 plain_long (v ∷ given) = omega (arith, plain_long given)
 

@@ -47,7 +47,7 @@ reading_in d stopped = d
 
 module _ (g : Catalog) (l : Limits) where
   -- tokens that go on to an end give one list of values
-  going_once : (r : Reading) (ts : List Placed) (a b : List Value) → Going g l r ts a → Going g l r ts b → a ≡ b
+  pub going_once : (r : Reading) (ts : List Placed) (a b : List Value) → Going g l r ts a → Going g l r ts b → a ≡ b
   unfolding values_in reading_in
   going_once r ts a b d e =
       let vs : d.vs ≡ e.vs = ap values_in (sym d.read ∙ e.read) in

@@ -74,7 +74,7 @@ segment_is kinds.Blob h = absurd cc
 segment_is (kinds.Mark m) h = absurd cc
 
 -- a token behind a blank that begins with these octets
-blank_token : (more x octets left rest : List ℕ) (colon : Bool) (n : ℕ) (t : Placed) (b : BeginsWith colon n octets t rest) → b.token ≡ more ++ x → octets ≡ left → BlankThen more left
+pub blank_token : (more x octets left rest : List ℕ) (colon : Bool) (n : ℕ) (t : Placed) (b : BeginsWith colon n octets t rest) → b.token ≡ more ++ x → octets ≡ left → BlankThen more left
 blank_token more x octets left rest colon n t b e f = (
   b.blank,
   x ++ rest,
