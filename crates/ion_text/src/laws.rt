@@ -1,7 +1,7 @@
 //! Laws of text documents. Each stands on an empty function: its contract is the law. What they say of
 //! reading is said of the definitions of `specs/machine/Run.antt`, which read octet by octet; `TextReader` is
 //! proved to answer what they say.
-ghost use Rattle.std.specs.Prelude.{◌≡◌, ◌↔◌, ◌≤◌, ◌++◌, ℕ, Bool, List, length, take, codes, Some, None, Err};
+ghost use Rattle.std.specs.Prelude.{◌≡◌, ◌↔◌, ◌≤◌, ◌++◌, ℕ, Bool, List, [], ◌∷◌, length, take, codes, Some, None, Ok, Err};
 ghost use Rattle.ion_model.specs.declared.value.Value.{Value};
 ghost use Rattle.ion_atoms.specs.declared.refusal.Refusal.{Refusal};
 ghost use Rattle.ion_model.specs.Kept.{AreKept};
@@ -92,6 +92,15 @@ pub fn reading_gives_no_table()
 /// came, and at most as many as the limit on items allows octets.
 pub fn reading_is_small()
     ensures { (g : List Table) (l : Limits) (u : List ℕ) → IsSmall l.item u (trace g l u) }
+{}
+
+/// A value comes with its last octet, or before the one that shows its end: where the end of the octets would
+/// give a value, the value that the next octet gives came before that octet.
+pub fn reading_ends_values()
+    ensures { (g : List Table) (l : Limits) (u : List ℕ) (o : ℕ) (last v : Value)
+        (total : ℕ) (later : List (Value × ℕ)) → (trace g l u).ends ≡ Ok (Some last) →
+        (trace g l (u ++ o ∷ [])).given ≡ (trace g l u).given ++ (v, total) ∷ later →
+        total ≡ length u }
 {}
 
 /// Octets show one stream: the values of the longest whole pieces at their front, whatever follows.

@@ -28,3 +28,4 @@ pub mod Awaited
 pub mod Refusing
 pub mod Given
 pub mod Apart
+pub mod Unused

@@ -126,7 +126,7 @@ module _ (g : Catalog) (l : Limits) where
         pieces = b.pieces;
       }
 
-  late_never : (used : ℕ) (e : Reason) (last : Option Value) → end_late used e ≡ Ok last → ⊥
+  pub late_never : (used : ℕ) (e : Reason) (last : Option Value) → end_late used e ≡ Ok last → ⊥
   late_never used reasons.Depth last h = cc
   late_never used _ last h = cc
 

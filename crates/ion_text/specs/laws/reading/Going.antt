@@ -213,13 +213,13 @@ module _ (g : Catalog) (l : Limits) where
       go (late e n) a b = b
 
   -- what waited in a container is settled there
-  abbrev InsideTurn : ℕ → Turn → Type 0
+  abbrev pub InsideTurn : ℕ → Turn → Type 0
   InsideTurn start (goes r) = (is_top r.frames ≡ false) × (r.start ≡ start)
   InsideTurn start (gives v r) = ⊥
   InsideTurn start (refuses e) = Unit {0}
   InsideTurn start (late e r) = Unit {0}
 
-  settle_inside : (start : ℕ) (c : List Slot) (fs : List Frame) (ss : Symbols) (now : Now) → is_top fs ≡ false → InsideTurn start (settle g l (at start c fs ss now))
+  pub settle_inside : (start : ℕ) (c : List Slot) (fs : List Frame) (ss : Symbols) (now : Now) → is_top fs ≡ false → InsideTurn start (settle g l (at start c fs ss now))
   settle_inside start c fs ss now h = go now refl
     where
       waited : (t : Turn) (end : ℕ) → Settles g l start end fs t → InsideTurn start t
