@@ -60,10 +60,7 @@ fn count_piece(scanner: &mut Scanner, count: &mut Count, piece: &[u8]) -> Result
     ensures steady { IfOk result (λ _. IsSteady (scanned scanner.new) (looks scanner.new)) }
 {
     let mut at = 0usize;
-    for _ in 0..u64::MAX {
-        if at >= piece.len() {
-            return Ok(());
-        }
+    while at < piece.len() {
         if scanner.looked() > 1 << 62 {
             return Err(Fault::TooLong);
         }
@@ -80,7 +77,7 @@ fn count_piece(scanner: &mut Scanner, count: &mut Count, piece: &[u8]) -> Result
             Err(refusal) => return Err(Fault::Refused(refusal)),
         }
     }
-    Err(Fault::TooLong)
+    Ok(())
 }
 
 fn main(rt: HostRuntime) -> io::Result<()> {
