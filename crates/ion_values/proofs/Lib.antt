@@ -1,0 +1,3 @@
+mod Readable
+mod Fronts
+mod Nexts

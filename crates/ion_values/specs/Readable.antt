@@ -1,0 +1,26 @@
+-- What a document that can be read on keeps between two calls, as a fact that has one proof.
+use Rattle.std.specs.Prelude.{◌≡◌, ℕ, ◌+◌, ◌-◌, ◌*◌, ◌<◌, ◌≤◌, ◌^◌, ◌==◌, List, [], ◌∷◌, length, Bool, true, false, Option, Some, None}
+use Rattle.ion_symtab.specs.declared.items.Items.{Ghosts as Items}
+use Rattle.ion_streams.specs.reading.Read.{left_of}
+use Rattle.ion_streams.specs.declared.source.Source.{Source}
+use Rattle.ion_streams.specs.declared.source.Standing.{Standing}
+use Rattle.ion_streams.specs.declared.source.Standing.TheVariants.{Open}
+
+-- the octets begin with the one that is awaited, if one is
+abbrev pub begins_with : Option ℕ → List ℕ → Bool
+begins_with None octets = true
+begins_with (Some octet) [] = false
+begins_with (Some octet) (first ∷ rest) = first == octet
+
+-- what `IsReady` of the streams says
+pub record IsReadable {X : Type 0} (I : Items X) (source : Source X) : Type 0 where
+  pub within : source.at ≤ source.end
+  pub fits : source.end ≤ 4096
+  pub piece : length source.piece.items ≡ 4096
+  pub room : I.taken source.items + (source.end - source.at) + 4096 * source.reads < 2 ^ 63
+  pub begins : begins_with (I.awaits source.items) (left_of source) ≡ true
+  pub counted : I.taken source.items ≡ source.used
+
+-- so it is, where it can be read on
+abbrev pub CanGoOn : {X : Type 0} → Items X → Standing X → Type 0
+CanGoOn {X} I place = (source : Source X) → place ≡ Open source → IsReadable I source

@@ -1,0 +1,24 @@
+//! Why there is no next value.
+use ion_model::Refusal;
+use ion_symtab::Fault;
+use std::fmt::{self, Display, Formatter};
+
+/// Why a document gives no next value though it hasn't ended. Its message is that of the refusal or the fault.
+#[derive(Clone, Copy, Debug, PartialEq, Eq)]
+pub enum Stop {
+    /// The octets are no document: at which octet, and why.
+    Refused(Refusal),
+    /// The call ended without an answer, which says nothing of the octets.
+    Fault(Fault),
+}
+
+impl Display for Stop {
+    fn fmt<W: fmt::Write>(&self, f: &mut Formatter<W>) -> fmt::Result {
+        match self {
+            Stop::Refused(refusal) => refusal.fmt(f),
+            Stop::Fault(fault) => fault.fmt(f),
+        }
+    }
+}
+
+impl std::error::Error for Stop {}
