@@ -5,6 +5,7 @@ mod escape;
 pub mod laws;
 mod reader;
 mod scalar;
+mod spelled;
 mod spelling;
 mod state;
 mod words;
@@ -12,4 +13,5 @@ mod writer;
 
 pub use reader::TextReader;
 pub use scalar::symbol_text;
+pub use spelled::text_of;
 pub use writer::TextWriter;
