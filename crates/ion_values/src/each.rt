@@ -1,6 +1,6 @@
 //! The values of a document as an iterator.
+use crate::one_by_one::Values;
 use crate::stop::Stop;
-use crate::values::Values;
 use ion_model::Value;
 use ion_symtab::{Inlet, Items};
 

@@ -22,3 +22,22 @@ impl Display for Stop {
 }
 
 impl std::error::Error for Stop {}
+
+ghost use Rattle.ion_values.specs.declared.stop.Stop.TheVariants as stops;
+ghost use Rattle.std.specs.Prelude.{◌≡◌};
+
+impl From<Fault> for Stop {
+    ghost from_gives = { λ fault stop. stop ≡ stops.Fault fault };
+
+    fn from(fault: Fault) -> Stop {
+        Stop::Fault(fault)
+    }
+}
+
+impl From<Refusal> for Stop {
+    ghost from_gives = { λ refusal stop. stop ≡ stops.Refused refusal };
+
+    fn from(refusal: Refusal) -> Stop {
+        Stop::Refused(refusal)
+    }
+}

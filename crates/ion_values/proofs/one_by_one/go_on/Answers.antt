@@ -7,7 +7,7 @@ use Rattle.ion_streams.specs.reading.Read.{left_of, Reads}
 use Rattle.ion_streams.proofs.Steps.{on_err, gave_so_far, refused_plain, reads_next, stood_last}
 use Rattle.ion_values.proofs.Fronts.{front_open, front_ended}
 use Rattle.ion_values.proofs.Nexts.{refused_none, ended_of}
-use Rattle.ion_values.proofs.values.go_on.Goals as goal
+use Rattle.ion_values.proofs.one_by_one.go_on.Goals as goal
 
 pub returns-in_err-close-in-Ok-End-clause-kept : goal.returns-in_err-close-in-Ok-End-clause-kept
 returns-in_err-close-in-Ok-End-clause-kept g c =
