@@ -1,35 +1,31 @@
 #!/usr/bin/env python3
-"""Counts instructions for each octet of input: instructions.py PROGRAM.. [--megabytes N].
+"""Counts instructions for each octet of input: instructions.py PROGRAM.. [--megabytes N] [--jobs N] [--only TEXT].
 
-Runs each program under callgrind over the documents of documents.py and texts.py (usually 2 MB each), by each command, and
-prints a line for each command and document: the instructions for each octet, of one side in `compare`, of each program. The
-count is the same whatever else the machine does. What a program refuses to do (the plain one, texts) is a dash.
+Runs each program under callgrind over the rows of rows.py (usually 2 MB each; with --only those whose label has that text), and
+prints a line for each: the instructions of each program for each octet of the document, in `compare` of the left one. The count
+is the same whatever else the machine does. What a program refuses to do is a dash. The first program writes the binary
+twins of texts.
 """
 import argparse
 import concurrent.futures
 import os
 import re
 import subprocess
-import sys
 import tempfile
 
-COMMANDS = [["check"], ["show"], ["compare"], ["convert", "--to", "text"], ["convert", "--to", "binary"]]
+from rows import rows, write
 
 
-def counted(program, words, document):
+def counted(program, words, size):
     """The instructions of one run for each octet, or None where it doesn't end well."""
-    names = [document, document] if words == ["compare"] else [document]
     run = subprocess.run(
-        ["valgrind", "--tool=callgrind", "--callgrind-out-file=/dev/null", program, *words[:1], *names, *words[1:]],
+        ["valgrind", "--tool=callgrind", "--callgrind-out-file=/dev/null", program, *words],
         stdout=subprocess.DEVNULL,
         stderr=subprocess.PIPE,
         text=True,
     )
     found = re.search(r"Collected : (\d+)", run.stderr)
-    if run.returncode != 0 or not found:
-        return None
-    sides = 2 if words == ["compare"] else 1
-    return int(found[1]) / os.path.getsize(document) / sides
+    return int(found[1]) / size if run.returncode == 0 and found else None
 
 
 def main():
@@ -37,18 +33,17 @@ def main():
     options.add_argument("programs", nargs="+")
     options.add_argument("--megabytes", default="2")
     options.add_argument("--jobs", type=int, default=1)
+    options.add_argument("--only", default="")
     given = options.parse_args()
     programs = [os.path.abspath(program) for program in given.programs]
-    here = os.path.dirname(os.path.abspath(__file__))
     with tempfile.TemporaryDirectory() as folder, concurrent.futures.ThreadPoolExecutor(given.jobs) as pool:
-        for script in ("documents.py", "texts.py"):
-            subprocess.run([sys.executable, f"{here}/{script}", folder, given.megabytes], check=True)
-        rows = [(words, name) for name in sorted(os.listdir(folder)) for words in COMMANDS]
-        results = [[pool.submit(counted, program, words, f"{folder}/{name}") for program in programs] for words, name in rows]
-        for (words, name), row in zip(rows, results):
+        write(folder, given.megabytes, programs[0])
+        wanted = [row for row in rows(folder) if given.only in row[0]]
+        results = [[pool.submit(counted, program, words, size) for program in programs] for _, words, size in wanted]
+        for (label, _, _), row in zip(wanted, results):
             counts = [cell.result() for cell in row]
             told = "  ".join("     -" if count is None else f"{count:6.1f}" for count in counts)
-            print(f"{name:14} {' '.join(words):20} {told}", flush=True)
+            print(f"{label:36} {told}", flush=True)
 
 
 main()
