@@ -10,7 +10,7 @@ use Rattle.ion_symtab.specs.declared.catalog.Catalog.{Catalog}
 use Rattle.ion_tokens.specs.declared.mode.Mode.{Mode}
 use Rattle.ion_tokens.specs.declared.mode.Mode.TheVariants as modes
 use Rattle.ion_tokens.specs.machine.Bounds.{IsSteady}
-use Rattle.ion_tokens.specs.machine.Views.{scanned, looks, failure, held_in}
+use Rattle.ion_tokens.specs.machine.Views.{scanned, looks, failure, held_in, open_in_reader}
 use Rattle.ion_text.specs.declared.state.Now.{Now}
 use Rattle.ion_text.specs.declared.state.Now.TheVariants as nows
 use Rattle.ion_text.specs.declared.state.Taken.{Taken}
@@ -92,9 +92,9 @@ failed r = or_first r.failed (failure r.scanner)
 abbrev pub octets_used : TextReader → ℕ
 octets_used r = (scanned r.scanner).used
 
--- how many octets of the open token are kept
+-- how many octets of the open token are kept: by the scanner, and by the reader of tokens beside it
 abbrev pub octets_kept : TextReader → ℕ
-octets_kept r = held_in (scanned r.scanner)
+octets_kept r = held_in (scanned r.scanner) + length (open_in_reader r.beside)
 
 -- no value and no token has begun, so that no octet shows the end of one
 abbrev pub is_quiet : Now → Mode → Bool

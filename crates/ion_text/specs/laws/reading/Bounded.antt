@@ -37,7 +37,7 @@ use Rattle.ion_text.specs.laws.reading.Held.{IsFirst, none_open}
 use Rattle.ion_text.specs.machine.EachToken.{Spot, under, spot_at, token_at, Reading, Turn, goes, gives, refuses, late, Symbols, at, place, place_in, settle, settled, turn, turn_now, ended, paid, released, held_payload}
 use Rattle.ion_text.specs.machine.Passed.{said_body}
 use Rattle.ion_text.specs.laws.reading.Places.{Leading, settle_same}
-use Rattle.ion_text.specs.machine.Progress.{Ran, Stands}
+use Rattle.ion_text.specs.machine.Progress.{Ran, Stands, octets_kept}
 use Rattle.ion_text.specs.laws.reading.Quiet.{CalmNow}
 use Rattle.ion_text.specs.laws.reading.Quotes.{Fine, Finely, feed_fine}
 use Rattle.ion_text.specs.machine.Run.{State, Effect, uses, tells, leaves, fails, begun, run, takes, unsettled, noticed, on_octet, on_scan, on_settled, on_said, behind_given, behind_left, or_worse, with_scan, token_of, shut, is_top, reaches, longest_top, is_long_begun, Run}
@@ -347,5 +347,8 @@ module _ (g : Catalog) (l : Limits) where
       by (inr e) = subst (λ k. held_in k ≤ l.item) (sym e) (led_kept u h.given h.before looked h.ran (subst (λ k. IsSteady k looked) e steady))
 
 -- The octets kept are of the open item, and within the limit on items.
-pub bounded : (r : TextReader) (u : List ℕ) (s : List (Value × ℕ)) → Stands r u s → held_in (scanned r.scanner) ≤ r.limits.item
-bounded r u s h = ran_kept r.catalog.now r.limits u s (state_of r) r.awaited (looks r.scanner) h.ran h.steady
+pub bounded : (r : TextReader) (u : List ℕ) (s : List (Value × ℕ)) → Stands r u s → octets_kept r ≤ r.limits.item
+bounded r u s h =
+    let held = ran_kept r.catalog.now r.limits u s (state_of r) r.awaited (looks r.scanner) h.ran h.steady in
+    let beside = ap length r.beside.none_open in
+    omega arith
