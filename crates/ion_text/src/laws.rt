@@ -1,7 +1,7 @@
 //! Laws of text documents. Each stands on an empty function: its contract is the law. What they say of
 //! reading is said of the definitions of `specs/machine/Run.antt`, which read octet by octet; `TextReader` is
 //! proved to answer what they say.
-ghost use Rattle.std.specs.Prelude.{◌≡◌, ◌↔◌, ◌≤◌, ◌++◌, ℕ, Bool, List, [], ◌∷◌, length, take, codes, Some, None, Ok, Err};
+ghost use Rattle.std.specs.Prelude.{◌≡◌, ◌↔◌, ◌≤◌, ◌++◌, ◌⊎◌, ℕ, Bool, List, [], ◌∷◌, length, take, codes, Some, None, Ok, Err};
 ghost use Rattle.ion_model.specs.declared.value.Value.{Value};
 ghost use Rattle.ion_atoms.specs.declared.refusal.Refusal.{Refusal};
 ghost use Rattle.ion_model.specs.Kept.{AreKept};
@@ -107,6 +107,13 @@ pub fn reading_ends_values()
 pub fn one_shown()
     ensures { (g : List Table) (l : Limits) (u : List ℕ) (s t : List Value) →
         Shown (Whole g l) u s → Shown (Whole g l) u t → s ≡ t }
+{}
+
+/// Of the values of whole pieces at the front of octets, the octets show all, or all but the last one.
+pub fn all_but_the_last()
+    ensures { (g : List Table) (l : Limits) (front rest : List ℕ) (s t : List Value) →
+        Whole g l front rest s → Shown (Whole g l) (front ++ rest) t →
+        ((more : List Value) × (t ≡ s ++ more)) ⊎ ((v : Value) × (s ≡ t ++ v ∷ [])) }
 {}
 
 /// Where the reading refuses no octet, the octets show the values given: those of the longest list of whole

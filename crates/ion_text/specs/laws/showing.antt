@@ -29,3 +29,4 @@ pub mod Refusing
 pub mod Given
 pub mod Apart
 pub mod Unused
+pub mod AllButLast
