@@ -10,4 +10,5 @@ pub mod Order
 pub mod Hashed
 pub mod Normal
 pub mod Parting
+pub mod Paths
 pub mod laws

@@ -10,3 +10,4 @@ pub mod Counts
 pub mod Same
 pub mod Equivalence
 pub mod PartingSteps
+pub mod PathsSame

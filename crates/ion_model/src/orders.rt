@@ -72,6 +72,8 @@ impl Hash for Symbol {
     }
 }
 
+/// `==` is stricter than equivalence: fields have to stand in one order. `equivalent` answers by the data model, and
+/// two values that `normalise` gave are equal just where they are equivalent.
 impl PartialEq for Value {
     ghost eq = { eq_by_cmp order };
 
@@ -86,6 +88,7 @@ impl Eq for Value {
     ghost laws = { eq_by_cmp_equiv order-total };
 }
 
+/// `<` orders values as they stand, fields included: `normalise` them first where they are to be sorted by the data model.
 impl PartialOrd for Value {
     ghost partial_cmp = { as_partial_cmp order };
 

@@ -1,6 +1,9 @@
 //! Where two values part.
 ghost use Rattle.std.specs.Prelude.{◌≡◌, [], true, false, Ok, None, option_map, OnOk, IfErr, MatchResult, MatchOption};
 ghost use Rattle.std.specs.declared.cmp.Ordering.TheVariants.{Equal};
+ghost use Rattle.std.specs.Cmp.{partial_equiv_from_equiv};
+ghost use Rattle.ion_model.specs.Paths.{part_same, path_same};
+ghost use Rattle.ion_model.specs.laws.PathsSame.{part_same-equiv, path_same-equiv};
 ghost use lib.Pointwise.{pointwise};
 ghost use Rattle.ion_atoms.specs.declared.refusal.Reason.TheVariants as reasons;
 ghost use Rattle.ion_model.specs.Order.{order};
@@ -59,6 +62,38 @@ impl Path {
     {
         self.parts.as_slice()
     }
+}
+
+impl PartialEq for Part {
+    ghost eq = { part_same };
+
+    ghost laws = { partial_equiv_from_equiv part_same-equiv };
+
+    fn eq(&self, other: &Part) -> bool {
+        match (self, other) {
+            (Part::Item(number), Part::Item(other)) => number == other,
+            (Part::Name(name), Part::Name(other)) => name.same(other),
+            _ => false,
+        }
+    }
+}
+
+impl Eq for Part {
+    ghost laws = { part_same-equiv };
+}
+
+impl PartialEq for Path {
+    ghost eq = { path_same };
+
+    ghost laws = { partial_equiv_from_equiv path_same-equiv };
+
+    fn eq(&self, other: &Path) -> bool {
+        self.parts() == other.parts()
+    }
+}
+
+impl Eq for Path {
+    ghost laws = { path_same-equiv };
 }
 
 /// The path to where two values part, `None` where they are equivalent (`same_slow`). It leads down to two

@@ -1,8 +1,10 @@
 //! The list type of recursive values.
-ghost use Rattle.std.specs.Prelude.{◌≡◌, [], ◌∷◌, ◌++◌, length, OnOk, OnErr};
+ghost use Rattle.std.specs.Slice.Iter.{iter_rest};
+ghost use Rattle.std.specs.Prelude.{◌≡◌, ◌==◌, [], ◌∷◌, ◌++◌, length, OnOk, OnErr};
 
 use std::alloc::{AllocError, Global};
 use std::marker::Model;
+use std::slice;
 
 /// A `Vec` that contracts see as the list of its items: two sequences of equal items are equal,
 /// whatever their capacities.
@@ -59,6 +61,26 @@ impl<T> Sequence<T> {
         ensures { result ≡ length self.now }
     {
         self.items.len()
+    }
+
+    /// Whether there are none.
+    pub fn is_empty(&self) -> bool
+        ensures { result ≡ (length self.now == 0) }
+    {
+        self.items.is_empty()
+    }
+}
+
+/// The items by reference, in order.
+impl<'a, T> IntoIterator for &'a Sequence<T> {
+    type Item = &'a T;
+
+    type IntoIter = slice::Iter<'a, T>;
+
+    ghost into_iter_gives = { λ sequence it. iter_rest it ≡ sequence.now };
+
+    fn into_iter(self) -> slice::Iter<'a, T> {
+        self.items.iter()
     }
 }
 
