@@ -1,2 +1,3 @@
+mod Spells
 mod Writes
 mod Owing

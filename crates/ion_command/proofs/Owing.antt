@@ -1,9 +1,9 @@
 -- Why a command was stopped, and what stays so where more names are read.
-use Rattle.std.proofs.Common.{◌≡◌, ℕ, List, [], ◌∷◌, codes, Bool, true, false, Option, Some, None, Result, Ok, Err, IfOk, refl, subst, MatchResult, ap, ◌∙◌, ◌⊎◌, inl, inr, arith}
+use Rattle.std.proofs.Common.{◌≡◌, ℕ, List, [], ◌∷◌, codes, Bool, true, false, Option, Some, None, Result, Ok, Err, refl, sym, subst, MatchResult, ap, ◌++◌, ◌∙◌, ◌⊎◌, inl, inr, arith}
 use Rattle.std.specs.List.{Contains}
+use Rattle.std.proofs.lemmas.List.{append_assoc, append-nil}
 use Rattle.std.proofs.lemmas.List.Elements.{Contains-append_right, Contains-append_cases, Contains-push_cases}
 use Rattle.std.proofs.lemmas.Option.{same_Some, none-some}
-use Rattle.std.proofs.lemmas.Result.{IfOk-weaker}
 use Rattle.ion_model.specs.declared.value.Value.{Value}
 use Rattle.ion_atoms.specs.declared.refusal.Refusal.{Refusal as the_refusal}
 use Rattle.ion_symtab.specs.Cause.{IsReadCause}
@@ -19,25 +19,24 @@ use Rattle.ion_symtab.specs.declared.outlet.Outlet.{Ghosts as Outlet}
 use Rattle.ion_streams.specs.Checked.{IsChecked}
 use Rattle.ion_streams.specs.Compared.{IsCompared}
 use Rattle.ion_streams.specs.declared.comparison.Verdict.{Verdict}
-use Rattle.ion_docs.specs.Converted.{IsConverted, IsConvertCause, ConvertsSoFar, ReadSoFar}
-use Rattle.ion_docs.specs.Encodings.{Encoding, encoding_of}
+use Rattle.ion_docs.specs.Converted.{IsConvertCause}
+use Rattle.ion_docs.specs.Encodings.{Encoding}
 use Rattle.ion_docs.specs.Formats.{documents}
 use Rattle.ion_streams.specs.Listing.{IsWriteCause}
-use Rattle.ion_words.specs.declared.request.Encoding.{Encoding as asked_encoding}
 use Rattle.ion_words.specs.declared.request.WordsError.{WordsError}
 use Rattle.ion_words.specs.declared.request.WordsError.TheVariants as words_errors
 use Rattle.std.specs.declared.io.Error.{Error}
 use Rattle.ion_command.specs.Arguments.{Arguments, words_of, no_words}
 use Rattle.ion_words.specs.Asked.{asked, Asked, Job, check, show, convert, compare, names_of, names_of_job, names_with, NamesInputOnce, NamesNoInput}
 use Rattle.ion_command.specs.declared.command.Ending.{Ending}
-use Rattle.ion_command.specs.Names.{Name, Keeps}
-use Rattle.ion_command.specs.Endings.{answer_line, verdict_line, EndsShown, PassesOn}
+use Rattle.ion_command.specs.Names.{Name, Keeps, Opens, OpensUpTo}
+use Rattle.ion_command.specs.Endings.{answer_line, verdict_line, PassesOn}
 use Rattle.ion_command.specs.Lines.{fault_line, refusal_line, usage_line, Reports}
 use Rattle.ion_command.specs.declared.command.Ending.TheVariants.{Refused}
 use Rattle.ion_command.specs.declared.command.Status.{Status}
 use Rattle.ion_command.specs.declared.command.Status.TheVariants as the_status
 use Rattle.ion_command.specs.declared.lines.Whose.{Whose}
-use Rattle.ion_command.specs.Owed.{target_of, code_of, AreLimitsOf, IsCatalog, IsStopped, IsStoppedAt, NeedsLarge, IsDone, IsAnswered, WroteFront, WroteSoFar, is_done, JobLacksHasher, OwesWithHasher, usage, answered, untold, no_memory, OwesWithout, OwesFor}
+use Rattle.ion_command.specs.Owed.{code_of, AreLimitsOf, IsCatalog, IsStopped, IsStoppedAt, NeedsLarge, IsDone, IsAnswered, WroteFront, WroteSoFar, is_done, JobLacksHasher, OwesWithHasher, usage, answered, untold, no_memory, OwesWithout, OwesFor}
 
 pub or_more : {A B C : Type 0} → A ⊎ B → A ⊎ B ⊎ C
 or_more (inl a) = inl a
@@ -182,26 +181,56 @@ pub free_of_catalog : (catalog : Option Name) (names : List Name) → NamesInput
 free_of_catalog None names once name within is taken = none-some name taken
 free_of_catalog (Some first) names once name within is taken = free_behind first name names once within is taken
 
-module _ {S X Y : Type 0} (R : Inlet X) (gives : S → Name → X → Type 0) (refuses : S → Name → Type 0) (none : Type 0) (I : Items Y) (asked : Asked) (l : Limits) (first : S) where
-  pub stopped_at_catalog : (failed : Bool) (fault : Fault) → IsStopped R (gives first) (refuses first) l (names_with asked.catalog []) ⊥ ⊥ false fault → IsStoppedAt R (gives first) (refuses first) none I asked l failed fault
-  stopped_at_catalog failed fault h = inl h
+-- nothing was opened
+pub Opens-none : (opened : List Name) → Opens opened opened []
+Opens-none opened = sym (append-nil opened)
+
+-- one name after another
+pub Opens-then : (old mid new names more : List Name) → Opens old mid names → Opens mid new more → Opens old new (names ++ more)
+Opens-then old mid new names more h k = k ∙ (ap (λ (x : List Name). x ++ more) h ∙ append_assoc old names more)
+
+names_behind : (catalog : Option Name) (names : List Name) → names_with catalog [] ++ names ≡ names_with catalog names
+names_behind None names = refl
+names_behind (Some first) names = refl
+
+-- the documents, behind the catalog
+module _ (catalog : Option Name) (names old mid new : List Name) (before : Opens old mid (names_with catalog [])) where
+  Opens-behind : Opens mid new names → Opens old new (names_with catalog names)
+  Opens-behind h = Opens-then old mid new (names_with catalog []) names before h ∙ ap (λ (x : List Name). old ++ x) (names_behind catalog names)
+
+  OpensUpTo-behind : (fault : Fault) → OpensUpTo (Opens mid new) names fault → OpensUpTo (Opens old new) (names_with catalog names) fault
+  OpensUpTo-behind fault (inl all) = inl (Opens-behind all)
+  OpensUpTo-behind fault (inr h) = inr (
+    names_with catalog [] ++ h.0,
+    h.1,
+    append_assoc (names_with catalog []) h.0 h.1 ∙ (ap (λ (x : List Name). names_with catalog [] ++ x) h.2 ∙ names_behind catalog names),
+    Opens-then old mid new (names_with catalog []) h.0 before h.3,
+    h.4,
+  )
+
+module _ {S X Y : Type 0} (R : Inlet X) (gives : S → Name → X → Type 0) (refuses : S → Name → Type 0) (none : Type 0) (I : Items Y) (asked : Asked) (l : Limits) (first : S) (old mid new : List Name) where
+  pub stopped_at_catalog : Opens old new (names_with asked.catalog []) → (failed : Bool) (fault : Fault) → IsStopped R (gives first) (refuses first) l (names_with asked.catalog []) ⊥ ⊥ false fault → IsStoppedAt R (gives first) (refuses first) (Opens old new) none I asked l failed fault
+  stopped_at_catalog opened failed fault h = inl (h, opened)
 
   -- behind the catalog, that the sources give the other names what they gave
   module _ (then : S) (kept : Keeps gives refuses first then asked.catalog) (once : NamesInputOnce (names_of asked)) (g : the_catalog) (catalog : IsCatalog R (gives first) asked.catalog l (Ok g)) where
-    pub stopped_behind : (failed : Bool) (fault : Fault) → IsStopped R (gives then) (refuses then) l (names_of_job asked.job) (JobLacksHasher none asked.job) (NeedsLarge R (gives then) I asked.job g l) failed fault → IsStoppedAt R (gives first) (refuses first) none I asked l failed fault
-    stopped_behind failed fault h =
+    pub stopped_behind : Opens old mid (names_with asked.catalog []) → (failed : Bool) (fault : Fault) → OpensUpTo (Opens mid new) (names_of_job asked.job) fault → IsStopped R (gives then) (refuses then) l (names_of_job asked.job) (JobLacksHasher none asked.job) (NeedsLarge R (gives then) I asked.job g l) failed fault → IsStoppedAt R (gives first) (refuses first) (Opens old new) none I asked l failed fault
+    stopped_behind before failed fault opened h =
         let kept_given : (name : Name) (input : X) → Contains (names_of_job asked.job) name → gives then name input → gives first name input = λ name input within given. kept.given name input (free_of_catalog asked.catalog (names_of_job asked.job) once name within) given in
         inr (
           g,
           catalog,
           IsStopped-kept R (gives then) (refuses then) l (names_of_job asked.job) _ _ (gives first) (refuses first) (names_of_job asked.job) _ _ failed failed fault (λ name within. within) kept_given
               (λ name within refused. kept.refused name (free_of_catalog asked.catalog (names_of_job asked.job) once name within) refused) (λ lacks. lacks) (NeedsLarge-kept R (gives then) (gives first) I g l asked.job kept_given) (λ fails. fails) h,
+          OpensUpTo-behind asked.catalog (names_of_job asked.job) old mid new before fault opened,
         )
 
 pub answered_behind : {S X T : Type 0} (R : Inlet X) (gives : S → Name → X → Type 0) (refuses : S → Name → Type 0) (W : Outlet T) (asked : Asked) (l : Limits) (first then : S) → Keeps gives refuses first then asked.catalog → NamesInputOnce (names_of asked) → (g : the_catalog) → IsCatalog R (gives first) asked.catalog l (Ok g) →
-    (old new : T) (ending : Ending) → IsDone R (gives then) W old new asked.job g l ending → IsAnswered R (gives first) W old new asked l ending
-answered_behind R gives refuses W asked l first then kept once g catalog old new ending h = is_done g catalog (IsDone-kept R (gives then) (gives first) W old new g l ending asked.job
+    (opened opened_mid opened_now : List Name) → Opens opened opened_mid (names_with asked.catalog []) → Opens opened_mid opened_now (names_of_job asked.job) →
+    (old new : T) (ending : Ending) → IsDone R (gives then) W old new asked.job g l ending → IsAnswered R (gives first) W old new (Opens opened opened_now) asked l ending
+answered_behind R gives refuses W asked l first then kept once g catalog opened opened_mid opened_now before behind old new ending h = is_done g catalog (IsDone-kept R (gives then) (gives first) W old new g l ending asked.job
     (λ name input within given. kept.given name input (free_of_catalog asked.catalog (names_of_job asked.job) once name within) given) h)
+    (Opens-behind asked.catalog (names_of_job asked.job) opened opened_mid opened_now before behind)
 
 pub front_behind : {S X Y T : Type 0} (R : Inlet X) (gives : S → Name → X → Type 0) (refuses : S → Name → Type 0) (I : Items Y) (W : Outlet T) (asked : Asked) (l : Limits) (first then : S) → Keeps gives refuses first then asked.catalog → NamesInputOnce (names_of asked) → (g : the_catalog) → IsCatalog R (gives first) asked.catalog l (Ok g) →
     (old new : T) → TookFront W.took W.written old new [] ⊎ WroteFront R (gives then) I W old new asked.job g l → WroteSoFar R (gives first) I W old new asked l
@@ -213,32 +242,32 @@ front_behind R gives refuses I W asked l first then kept once g catalog old new 
       (λ name input within given. kept.given name input (free_of_catalog asked.catalog (names_of_job asked.job) once name within) given) h,
 )
 
-module _ {X Y T D : Type 0} (R : Inlet X) (gives : Name → X → Type 0) (refuses : Name → Type 0) (none : Type 0) (I : Items Y) (W : Outlet T) (V : Outlet D) where
-  pub owes_refused : (request : Asked) (l : Limits) (whose : Whose) (refusal : the_refusal) (out out_now : T) (err err_now : D) (status : Status) → AreLimitsOf request l → IsAnswered R gives W out out_now request l (Refused whose refusal) → PassesOn W out out_now →
+module _ {X Y T D : Type 0} (R : Inlet X) (gives : Name → X → Type 0) (refuses : Name → Type 0) (opens : List Name → Type 0) (none : Type 0) (I : Items Y) (W : Outlet T) (V : Outlet D) where
+  pub owes_refused : (request : Asked) (l : Limits) (whose : Whose) (refusal : the_refusal) (out out_now : T) (err err_now : D) (status : Status) → AreLimitsOf request l → IsAnswered R gives W out out_now opens request l (Refused whose refusal) → PassesOn W out out_now →
       (status ≡ the_status.Refused) ⊎ (status ≡ the_status.Fault) → (status ≡ the_status.Refused → Reports V err err_now (refusal_line whose refusal)) → (status ≡ the_status.Fault → Reports V err err_now (fault_line Memory)) →
-      OwesWithHasher R gives refuses none I W V (Some request) out out_now err err_now (code_of status)
+      OwesWithHasher R gives refuses opens none I W V (Some request) out out_now err err_now (code_of status)
   owes_refused request l whose refusal out out_now err err_now status limits h passes (inl is) told failed = answered request l (Refused whose refusal) refl limits (ap code_of is) h passes (told is)
   owes_refused request l whose refusal out out_now err err_now status limits h passes (inr is) told failed = untold request l whose refusal refl limits (ap code_of is) h passes (failed is)
 
-  pub owes_usage : (asked : Option Asked) (error : WordsError) (out : T) (err err_now : D) (status : Status) → (error ≡ words_errors.Usage → asked ≡ None) → (error ≡ words_errors.Usage → (status ≡ the_status.WrongWords) × Reports V err err_now usage_line) → (error ≡ words_errors.Memory → (status ≡ the_status.Fault) × Reports V err err_now (fault_line Memory)) →
-      OwesWithHasher R gives refuses none I W V asked out out err err_now (code_of status)
-  owes_usage asked words_errors.Usage out err err_now status none told failed = usage (none refl) (ap code_of (told refl).0) (Took-nil W.took W.written out) (λ same. same) (told refl).1
-  owes_usage asked words_errors.Memory out err err_now status none told failed = no_memory (ap code_of (failed refl).0) (Took-nil W.took W.written out) (failed refl).1
+  pub owes_usage : opens [] → (asked : Option Asked) (error : WordsError) (out : T) (err err_now : D) (status : Status) → (error ≡ words_errors.Usage → asked ≡ None) → (error ≡ words_errors.Usage → (status ≡ the_status.WrongWords) × Reports V err err_now usage_line) → (error ≡ words_errors.Memory → (status ≡ the_status.Fault) × Reports V err err_now (fault_line Memory)) →
+      OwesWithHasher R gives refuses opens none I W V asked out out err err_now (code_of status)
+  owes_usage unopened asked words_errors.Usage out err err_now status none told failed = usage (none refl) (ap code_of (told refl).0) unopened (Took-nil W.took W.written out) (λ same. same) (told refl).1
+  owes_usage unopened asked words_errors.Memory out err err_now status none told failed = no_memory (ap code_of (failed refl).0) unopened (Took-nil W.took W.written out) (λ same. same) (failed refl).1
 
   -- the arguments are words
   pub owes_words : (arguments : Result Arguments Error) (words : List (List ℕ)) (out out_now : T) (err err_now : D) (status : ℕ) → MatchResult arguments (λ all. words ≡ words_of all) (λ why. ⊥) →
-      OwesWithHasher R gives refuses none I W V (asked words) out out_now err err_now status → OwesFor R gives refuses none I W V arguments out out_now err err_now status
-  owes_words (Ok all) words out out_now err err_now status are h = subst (λ (x : List (List ℕ)). OwesWithHasher R gives refuses none I W V (asked x) out out_now err err_now status) are h
+      OwesWithHasher R gives refuses opens none I W V (asked words) out out_now err err_now status → OwesFor R gives refuses opens none I W V arguments out out_now err err_now status
+  owes_words (Ok all) words out out_now err err_now status are h = subst (λ (x : List (List ℕ)). OwesWithHasher R gives refuses opens none I W V (asked x) out out_now err err_now status) are h
   owes_words (Err why) words out out_now err err_now status are h = absurd are
 
-  owes_without : (error : WordsError) (out : T) (err err_now : D) (status : Status) → (error ≡ words_errors.Usage → (status ≡ the_status.WrongWords) × Reports V err err_now usage_line) → (error ≡ words_errors.Memory → (status ≡ the_status.Fault) × Reports V err err_now (fault_line Memory)) →
-      OwesWithout R gives refuses none I W V error out out err err_now (code_of status)
-  owes_without words_errors.Usage out err err_now status told failed = (ap code_of (told refl).0, Took-nil W.took W.written out, (λ same. same), (told refl).1)
-  owes_without words_errors.Memory out err err_now status told failed = (ap code_of (failed refl).0, Took-nil W.took W.written out, (λ same. same), (failed refl).1)
+  owes_without : opens [] → (error : WordsError) (out : T) (err err_now : D) (status : Status) → (error ≡ words_errors.Usage → (status ≡ the_status.WrongWords) × Reports V err err_now usage_line) → (error ≡ words_errors.Memory → (status ≡ the_status.Fault) × Reports V err err_now (fault_line Memory)) →
+      OwesWithout R gives refuses opens none I W V error out out err err_now (code_of status)
+  owes_without unopened words_errors.Usage out err err_now status told failed = (ap code_of (told refl).0, unopened, Took-nil W.took W.written out, (λ same. same), (told refl).1)
+  owes_without unopened words_errors.Memory out err err_now status told failed = (ap code_of (failed refl).0, unopened, Took-nil W.took W.written out, (λ same. same), (failed refl).1)
 
   -- there are no words
-  pub owes_no_words : (arguments : Result Arguments Error) (error : WordsError) (out : T) (err err_now : D) (status : Status) → MatchResult arguments (λ all. error ≡ words_errors.Memory) (λ why. error ≡ no_words why) →
+  pub owes_no_words : opens [] → (arguments : Result Arguments Error) (error : WordsError) (out : T) (err err_now : D) (status : Status) → MatchResult arguments (λ all. error ≡ words_errors.Memory) (λ why. error ≡ no_words why) →
       (error ≡ words_errors.Usage → (status ≡ the_status.WrongWords) × Reports V err err_now usage_line) → (error ≡ words_errors.Memory → (status ≡ the_status.Fault) × Reports V err err_now (fault_line Memory)) →
-      OwesFor R gives refuses none I W V arguments out out err err_now (code_of status)
-  owes_no_words (Ok all) error out err err_now status is told failed = no_memory (ap code_of (failed is).0) (Took-nil W.took W.written out) (failed is).1
-  owes_no_words (Err why) error out err err_now status is told failed = subst (λ (x : WordsError). OwesWithout R gives refuses none I W V x out out err err_now (code_of status)) is (owes_without error out err err_now status told failed)
+      OwesFor R gives refuses opens none I W V arguments out out err err_now (code_of status)
+  owes_no_words unopened (Ok all) error out err err_now status is told failed = no_memory (ap code_of (failed is).0) unopened (Took-nil W.took W.written out) (λ same. same) (failed is).1
+  owes_no_words unopened (Err why) error out err err_now status is told failed = subst (λ (x : WordsError). OwesWithout R gives refuses opens none I W V x out out err err_now (code_of status)) is (owes_without unopened error out err err_now status told failed)

@@ -1,5 +1,5 @@
 -- What went out where a write or a flush may have failed.
-use Rattle.std.proofs.Common.{◌≡◌, ℕ, List, [], Bool, true, false, Result, Ok, Err, OnOk, OnErr, is_ok, sym, ◌∙◌}
+use Rattle.std.proofs.Common.{◌≡◌, ℕ, List, [], Bool, true, false, Result, Ok, Err, IfOk, IfErr, OnOk, OnErr, is_ok, sym, ◌∙◌}
 use Rattle.ion_symtab.specs.Took.{Took, TookFront}
 use Rattle.ion_symtab.specs.laws.Took.{Took-kept, Front-all}
 use Rattle.ion_symtab.specs.declared.outlet.Outlet.{Ghosts as Outlet}
@@ -30,3 +30,16 @@ when_ok (Err error) P is h = absurd cc
 pub on_err : {A E P : Type 0} (result : Result A E) → P → OnErr result P
 on_err (Ok value) h = tt
 on_err (Err error) h = h
+
+pub on_ok : {A E P : Type 0} (result : Result A E) → P → OnOk result P
+on_ok (Ok value) h = h
+on_ok (Err error) h = tt
+
+-- two facts of one answer
+pub ok_both : {A E Q : Type 0} {P R : A → Type 0} (result : Result A E) → ((value : A) → P value → Q → R value) → IfOk result P → OnOk result Q → IfOk result R
+ok_both (Ok value) f p q = f value p q
+ok_both (Err error) f p q = tt
+
+pub err_both : {A E : Type 0} {P Q R : E → Type 0} (result : Result A E) → ((error : E) → P error → Q error → R error) → IfErr result P → IfErr result Q → IfErr result R
+err_both (Ok value) f p q = tt
+err_both (Err error) f p q = f error p q

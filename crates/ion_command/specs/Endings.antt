@@ -11,11 +11,6 @@ use Rattle.ion_command.specs.declared.command.Ending.{Ending}
 use Rattle.ion_command.specs.declared.command.Ending.TheVariants.{Accepted, Different, Refused}
 use Rattle.ion_command.specs.Lines.{equivalent_line, different_line}
 
--- `show` and `convert` end so with this answer; what they write has gone out before
-abbrev pub EndsShown : Result ℕ the_refusal → Ending → Type 0
-EndsShown (Ok values) ending = ending ≡ Accepted
-EndsShown (Err refusal) ending = ending ≡ Refused Only refusal
-
 -- the line of an answer of `check`; a refused document has none on the output
 abbrev pub answer_line : Result ℕ the_refusal → List ℕ
 answer_line (Ok values) = accepted_line values
@@ -28,17 +23,26 @@ verdict_line (verdicts.Different index path) = different_line index path
 verdict_line (verdicts.Refused side refusal) = []
 
 module _ {T : Type 0} (W : Outlet T) where
-  -- `check` ends so with this answer: with the line of an accepted document, and with nothing of a refused one
+  -- all that a device took was passed on
+  abbrev pub IsPassedOn : T → Type 0
+  IsPassedOn now = W.passed now ≡ W.written now
+
+  -- `show` and `convert` end so with this answer; what they write was passed on before, on a refusal too
+  abbrev pub EndsShown : T → Result ℕ the_refusal → Ending → Type 0
+  EndsShown new (Ok values) ending = (ending ≡ Accepted) × IsPassedOn new
+  EndsShown new (Err refusal) ending = (ending ≡ Refused Only refusal) × IsPassedOn new
+
+  -- `check` ends so with this answer: with the line of an accepted document, passed on, and with nothing of a refused one
   abbrev pub EndsChecked : T → T → Result ℕ the_refusal → Ending → Type 0
-  EndsChecked old new (Ok values) ending = (ending ≡ Accepted) × Took W.took W.written old new (accepted_line values)
+  EndsChecked old new (Ok values) ending = (ending ≡ Accepted) × Took W.took W.written old new (accepted_line values) × IsPassedOn new
   EndsChecked old new (Err refusal) ending = (ending ≡ Refused Only refusal) × Took W.took W.written old new []
 
-  -- `compare` ends so with this verdict: with the line of two documents, and with nothing where one is refused
+  -- `compare` ends so with this verdict: with the line of two documents, passed on, and with nothing where one is refused
   abbrev pub EndsCompared : T → T → Verdict → Ending → Type 0
-  EndsCompared old new (verdicts.Equivalent values) ending = (ending ≡ Accepted) × Took W.took W.written old new (equivalent_line values)
-  EndsCompared old new (verdicts.Different index path) ending = (ending ≡ Different) × Took W.took W.written old new (different_line index path)
+  EndsCompared old new (verdicts.Equivalent values) ending = (ending ≡ Accepted) × Took W.took W.written old new (equivalent_line values) × IsPassedOn new
+  EndsCompared old new (verdicts.Different index path) ending = (ending ≡ Different) × Took W.took W.written old new (different_line index path) × IsPassedOn new
   EndsCompared old new (verdicts.Refused side refusal) ending = (ending ≡ Refused (One side) refusal) × Took W.took W.written old new []
 
   -- between old and new a device that had passed on all that it took has passed on all again
   abbrev pub PassesOn : T → T → Type 0
-  PassesOn old new = W.passed old ≡ W.written old → W.passed new ≡ W.written new
+  PassesOn old new = IsPassedOn old → IsPassedOn new

@@ -4,3 +4,4 @@ pub mod Named
 pub mod Names
 pub mod Arguments
 pub mod Owed
+pub mod kept

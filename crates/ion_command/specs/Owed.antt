@@ -25,7 +25,7 @@ use Rattle.ion_streams.specs.declared.comparison.Verdict.{Verdict}
 use Rattle.ion_docs.specs.declared.conversion.Target.{Target}
 use Rattle.ion_docs.specs.declared.conversion.Target.TheVariants as target
 use Rattle.std.specs.declared.io.Error.{Error}
-use Rattle.ion_words.specs.Asked.{Asked, Job, check, show, convert, compare, names_of_job, names_with, asked}
+use Rattle.ion_words.specs.Asked.{Asked, Job, check, show, convert, compare, names_of, names_of_job, names_with, asked}
 use Rattle.ion_words.specs.declared.request.WordsError.{WordsError}
 use Rattle.ion_words.specs.declared.request.WordsError.TheVariants as words_errors
 use Rattle.ion_words.specs.declared.request.Encoding.{Encoding}
@@ -33,7 +33,7 @@ use Rattle.ion_words.specs.declared.request.Encoding.TheVariants as encoding
 use Rattle.ion_command.specs.Arguments.{Arguments, words_of, no_words}
 use Rattle.ion_command.specs.Endings.{answer_line, verdict_line, EndsChecked, EndsShown, EndsCompared, PassesOn}
 use Rattle.ion_command.specs.Lines.{fault_line, refusal_line, usage_line, Reports}
-use Rattle.ion_command.specs.Names.{Name}
+use Rattle.ion_command.specs.Names.{Name, OpensUpTo}
 use Rattle.ion_command.specs.declared.lines.Whose.{Whose}
 use Rattle.ion_command.specs.declared.lines.Whose.TheVariants.{Catalog}
 use Rattle.ion_command.specs.declared.command.Status.{Status}
@@ -86,17 +86,17 @@ module _ {X : Type 0} (R : Inlet X) (gives : Name → X → Type 0) where
     IsDone (check file) g l ending = (first : X) × (now : X) × gives file first × (answer : Result ℕ the_refusal)
         × IsChecked R (documents g l) first now answer × EndsChecked W old new answer ending
     IsDone (show file) g l ending = (first : X) × (now : X) × gives file first × (answer : Result ℕ the_refusal)
-        × IsShown R W (documents g l) first now old new answer × EndsShown answer ending
+        × IsShown R W (documents g l) first now old new answer × EndsShown W new answer ending
     IsDone (convert file to) g l ending = (first : X) × (now : X) × gives file first × (answer : Result ℕ the_refusal)
         × IsConverted R W (encoding_of (target_of to)) (documents g l) first now old new answer
-        × KeepsStream R W (encoding_of (target_of to)) g l first now old new answer × EndsShown answer ending
+        × KeepsStream R W (encoding_of (target_of to)) g l first now old new answer × EndsShown W new answer ending
     IsDone (compare left right) g l ending = (l_first : X) × (l_now : X) × gives left l_first × (r_first : X) × (r_now : X) × gives right r_first
         × (verdict : Verdict) × IsCompared R R (documents g l) (documents g l) l_first l_now r_first r_now verdict × EndsCompared W old new verdict ending
 
-    -- what was asked for was answered, and ended so: done under its catalog, or the catalog was refused
-    pub data IsAnswered (asked : Asked) (l : Limits) (ending : Ending) : Type 0 where
-      is_done : (g : the_catalog) → IsCatalog asked.catalog l (Ok g) → IsDone asked.job g l ending → IsAnswered asked l ending
-      no_catalog : (refusal : the_refusal) → IsCatalog asked.catalog l (Err refusal) → ending ≡ Refused Catalog refusal → Took W.took W.written old new [] → IsAnswered asked l ending
+    -- What was asked for was answered, and ended so: done under its catalog, with all of its names opened; or the catalog was refused, and none but that opened.
+    pub data IsAnswered (opens : List Name → Type 0) (asked : Asked) (l : Limits) (ending : Ending) : Type 0 where
+      is_done : (g : the_catalog) → IsCatalog asked.catalog l (Ok g) → IsDone asked.job g l ending → opens (names_of asked) → IsAnswered opens asked l ending
+      no_catalog : (refusal : the_refusal) → IsCatalog asked.catalog l (Err refusal) → ending ≡ Refused Catalog refusal → Took W.took W.written old new [] → opens (names_with asked.catalog []) → IsAnswered opens asked l ending
 
   -- a front went out of what the job puts out for readers that the names gave
   module _ {Y T : Type 0} (I : Items Y) (W : Outlet T) (old new : T) where
@@ -136,10 +136,11 @@ module _ {X : Type 0} (R : Inlet X) (gives : Name → X → Type 0) (refuses : N
   IsStopped l names lacking large failed TooLarge = large
   IsStopped l names lacking large failed Open = (name : Name) × Contains names name × refuses name
 
-  -- why what is asked for was stopped: at the catalog; or at the documents, once the catalog was loaded
-  abbrev pub IsStoppedAt : {Y : Type 0} → Type 0 → Items Y → Asked → Limits → Bool → Fault → Type 0
-  IsStoppedAt none I asked l failed fault = IsStopped l (names_with asked.catalog []) ⊥ ⊥ false fault
-      ⊎ ((g : the_catalog) × IsCatalog R gives asked.catalog l (Ok g) × IsStopped l (names_of_job asked.job) (JobLacksHasher none asked.job) (NeedsLarge R gives I asked.job g l) failed fault)
+  -- why what is asked for was stopped: at the catalog, where no other name was opened; or at the documents, once the catalog was loaded
+  abbrev pub IsStoppedAt : {Y : Type 0} → (List Name → Type 0) → Type 0 → Items Y → Asked → Limits → Bool → Fault → Type 0
+  IsStoppedAt opens none I asked l failed fault = IsStopped l (names_with asked.catalog []) ⊥ ⊥ false fault × opens (names_with asked.catalog [])
+      ⊎ ((g : the_catalog) × IsCatalog R gives asked.catalog l (Ok g) × IsStopped l (names_of_job asked.job) (JobLacksHasher none asked.job) (NeedsLarge R gives I asked.job g l) failed fault
+      × OpensUpTo opens (names_of asked) fault)
 
 -- what is told on the errors where a command ended so: whose refusal it was, or nothing
 abbrev pub TellsErrors : {D : Type 0} → Outlet D → D → D → Ending → Type 0
@@ -147,32 +148,32 @@ TellsErrors V err err_now Accepted = Took V.took V.written err err_now []
 TellsErrors V err err_now Different = Took V.took V.written err err_now []
 TellsErrors V err err_now (Refused whose refusal) = Reports V err err_now (refusal_line whose refusal)
 
-module _ {X Y T D : Type 0} (R : Inlet X) (gives : Name → X → Type 0) (refuses : Name → Type 0) (none : Type 0) (I : Items Y) (W : Outlet T) (V : Outlet D) where
-  -- What the program owes for words: its status, and what went to the output and to the errors; `none` is that no hasher can be had.
+module _ {X Y T D : Type 0} (R : Inlet X) (gives : Name → X → Type 0) (refuses : Name → Type 0) (opens : List Name → Type 0) (none : Type 0) (I : Items Y) (W : Outlet T) (V : Outlet D) where
+  -- What the program owes for words: its status, which names were opened, and what went to the output and to the errors; `none` is that no hasher can be had.
   pub data OwesWithHasher (asked : Option Asked) (out out_now : T) (err err_now : D) (status : ℕ) : Type 0 where
     -- they ask for nothing
-    usage : asked ≡ None → status ≡ 3 → Took W.took W.written out out_now [] → PassesOn W out out_now
+    usage : asked ≡ None → status ≡ 3 → opens [] → Took W.took W.written out out_now [] → PassesOn W out out_now
         → Reports V err err_now usage_line → OwesWithHasher asked out out_now err err_now status
     -- what they ask for was answered
     answered : (request : Asked) (l : Limits) (ending : Ending) → asked ≡ Some request → AreLimitsOf request l → status ≡ status_of ending
-        → IsAnswered R gives W out out_now request l ending → PassesOn W out out_now
+        → IsAnswered R gives W out out_now opens request l ending → PassesOn W out out_now
         → TellsErrors V err err_now ending → OwesWithHasher asked out out_now err err_now status
     -- a fault stopped it
     stopped : (request : Asked) (l : Limits) (fault : Fault) → asked ≡ Some request → AreLimitsOf request l → status ≡ 4
-        → IsStoppedAt R gives refuses none I request l (W.has_failed out_now) fault → WroteSoFar R gives I W out out_now request l
+        → IsStoppedAt R gives refuses opens none I request l (W.has_failed out_now) fault → WroteSoFar R gives I W out out_now request l
         → Reports V err err_now (fault_line fault) → OwesWithHasher asked out out_now err err_now status
     -- a document was refused, and there was no memory for the line that says so
     untold : (request : Asked) (l : Limits) (whose : Whose) (refusal : the_refusal) → asked ≡ Some request → AreLimitsOf request l → status ≡ 4
-        → IsAnswered R gives W out out_now request l (Refused whose refusal) → PassesOn W out out_now
+        → IsAnswered R gives W out out_now opens request l (Refused whose refusal) → PassesOn W out out_now
         → Reports V err err_now (fault_line Memory) → OwesWithHasher asked out out_now err err_now status
     -- there was no memory for the words
-    no_memory : status ≡ 4 → Took W.took W.written out out_now [] → Reports V err err_now (fault_line Memory)
+    no_memory : status ≡ 4 → opens [] → Took W.took W.written out out_now [] → PassesOn W out out_now → Reports V err err_now (fault_line Memory)
         → OwesWithHasher asked out out_now err err_now status
 
   -- where there are no words: the usage line for an argument that is no text, and a fault for want of memory
   abbrev pub OwesWithout : WordsError → T → T → D → D → ℕ → Type 0
-  OwesWithout words_errors.Usage out out_now err err_now status = (status ≡ 3) × Took W.took W.written out out_now [] × PassesOn W out out_now × Reports V err err_now usage_line
-  OwesWithout words_errors.Memory out out_now err err_now status = (status ≡ 4) × Took W.took W.written out out_now [] × PassesOn W out out_now × Reports V err err_now (fault_line Memory)
+  OwesWithout words_errors.Usage out out_now err err_now status = (status ≡ 3) × opens [] × Took W.took W.written out out_now [] × PassesOn W out out_now × Reports V err err_now usage_line
+  OwesWithout words_errors.Memory out out_now err err_now status = (status ≡ 4) × opens [] × Took W.took W.written out out_now [] × PassesOn W out out_now × Reports V err err_now (fault_line Memory)
 
   -- What the program owes for the arguments of the process: what it owes for the words that they are, or for want of words.
   abbrev pub OwesFor : Result Arguments Error → T → T → D → D → ℕ → Type 0
@@ -180,5 +181,5 @@ module _ {X Y T D : Type 0} (R : Inlet X) (gives : Name → X → Type 0) (refus
   OwesFor (Err why) out out_now err err_now status = OwesWithout (no_words why) out out_now err err_now status
 
 -- What it owes where a hasher can always be had.
-abbrev pub Owes : {X Y T D : Type 0} → Inlet X → (Name → X → Type 0) → (Name → Type 0) → Items Y → Outlet T → Outlet D → Option Asked → T → T → D → D → ℕ → Type 0
-Owes R gives refuses I W V = OwesWithHasher R gives refuses ⊥ I W V
+abbrev pub Owes : {X Y T D : Type 0} → Inlet X → (Name → X → Type 0) → (Name → Type 0) → (List Name → Type 0) → Items Y → Outlet T → Outlet D → Option Asked → T → T → D → D → ℕ → Type 0
+Owes R gives refuses opens I W V = OwesWithHasher R gives refuses opens ⊥ I W V

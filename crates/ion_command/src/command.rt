@@ -14,7 +14,7 @@ ghost use Rattle.ion_docs.specs.Converted.{IsConverted, IsConvertCause, ReadSoFa
 ghost use Rattle.ion_words.specs.Asked.{asked, told, names_of, names_of_job, names_with, NamesInputOnce};
 ghost use Rattle.ion_command.specs.Lines.{fault_line, refusal_line, usage_line, Reports};
 ghost use Rattle.ion_command.specs.Endings.{answer_line, verdict_line, EndsChecked, EndsShown, EndsCompared, PassesOn};
-ghost use Rattle.ion_command.specs.Names.{Keeps};
+ghost use Rattle.ion_command.specs.Names.{Keeps, Opens, OpensUpTo};
 ghost use Rattle.ion_command.specs.Owed.{target_of, code_of, IsCatalog, IsStopped, NeedsLarge, IsDone, IsAnswered, IsStoppedAt, WroteFront, WroteSoFar, LacksHasher, JobLacksHasher, Owes, OwesWithHasher};
 
 use crate::hashers::{FixedHasher, Hashers};
@@ -86,6 +86,7 @@ pub fn run<S: AsStr, N: Sources, O: Outlet, E: Outlet>(
     err: &mut E,
 ) -> u8
     ensures owes { Owes N.Input.Inlet (N.gives sources.old) (N.refuses sources.old)
+        (Opens (N.opened sources.old) (N.opened sources.new))
         ⟦<DocReader<'static> as Items>⟧ O.Outlet E.Outlet (asked (map S.text words.now))
         out.old out.new err.old err.new result }
 {
@@ -103,6 +104,7 @@ pub fn run_with_hasher<S: AsStr, N: Sources, H: Hashers, O: Outlet, E: Outlet>(
     err: &mut E,
 ) -> u8
     ensures owes { OwesWithHasher N.Input.Inlet (N.gives sources.old) (N.refuses sources.old)
+        (Opens (N.opened sources.old) (N.opened sources.new))
         (H.refuses hashers.now) ⟦<DocReader<'static> as Items>⟧ O.Outlet E.Outlet
         (asked (map S.text words.now)) out.old out.new err.old err.new result }
 {
@@ -169,6 +171,7 @@ fn answer<N: Sources, H: Hashers, O: Outlet, E: Outlet>(
     requires input_once { NamesInputOnce (names_of (told request.now)) }
     requires reads { request.now.limits.reads ≡ 2 ^ 32 }
     ensures { OwesWithHasher N.Input.Inlet (N.gives sources.old) (N.refuses sources.old)
+        (Opens (N.opened sources.old) (N.opened sources.new))
         (H.refuses hashers.now) ⟦<DocReader<'static> as Items>⟧ O.Outlet E.Outlet
         (Option.Some (told request.now)) out.old out.new err.old err.new (code_of result) }
 {
@@ -190,13 +193,15 @@ fn carry_out<N: Sources, H: Hashers, O: Outlet>(
 ) -> Result<Ending, Fault>
     requires input_once { NamesInputOnce (names_of (told request.now)) }
     ensures answered { IfOk result (IsAnswered N.Input.Inlet (N.gives sources.old)
-        O.Outlet out.old out.new (told request.now) request.now.limits) }
+        O.Outlet out.old out.new (Opens (N.opened sources.old) (N.opened sources.new))
+        (told request.now) request.now.limits) }
     ensures passed_on { OnOk result (PassesOn O.Outlet out.old out.new) }
     ensures so_far { OnErr result (WroteSoFar N.Input.Inlet (N.gives sources.old)
         ⟦<DocReader<'static> as Items>⟧ O.Outlet out.old out.new
         (told request.now) request.now.limits) }
     ensures stopped { IfErr result (IsStoppedAt N.Input.Inlet (N.gives sources.old)
-        (N.refuses sources.old) (H.refuses hashers.now) ⟦<DocReader<'static> as Items>⟧
+        (N.refuses sources.old) (Opens (N.opened sources.old) (N.opened sources.new))
+        (H.refuses hashers.now) ⟦<DocReader<'static> as Items>⟧
         (told request.now) request.now.limits (O.has_failed out.new)) }
 {
     match catalog_of(alloc, request, sources)? {
@@ -214,6 +219,8 @@ fn catalog_of<N: Sources>(
     ensures catalog { IfOk result (IsCatalog N.Input.Inlet (N.gives sources.old)
         (told request.now).catalog request.now.limits) }
     ensures kept { Keeps N.gives N.refuses sources.old sources.new (told request.now).catalog }
+    ensures opened { Opens (N.opened sources.old) (N.opened sources.new)
+        (names_with (told request.now).catalog []) }
     ensures stopped { IfErr result (IsStopped N.Input.Inlet (N.gives sources.old)
         (N.refuses sources.old) request.now.limits (names_with (told request.now).catalog [])
         ⊥ ⊥ false) }
@@ -236,6 +243,11 @@ fn ending_of<N: Sources, H: Hashers, O: Outlet>(
     requires input_once { NamesInputOnce (names_of_job (told request.now).job) }
     ensures done { IfOk result (IsDone N.Input.Inlet (N.gives sources.old) O.Outlet
         out.old out.new (told request.now).job catalog.now request.now.limits) }
+    ensures opened { OnOk result (Opens (N.opened sources.old) (N.opened sources.new)
+        (names_of_job (told request.now).job)) }
+    ensures opened_up_to { IfErr result (OpensUpTo
+        (Opens (N.opened sources.old) (N.opened sources.new))
+        (names_of_job (told request.now).job)) }
     ensures passed_on { OnOk result (PassesOn O.Outlet out.old out.new) }
     ensures so_far { OnErr result (TookFront O.took O.written out.old out.new []
         ⊎ WroteFront N.Input.Inlet (N.gives sources.old) ⟦<DocReader<'static> as Items>⟧
@@ -299,7 +311,7 @@ fn shown<R: Inlet, O: Outlet>(
     ensures ending { IfOk result (λ ending. (answer : Result ℕ Refusal)
         × IsShown R.Inlet O.Outlet (documents catalog.now limits)
         reader.old reader.new out.old out.new answer
-        × EndsShown answer ending) }
+        × EndsShown O.Outlet out.new answer ending) }
     ensures passed_on { OnOk result (PassesOn O.Outlet out.old out.new) }
     ensures so_far { OnErr result (ShowsSoFar R.Inlet ⟦<DocReader<'static> as Items>⟧ O.Outlet
         catalog.now limits reader.old reader.new out.old out.new) }
@@ -326,7 +338,7 @@ fn converted<H: Hashers, R: Inlet, O: Outlet>(
         (documents catalog.now limits) reader.old reader.new out.old out.new answer
         × KeepsStream R.Inlet O.Outlet (encoding_of (target_of encoding)) catalog.now limits
         reader.old reader.new out.old out.new answer
-        × EndsShown answer ending) }
+        × EndsShown O.Outlet out.new answer ending) }
     ensures passed_on { OnOk result (PassesOn O.Outlet out.old out.new) }
     ensures so_far { OnErr result (ConvertsSoFar (encoding_of (target_of encoding))
         (ReadSoFar R.Inlet ⟦<DocReader<'static> as Items>⟧ catalog.now limits reader.old reader.new)
@@ -357,7 +369,7 @@ fn conversion<H: Hashers, R: Inlet, O: Outlet>(
         catalog.now limits reader.old reader.new out.old out.new) }
     ensures converted { IfOk result (IsConverted R.Inlet O.Outlet (encoding_of (target_of encoding))
         (documents catalog.now limits) reader.old reader.new out.old out.new) }
-    ensures passed_on { OnOk result (PassesOn O.Outlet out.old out.new) }
+    ensures passed_on { OnOk result (O.passed out.new ≡ O.written out.new) }
     ensures so_far { OnErr result (ConvertsSoFar (encoding_of (target_of encoding))
         (ReadSoFar R.Inlet ⟦<DocReader<'static> as Items>⟧ catalog.now limits reader.old reader.new)
         O.Outlet out.old out.new) }

@@ -1,9 +1,10 @@
 //! The file system, the standard input and the arguments of the process.
-ghost use Rattle.std.specs.Prelude.{◌≡◌, map, drop, string_bytes, MatchResult, IfOk, IfErr};
+ghost use Rattle.std.specs.Prelude.{◌≡◌, [], map, drop, string_bytes, MatchResult, IfOk, IfErr};
 ghost use Rattle.std.specs.Vec.Iter.{into_iter_items};
 ghost use Rattle.ion_command.specs.Arguments.{words_of, no_words};
 
 use crate::hashers::Hashers;
+use crate::history::NameHistory;
 use crate::sources::Sources;
 use ion_symtab::{Fault, FromRead, Inlet};
 use ion_words::WordsError;
@@ -35,12 +36,19 @@ impl Read for Opened {
 #[derive(Drop)]
 pub struct FileSystem<'r> {
     rt: &'r HostRuntime,
+    /// The names that were opened.
+    opened: NameHistory,
 }
 
 impl<'r> FileSystem<'r> {
-    /// The file system of this process.
-    pub fn new(rt: &'r HostRuntime) -> FileSystem<'r> {
-        FileSystem { rt }
+    /// The file system of this process, of which no name was opened yet.
+    pub fn new(rt: &'r HostRuntime) -> FileSystem<'r>
+        ensures { ⟦<FileSystem<'r> as Sources>⟧.opened result ≡ [] }
+    {
+        FileSystem {
+            rt,
+            opened: NameHistory::new(),
+        }
     }
 }
 
@@ -60,7 +68,10 @@ impl Sources for FileSystem<'_> {
     /// input never is.
     ghost refuses = { λ _ name. name ≢ codes "-" };
 
+    ghost opened = { λ system. system.opened };
+
     fn source(&mut self, name: &str) -> Result<FromRead<Opened>, Fault> {
+        self.opened.add(name);
         if name == "-" {
             return Ok(FromRead::new(Opened::Standard(self.rt.stdin())));
         }

@@ -5,6 +5,7 @@
 mod command;
 mod files;
 mod hashers;
+mod history;
 mod lines;
 mod process;
 mod sources;
@@ -12,6 +13,7 @@ mod sources;
 pub use command::{Status, refuse_words, run, run_with_hasher};
 pub use files::{FileSystem, Opened, RandomHasher, words_given};
 pub use hashers::{FixedHasher, Hashers};
+pub use history::NameHistory;
 pub use lines::Whose;
 pub use process::carry_out;
 pub use sources::Sources;

@@ -1,4 +1,5 @@
 //! What the arguments of a process ask for.
+ghost use Rattle.ion_command.specs.Names.{Opens};
 ghost use Rattle.ion_command.specs.Owed.{OwesFor};
 
 use crate::command::{refuse_words, run_with_hasher};
@@ -23,7 +24,8 @@ pub fn carry_out<N: Sources, H: Hashers, O: Outlet, E: Outlet>(
     err: &mut E,
 ) -> u8
     ensures { OwesFor N.Input.Inlet (N.gives sources.old) (N.refuses sources.old)
-        (H.refuses hashers.now) ⟦<DocReader<'static> as Items>⟧ O.Outlet E.Outlet arguments
+        (Opens (N.opened sources.old) (N.opened sources.new)) (H.refuses hashers.now)
+        ⟦<DocReader<'static> as Items>⟧ O.Outlet E.Outlet arguments
         out.old out.new err.old err.new result }
 {
     match words_given(alloc, arguments) {

@@ -3,6 +3,7 @@ use Rattle.ion_symtab.specs.laws.Took.{Took-nil}
 use Rattle.ion_words.specs.Asked.{told}
 use Rattle.ion_command.specs.declared.command.Ending.TheVariants.{Accepted, Different}
 use Rattle.ion_command.specs.Owed.{code_of, answered, stopped}
+use Rattle.ion_command.specs.Names.{Opens}
 use Rattle.ion_command.proofs.Owing.{owes_refused}
 use Rattle.ion_command.proofs.command.answer.Goals as goal
 
@@ -18,7 +19,7 @@ returns-in-Ok-Different g c =
 
 pub returns-in-Ok-Refused : goal.returns-in-Ok-Refused
 returns-in-Ok-Refused g c =
-    owes_refused g.N.Input.Inlet (g.N.Sources.gives c.args.sources.now) (g.N.Sources.refuses c.args.sources.now) _ _ g.O.Outlet g.E.Outlet (told c.args.request.now) c.args.request.now.limits c.in-Ok-Refused.whose c.in-Ok-Refused.refusal
+    owes_refused g.N.Input.Inlet (g.N.Sources.gives c.args.sources.now) (g.N.Sources.refuses c.args.sources.now) (Opens (g.N.Sources.opened c.args.sources.now) (g.N.Sources.opened c.carry_out.new.sources)) _ _ g.O.Outlet g.E.Outlet (told c.args.request.now) c.args.request.now.limits c.in-Ok-Refused.whose c.in-Ok-Refused.refusal
     c.args.out.now c.carry_out.new.out c.args.err.now c.tell_refusal.new.err c.tell_refusal.result (refl, refl, c.requires.reads) (rw c.in-Ok-Refused.field-0-is at c.in-Ok-Refused.ensures.answered) c.in-Ok-Refused.ensures.passed_on
     c.tell_refusal.ensures.status c.tell_refusal.ensures.refused c.tell_refusal.ensures.fault
 

@@ -11,14 +11,14 @@ pub returns-in_ok-tell-in-Equivalent-clause-ending :
 returns-in_ok-tell-in-Equivalent-clause-ending g c =
     let told : Took g.O.Outlet.took g.O.Outlet.written c.args.out.now c.tell.new.out (equivalent_line c.in-Equivalent.values) =
     rw (c.as_str.ensures.value, c.in_ok-equivalent_line-in-Equivalent.ensures) at c.in_ok-tell-in-Equivalent.ensures.told in
-    (Equivalent c.in-Equivalent.values, rw c.in-Equivalent.is at c.in_ok-values.ensures.verdict, (refl, told))
+    (Equivalent c.in-Equivalent.values, rw c.in-Equivalent.is at c.in_ok-values.ensures.verdict, (refl, told, c.in_ok-tell-in-Equivalent.ensures.passed_on))
 
 pub returns-in_ok-tell-in-Different-clause-ending :
     goal.returns-in_ok-tell-in-Different-clause-ending
 returns-in_ok-tell-in-Different-clause-ending g c =
     let told : Took g.O.Outlet.took g.O.Outlet.written c.args.out.now c.tell-in-Different.new.out (different_line c.in-Different.index c.in-Different.path) =
     rw (c.as_str-in-Different.ensures.value, c.in_ok-different_line-in-Different.ensures.line) at c.in_ok-tell-in-Different.ensures.told in
-    (Different c.in-Different.index c.in-Different.path, rw c.in-Different.is at c.in_ok-values.ensures.verdict, (refl, told))
+    (Different c.in-Different.index c.in-Different.path, rw c.in-Different.is at c.in_ok-values.ensures.verdict, (refl, told, c.in_ok-tell-in-Different.ensures.passed_on))
 
 pub returns-in-Refused-clause-ending : goal.returns-in-Refused-clause-ending
 returns-in-Refused-clause-ending g c =

@@ -1,7 +1,4 @@
-use Rattle.std.proofs.Common.{[], inl, inr}
 use Rattle.std.proofs.lemmas.Result.{IfErr-weaker}
-use Rattle.ion_symtab.specs.laws.Took.{Front-none}
-use Rattle.ion_docs.specs.Converted.{at_start}
 use Rattle.ion_command.proofs.Owing.{or_more}
 use Rattle.ion_command.proofs.command.conversion.Goals as goal
 

@@ -1,0 +1,2 @@
+-- What the code keeps, as the definitions have it.
+pub mod Spelled
