@@ -10,6 +10,7 @@ use crate::lines::ends_so;
 use crate::wanted::Wanted;
 use answers::SINGLE;
 use comparisons::{COMPARED, Compared};
+use ion_command::NameHistory;
 use listings::{ACCEPTED, Accepted};
 use refusals::{REFUSED, Refused};
 use std::alloc::{AllocError, Global};
@@ -43,11 +44,16 @@ fn ends_both_ways(
     words: &[&str],
     wanted: &Wanted<'_>,
 ) {
-    ends_so(rt, alloc, &mut Shelf { files }, words, wanted);
+    let mut shelf = Shelf {
+        files,
+        opened: NameHistory::new(),
+    };
+    ends_so(rt, alloc, &mut shelf, words, wanted);
     let mut slow = FrailShelf {
         files,
         fails: "",
         fails_at: u64::MAX,
+        opened: NameHistory::new(),
     };
     ends_so(rt, alloc, &mut slow, words, wanted);
 }

@@ -65,11 +65,11 @@ enum Call {
 }
 
 /// What a check or a call that writes answers of these octets, where the read with this index fails.
-fn written(
+fn written<R: Inlet>(
     alloc: Global,
     catalog: &Catalog,
     call: Call,
-    reader: &mut FromRead<FrailReader<'_>>,
+    reader: &mut R,
     limits: Limits,
 ) -> Answer {
     let mut taken = Vec::new(alloc);
@@ -86,7 +86,7 @@ fn written(
 }
 
 /// How many tables t 1 these octets bring, or their refusal.
-fn loaded(alloc: Global, reader: &mut FromRead<FrailReader<'_>>, limits: Limits) -> Answer {
+fn loaded<R: Inlet>(alloc: Global, reader: &mut R, limits: Limits) -> Answer {
     match load_catalog(alloc, reader, limits)? {
         Ok(catalog) => {
             let count = u64::from(catalog.find("t", 1).is_some());
@@ -110,6 +110,46 @@ fn answered(
     match call {
         Call::Load => loaded(alloc, &mut reader, limits),
         _ => written(alloc, catalog, call, &mut reader, limits),
+    }
+}
+
+/// Octets in memory, of which no call may ask for more than 4096.
+#[derive(Drop)]
+struct Narrow {
+    octets: &'static [u8],
+}
+
+impl Read for Narrow {
+    fn read(&mut self, buf: &mut [u8]) -> io::Result<usize> {
+        if buf.len() > 4096 {
+            return Err(io::Error::from(ErrorKind::InvalidInput));
+        }
+        self.octets.read(buf)
+    }
+}
+
+/// A document of no values, of two whole pieces and a part of one.
+static BLANKS: [u8; 10000] = [b' '; 10000];
+
+/// What a call answers of blanks of which each piece is asked for by itself, and how many calls were made.
+fn answered_in_pieces(alloc: Global, catalog: &Catalog, call: Call) -> (Answer, u64) {
+    let mut reader = FromRead::new(Narrow {
+        octets: BLANKS.as_slice(),
+    });
+    let answer = match call {
+        Call::Load => loaded(alloc, &mut reader, Limits::usual()),
+        _ => written(alloc, catalog, call, &mut reader, Limits::usual()),
+    };
+    (answer, reader.calls())
+}
+
+/// No call of a device asks for more than 4096 octets.
+#[test]
+fn pieces_are_short(rt: HostRuntime) {
+    let catalog = Catalog::new(rt.alloc());
+    for call in &CALLS {
+        let found = answered_in_pieces(rt.alloc(), &catalog, *call);
+        same(&rt, *call, found, (Ok(Ok(0)), 4));
     }
 }
 

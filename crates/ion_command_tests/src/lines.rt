@@ -1,9 +1,9 @@
 //! What the words mean, the lines and the statuses, over documents in memory.
 
 use crate::answers::same;
-use crate::devices::{FrailShelf, Shelf};
+use crate::devices::{FrailShelf, Register, Shelf};
 use crate::wanted::{Row, Wanted};
-use ion_command::{Sources, run};
+use ion_command::{NameHistory, Sources, run};
 use ion_devices::{FrailWriter, NEVER};
 use ion_symtab::ToWrite;
 use std::alloc::{AllocError, Global};
@@ -92,6 +92,7 @@ static FILES: [(&str, &[u8]); 16] = [
 fn shelf() -> Shelf<'static> {
     Shelf {
         files: FILES.as_slice(),
+        opened: NameHistory::new(),
     }
 }
 
@@ -315,6 +316,44 @@ fn rows(rt: HostRuntime) {
     }
 }
 
+/// Words, and the names that are opened for them, each with a space behind it.
+static OPENED: [(&[&str], &str); 8] = [
+    (&["frob"], ""),
+    (&["check", "list"], "list "),
+    (
+        &["convert", "null", "--to", "text", "--catalog", "table"],
+        "table null ",
+    ),
+    (
+        &["compare", "list", "-", "--catalog", "table"],
+        "table list - ",
+    ),
+    (&["compare", "list", "list"], "list list "),
+    // a left one that isn't there keeps the right one closed, and a refused catalog both
+    (&["compare", "absent", "list"], "absent "),
+    (&["compare", "bad", "absent"], "bad absent "),
+    (&["compare", "list", "zero", "--catalog", "bad"], "bad "),
+];
+
+/// Runs the words over the worked documents, and compares the names that were opened.
+fn opens_so(rt: &impl Abort, alloc: Global, words: &[&str], wanted: &str) {
+    let mut register = Register {
+        shelf: shelf(),
+        names: String::new(alloc),
+    };
+    let mut out = Vec::new(alloc);
+    let mut err = Vec::new(alloc);
+    run_into(alloc, &mut register, words, &mut out, &mut err);
+    same(rt, words, register.names.as_str(), wanted);
+}
+
+#[test]
+fn names_are_opened_in_order(rt: HostRuntime) {
+    for (words, names) in &OPENED {
+        opens_so(&rt, rt.alloc(), words, names);
+    }
+}
+
 /// A document, what it is converted to, the octets that go out, the line of the errors and the
 /// status.
 type Converted = (&'static str, &'static str, &'static [u8], &'static str, u8);
@@ -373,6 +412,7 @@ fn a_read_fails(rt: &impl Abort, alloc: Global, fails: &str, fails_at: u64) {
         files: &[("left", FILES[2].1), ("right", FILES[2].1)],
         fails,
         fails_at,
+        opened: NameHistory::new(),
     };
     let wanted = if fails_at < 9 { FAILED_READ } else { SAME };
     let words = ["compare", "left", "right"];
