@@ -1,5 +1,5 @@
 //! What a step of a reader uses, and what a reader holds between two.
-ghost use Rattle.std.specs.Prelude.{◌≡◌};
+ghost use Rattle.std.specs.Prelude.{◌≡◌, IsNone};
 
 use crate::answers::same;
 use crate::held::{Held, held_behind};
@@ -88,4 +88,44 @@ fn a_text_is_held(rt: HostRuntime) {
     let found = read_text(rt.alloc(), &catalog, *b"\"ab");
     drop(catalog);
     same(&rt, "step", found, Ok(Ok((3, false, true))));
+}
+
+/// What a step refuses, and what the step behind it answers.
+type Refused = Option<(Refusal, Result<Held, Refusal>)>;
+
+/// A step of a reader that has used nothing yet, and where it refuses, one more.
+fn step_behind<'a>(reader: &mut TextReader<'a>, front: &[u8; 5], rest: &[u8; 1]) -> Refused
+    requires taken { ⟦<TextReader<'a> as Items>⟧.taken reader.old ≡ 0 }
+    requires awaits { IsNone (⟦<TextReader<'a> as Items>⟧.awaits reader.old) }
+{
+    match held_behind(reader, front) {
+        Ok(_) => None,
+        Err(refusal) => Some((refusal, held_behind(reader, rest))),
+    }
+}
+
+/// A step of a text that refuses, and one more.
+fn read_refused(
+    alloc: Global,
+    catalog: &Catalog,
+    front: [u8; 5],
+    rest: [u8; 1],
+) -> Result<Refused, Reason> {
+    let mut reader = TextReader::new(alloc, catalog, Limits::usual())?;
+    let steps = step_behind(&mut reader, &front, &rest);
+    drop(reader);
+    Ok(steps)
+}
+
+/// A list without its comma is refused at `b`, and so is whatever is handed in later.
+#[test]
+fn a_refusal_is_answered_again(rt: HostRuntime) {
+    let catalog = Catalog::new(rt.alloc());
+    let found = read_refused(rt.alloc(), &catalog, *b"[a b]", *b"1");
+    drop(catalog);
+    let refusal = Refusal {
+        offset: 4,
+        reason: Reason::Unexpected,
+    };
+    same(&rt, "steps", found, Ok(Some((refusal, Err(refusal)))));
 }
