@@ -1,5 +1,5 @@
 //! Whole documents of either encoding, under one catalog and limits.
-ghost use Rattle.std.specs.Prelude.{◌≡◌, ◌+◌, ◌≤◌, ◌⊎◌, false, IfOk, IfErr, OnOk, OnErr};
+ghost use Rattle.std.specs.Prelude.{◌≡◌, ◌+◌, ◌≤◌, ◌⊎◌, false, IfOk, IfErr, OnOk, OnErr, length, ◌*◌};
 ghost use Rattle.ion_symtab.specs.Cause.{IsReadCause};
 ghost use Rattle.ion_docs.specs.Encodings.{encoding_of};
 ghost use Rattle.ion_docs.specs.Formats.{documents};
@@ -39,6 +39,8 @@ pub fn check<R: Inlet>(
     ensures verdict { IfOk result (IsChecked R.Inlet (documents catalog.now limits)
         reader.old reader.new) }
     ensures few_calls { R.calls_made reader.new ≤ R.calls_made reader.old + limits.reads }
+    ensures few_octets { length (R.handed reader.new)
+        ≤ length (R.handed reader.old) + 4096 * limits.reads }
     ensures cause { IfErr result (IsReadCause R.Inlet limits.reads reader.old reader.new) }
 {
     let items = DocReader::new(alloc, catalog, limits).map_err(|_| Fault::Memory)?;
@@ -66,6 +68,8 @@ pub fn show<R: Inlet, W: Outlet>(
     ensures so_far { OnErr result (ShowsSoFar R.Inlet ⟦<DocReader<'static> as Items>⟧ W.Outlet
         catalog.now limits reader.old reader.new writer.old writer.new) }
     ensures few_calls { R.calls_made reader.new ≤ R.calls_made reader.old + limits.reads }
+    ensures few_octets { length (R.handed reader.new)
+        ≤ length (R.handed reader.old) + 4096 * limits.reads }
     ensures cause { IfErr result (λ fault.
         IsReadCause R.Inlet limits.reads reader.old reader.new fault
         ⊎ IsWriteCause W.Outlet writer.new fault) }
@@ -179,6 +183,8 @@ pub fn compare<L: Inlet, R: Inlet>(
         left.old left.new right.old right.new) }
     ensures few_calls { (L.calls_made left.new ≤ L.calls_made left.old + limits.reads)
         × (R.calls_made right.new ≤ R.calls_made right.old + limits.reads) }
+    ensures few_octets { (length (L.handed left.new) ≤ length (L.handed left.old) + 4096 * limits.reads)
+        × (length (R.handed right.new) ≤ length (R.handed right.old) + 4096 * limits.reads) }
     ensures cause { IfErr result (λ fault.
         IsReadCause L.Inlet limits.reads left.old left.new fault
         ⊎ IsReadCause R.Inlet limits.reads right.old right.new fault) }
