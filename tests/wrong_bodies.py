@@ -15,6 +15,8 @@ import sys
 
 TOGETHER = 12
 GOAL = re.compile(r"^note: (src/\S+?):(\d+):\d+: it is not proved", re.M)
+# an answer that doesn't prove its goal any more; one that names what isn't there says nothing of it
+ANSWER = re.compile(r"^(\./)?proofs/\S+/Answers\.antt:\d+:\d+: error: (?!.*(has no field|is not in scope|has no `|was not admitted|was not checked))", re.M)
 
 
 class Edit:
@@ -86,7 +88,7 @@ def by_itself(edit):
         return "did not reach the prover"
     if not said:
         return "NOT REFUSED"
-    if GOAL.search(said):
+    if GOAL.search(said) or ANSWER.search(said):
         return ""
     first = next((line for line in said.splitlines() if re.match(r"(note: )?\S+:\d+:\d+: error|fn .*: no proof:", line)), "")
     return f"refused by no goal: {first[:200]}"
