@@ -1,9 +1,13 @@
-//! The library in use: whether two documents carry the same data, and else where they part.
+//! The library in use: two documents compared, the values of one summed, one built and written in either
+//! encoding, and one that needs shared symbol tables.
 #![tactic(auto)]
 
-use ion_docs::{Side, Verdict, compare, path_text};
-use ion_symtab::{Catalog, Fault, FromRead, Limits};
-use std::alloc::Global;
+mod building;
+mod catalogs;
+mod comparing;
+mod summing;
+
+use ion_docs::Target;
 use std::io;
 
 const LEFT: &[u8] = b"{name: \"a\", tags: [1, 2]}";
@@ -12,34 +16,39 @@ const RIGHT: &[u8] = b"{tags: [1, 3], name: \"a\"}";
 
 const CUT: &[u8] = b"{name:";
 
-/// Says in a line what `compare` answers of two documents.
-fn told(alloc: Global, left: &[u8], right: &[u8]) -> Result<String, Fault> {
-    let catalog = Catalog::new(alloc);
-    let mut left = FromRead::new(left);
-    let mut right = FromRead::new(right);
-    let line = match compare(alloc, &mut left, &mut right, &catalog, Limits::usual())? {
-        Verdict::Equivalent { values } => format!(in alloc; "{values} values, the same data")?,
-        Verdict::Different { index, path } => {
-            let path = path_text(alloc, &path).map_err(|_| Fault::Memory)?;
-            format!(in alloc; "value {index} differs at {path}")?
-        }
-        Verdict::Refused { side, refusal } => {
-            let side = match side {
-                Side::Left => "left",
-                Side::Right => "right",
-            };
-            format!(in alloc; "{side} is no document: octet {}", refusal.offset)?
-        }
-    };
-    Ok(line)
-}
+const ORDERS: &[u8] = b"{item: nails, count: 20} {item: glue, count: 3} {item: none}";
+
+const TABLES: &[u8] =
+    b"$ion_shared_symbol_table::{name: \"shop\", version: 1, symbols: [\"nails\"]}";
+
+const USES: &[u8] =
+    b"$ion_symbol_table::{imports: [{name: \"shop\", version: 1, max_id: 1}]} $10 $10";
 
 fn main(rt: HostRuntime) -> io::Result<()> {
+    let alloc = rt.alloc();
     for right in [LEFT, RIGHT, CUT] {
-        match told(rt.alloc(), LEFT, right) {
+        match comparing::told(alloc, LEFT, right) {
             Ok(line) => println!(rt; "{line}")?,
             Err(fault) => println!(rt; "{fault}")?,
         }
+    }
+    match summing::sum_of(alloc, ORDERS, "count") {
+        Ok(sum) => println!(rt; "{sum} pieces")?,
+        Err(stop) => println!(rt; "{stop}")?,
+    }
+    match building::spelled(alloc) {
+        Ok(text) => println!(rt; "{text}")?,
+        Err(reason) => println!(rt; "{reason}")?,
+    }
+    for target in [Target::Text, Target::Binary] {
+        match building::written(alloc, target) {
+            Ok(octets) => println!(rt; "{} octets", octets.len())?,
+            Err(fault) => println!(rt; "{fault}")?,
+        }
+    }
+    match catalogs::counted(alloc, TABLES, USES) {
+        Ok(count) => println!(rt; "{count} values under the catalog")?,
+        Err(stop) => println!(rt; "{stop}")?,
     }
     Ok(())
 }

@@ -1,0 +1,39 @@
+//! A document that is built, and written in either encoding.
+use ion_binary::BinaryWriter;
+use ion_docs::Target;
+use ion_model::{Reason, Value};
+use ion_symtab::{Fault, ToWrite};
+use ion_text::{TextWriter, text_of};
+use std::alloc::Global;
+
+/// A document of one struct.
+pub(crate) fn written(alloc: Global, target: Target) -> Result<Vec<u8>, Fault> {
+    let value = order(alloc).map_err(|_| Fault::Memory)?;
+    let mut out = ToWrite::new(Vec::new(alloc));
+    match target {
+        Target::Binary => {
+            let mut writer = BinaryWriter::new(alloc)?;
+            writer.put(&mut out, &value)?;
+            writer.finish(&mut out)?;
+        }
+        Target::Text => {
+            let mut writer = TextWriter::new(alloc);
+            writer.put(&mut out, &value)?;
+            writer.finish(&mut out)?;
+        }
+    }
+    Ok(out.into_inner())
+}
+
+/// The text of that struct by itself.
+pub(crate) fn spelled(alloc: Global) -> Result<String, Reason> {
+    text_of(alloc, &order(alloc)?)
+}
+
+/// The struct: a name and two numbers.
+fn order(alloc: Global) -> Result<Value, Reason> {
+    let name = Value::string(alloc, "nails")?;
+    let sizes = vec![in alloc; Value::int(alloc, 20), Value::int(alloc, 35)]?;
+    let fields = vec![in alloc; ("name", name), ("sizes", Value::list(alloc, sizes))]?;
+    Value::record(alloc, fields)
+}
