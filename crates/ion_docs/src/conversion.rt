@@ -1,5 +1,5 @@
 //! The conversion of documents.
-ghost use Rattle.std.specs.Prelude.{◌≡◌, ℕ, ◌+◌, ◌++◌, ◌^◌, ◌<◌, ◌≤◌, ◌⊎◌, List, [], length, false, IfOk, IfErr, OnOk, OnErr, option_to_list};
+ghost use Rattle.std.specs.Prelude.{◌≡◌, ℕ, ◌+◌, ◌*◌, ◌++◌, ◌^◌, ◌<◌, ◌≤◌, ◌⊎◌, List, [], length, false, IfOk, IfErr, OnOk, OnErr, option_to_list};
 ghost use Rattle.ion_model.specs.declared.value.Value.{Value as AnyValue};
 ghost use Rattle.ion_model.specs.Kept.{AreKept};
 ghost use Rattle.ion_symtab.specs.Cause.{IsReadCause};
@@ -113,6 +113,8 @@ pub fn convert_items<E: Encoder + Drop, I: Items + Drop, R: Inlet, W: Outlet>(
         reader.old reader.new writer.old writer.new) }
     ensures passed_on { OnOk result (W.passed writer.new ≡ W.written writer.new) }
     ensures fine { OnOk result (W.has_failed writer.new ≡ false) }
+    ensures few_calls { R.calls_made reader.new ≤ R.calls_made reader.old + reads }
+    ensures few_octets { length (R.handed reader.new) ≤ length (R.handed reader.old) + 4096 * reads }
     ensures so_far { OnErr result (ConvertsSoFar E.encoding
         (ReadSoFar R.Inlet I.Items (I.catalog items) (I.limits items) reader.old reader.new)
         W.Outlet writer.old writer.new) }
@@ -144,6 +146,8 @@ pub(crate) fn convert_by<C: Carrier<I, E>, E: Encoder + Drop, I: Items + Drop, R
         reader.old reader.new writer.old writer.new) }
     ensures passed_on { OnOk result (W.passed writer.new ≡ W.written writer.new) }
     ensures fine { OnOk result (W.has_failed writer.new ≡ false) }
+    ensures few_calls { R.calls_made reader.new ≤ R.calls_made reader.old + reads }
+    ensures few_octets { length (R.handed reader.new) ≤ length (R.handed reader.old) + 4096 * reads }
     ensures so_far { OnErr result (ConvertsSoFar E.encoding
         (ReadSoFar R.Inlet I.Items (I.catalog items) (I.limits items) reader.old reader.new)
         W.Outlet writer.old writer.new) }

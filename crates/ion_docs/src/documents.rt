@@ -1,5 +1,5 @@
 //! Whole documents of either encoding, under one catalog and limits.
-ghost use Rattle.std.specs.Prelude.{◌≡◌, ◌+◌, ◌≤◌, ◌⊎◌, false, IfOk, IfErr, OnOk, OnErr, length, ◌*◌};
+ghost use Rattle.std.specs.Prelude.{◌≡◌, ◌+◌, ◌*◌, ◌≤◌, ◌⊎◌, false, IfOk, IfErr, OnOk, OnErr, length};
 ghost use Rattle.ion_symtab.specs.Cause.{IsReadCause};
 ghost use Rattle.ion_docs.specs.Encodings.{encoding_of};
 ghost use Rattle.ion_docs.specs.Formats.{documents};
@@ -105,6 +105,9 @@ pub fn convert<R: Inlet, W: Outlet>(
         (documents catalog.now limits) reader.old reader.new writer.old writer.new) }
     ensures passed_on { OnOk result (W.passed writer.new ≡ W.written writer.new) }
     ensures fine { OnOk result (W.has_failed writer.new ≡ false) }
+    ensures few_calls { R.calls_made reader.new ≤ R.calls_made reader.old + limits.reads }
+    ensures few_octets { length (R.handed reader.new)
+        ≤ length (R.handed reader.old) + 4096 * limits.reads }
     ensures so_far { OnErr result (ConvertsSoFar (encoding_of target)
         (ReadSoFar R.Inlet ⟦<DocReader<'static> as Items>⟧ catalog.now limits reader.old reader.new)
         W.Outlet writer.old writer.new) }
@@ -134,6 +137,9 @@ pub fn convert_with_hasher<H: BuildHasher + Drop, R: Inlet, W: Outlet>(
         (documents catalog.now limits) reader.old reader.new writer.old writer.new) }
     ensures passed_on { OnOk result (W.passed writer.new ≡ W.written writer.new) }
     ensures fine { OnOk result (W.has_failed writer.new ≡ false) }
+    ensures few_calls { R.calls_made reader.new ≤ R.calls_made reader.old + limits.reads }
+    ensures few_octets { length (R.handed reader.new)
+        ≤ length (R.handed reader.old) + 4096 * limits.reads }
     ensures so_far { OnErr result (ConvertsSoFar (encoding_of target)
         (ReadSoFar R.Inlet ⟦<DocReader<'static> as Items>⟧ catalog.now limits reader.old reader.new)
         W.Outlet writer.old writer.new) }

@@ -20,6 +20,8 @@ loop-fault-init g c =
     let pending : g.I.Items.pending source.items ≡ 0 = ap (λ x. g.I.Items.pending x) new.items ∙ fresh.owes in
     record {
       ready = ready_begun g.I.Items source c.args.items (g.met.I.Items.counted c.args.items [] [] fresh.stood) fresh.awaited new.items new.nothing new.piece (omega (arith, new.reads));
+      asked = omega (arith, new.reads);
+      handed = omega (arith, new.reads);
       bound = omega (arith, new.reads, new.nothing.0, new.nothing.1);
       within = within_begun g.R.Inlet c.args.reader.now source c.args.reads new.reads;
       reads = (
@@ -72,6 +74,9 @@ loop-fault-preserved g c =
     let r = as_it_was (Done g.R.Inlet g.I.Items g.E.Encoder g.W.Outlet (g.I.Items.catalog c.args.items) (g.I.Items.limits c.args.items) c.args.reader.now c.args.writer.now c.loop-fault.reader c.loop-fault.values) (c.in-None.ensures.stays refl) i.reads in
     let bound = i.bound in
     let same = ap (work g.I.Items) (c.in-None.ensures.stays refl).0 in
+    let asked = i.asked in
+    let handed = i.handed in
+    let kept_reads : c.carry.new.source.reads ≡ c.loop-fault.source.reads = ap (λ x. x.reads) (c.in-None.ensures.stays refl).0 in
     let next = c.in_ok-value.ensures in
     let put = c.in_ok-values-in-Value.ensures in
     let value = c.in-Value.value in
@@ -79,6 +84,8 @@ loop-fault-preserved g c =
     let s = r.0 ++ value ∷ [] in
     record {
       ready = rw c.in-Value.is at next.ready;
+      asked = omega (arith, asked, kept_reads, next.few_calls);
+      handed = omega (arith, handed, kept_reads, next.few_octets);
       bound = omega (arith, bound, same, less, put.count);
       within = (rw c.in-Value.is at next.within) c.args.reader.now c.args.reads (subst (λ x. IsWithin g.R.Inlet c.args.reads c.args.reader.now c.loop-fault.reader x) (sym (c.in-None.ensures.stays refl).0) i.within);
       reads = (
@@ -217,6 +224,8 @@ loop-fault-preserved-in-Some-Ok g c =
     let s = r.0 ++ found.0 ∷ [] in
     record {
       ready = past.ready;
+      asked = omega (arith, i.asked, past.reads);
+      handed = omega (arith, i.handed, past.reads);
       bound = omega (arith, i.bound, past.less);
       within = within_past g.R.Inlet g.I.Items c.args.reads c.args.reader.now c.loop-fault.reader c.loop-fault.source c.carry.new.source found.0 past i.within;
       reads = (
