@@ -335,7 +335,7 @@ installed() {
     run install.sh prefix "$program"
     begins 'install.sh' 0 "installed in $folder/work/prefix: "
     is 'install.sh, what it wrote' "$(cd prefix && find . -type f | LC_ALL=C sort | tr '\n' ' ')" './bin/check_list ./bin/compare_list ./bin/ion_at ./bin/ion_check_all ./bin/ion_cmd ./bin/ion_compare_trees ./bin/ion_conformance ./bin/ion_floats_to_decimals ./bin/ion_lines.py ./bin/ion_merge ./bin/ion_textconv ./bin/ion_to ./bin/ion_where ./share/bash-completion/completions/ion_cmd ./share/man/man1/ion_cmd.1 ./share/zsh/site-functions/_ion_cmd '
-    is 'every script is installed' "$(cd "$top/tools" && ls -p | grep -v / | grep -vx install.sh | sort | tr '\n' ' ')" "$(cd prefix/bin && ls | grep -vx ion_cmd | sort | tr '\n' ' ')"
+    is 'every script is installed' "$(cd "$top/tools" && ls -p | grep -v / | grep -vx 'install.sh\|vendor.sh' | sort | tr '\n' ' ')" "$(cd prefix/bin && ls | grep -vx ion_cmd | sort | tr '\n' ' ')"
     echo '1 2' > a.ion
     out=$(PATH=$folder/work/prefix/bin:/usr/bin:/bin ion_at a.ion 2); status=$?; gives 'an installed script' 0 2
     run install.sh prefix absent; is 'install.sh, no program' "$status" 4
