@@ -8,4 +8,5 @@ pub mod Neighbours
 pub mod Timestamps
 pub mod FlatTimestamps
 pub mod Hashed
+pub mod Texts
 pub mod laws

@@ -6,7 +6,7 @@ use std::fmt::{self, Display, Formatter};
 
 /// What sort of value a value is (Ion 1.0, "The Ion Data Model"). The derived order is that of the
 /// ranks.
-#[derive(Debug, Clone, Copy, PartialEq, Eq, PartialOrd, Ord)]
+#[derive(Debug, Clone, Copy, PartialEq, Eq, PartialOrd, Ord, Hash)]
 pub enum Kind {
     /// The kind of `null` and `null.null`, which are one value.
     Null,

@@ -4,6 +4,7 @@
 
 pub mod calendar;
 mod decimal;
+mod display;
 mod halves;
 mod kind;
 mod orders;

@@ -1,7 +1,11 @@
-//! Orders and hashes of decimals and timestamps as std's traits have them, so that sorts and maps take them.
-ghost use Rattle.std.specs.Cmp.{partial_equiv_from_equiv, partial_order_from_own_ties, partial_order_from_total};
+//! Orders and hashes of ints, decimals, timestamps, texts and octets as std's traits have them, so that sorts and maps take
+//! them.
+ghost use Rattle.std.specs.Prelude.{refl, nat_eq};
+ghost use Rattle.std.specs.Cmp.{int_cmp_total, partial_equiv_from_equiv, partial_order_from_own_ties, partial_order_from_total};
+ghost use Rattle.std.specs.Cmp.Lexicographic.{nat_list_cmp_total, slice_cmp, texts_po, texts_ties};
 ghost use Rattle.std.specs.Cmp.Rules.{comparing, hashing};
-ghost use Rattle.std.specs.Ordering.{as_partial_cmp};
+ghost use Rattle.std.specs.Hash as fed;
+ghost use Rattle.std.specs.Ordering.{as_partial_cmp, int_cmp, nat_cmp};
 ghost use Rattle.std.proofs.Common.{rules};
 ghost use Rattle.ion_atoms.specs.Decimals.{decimal_cmp};
 ghost use Rattle.ion_atoms.specs.Timestamps.{timestamp_same, timestamp_cmp};
@@ -12,9 +16,46 @@ ghost use Rattle.ion_atoms.specs.laws.Ties.{timestamp_ties};
 ghost use Rattle.ion_atoms.specs.laws.Hashed.{timestamps_alike};
 
 use crate::decimal::Decimal;
+use crate::text::{Bytes, Text};
 use crate::timestamp::Timestamp;
+use crate::whole::Whole;
 use std::cmp::Ordering;
 use std::hash::{Hash, Hasher};
+
+impl PartialOrd for Whole {
+    ghost partial_cmp = { as_partial_cmp int_cmp };
+
+    ghost laws = { partial_order_from_own_ties (partial_order_from_total int_cmp_total)
+        (Prim.search (comparing, rules)) };
+
+    fn partial_cmp(&self, other: &Whole) -> Option<Ordering> {
+        Some(self.cmp(other))
+    }
+}
+
+impl Ord for Whole {
+    ghost cmp = { int_cmp };
+
+    ghost total = { int_cmp_total };
+
+    ghost matches_partial_cmp = { λ y z. refl };
+
+    ghost matches_eq = { λ y z. refl };
+
+    fn cmp(&self, other: &Whole) -> Ordering {
+        self.get().cmp(&other.get())
+    }
+}
+
+impl Hash for Whole {
+    ghost hash_input = { fed.i128 };
+
+    ghost respects_eq = { Prim.search (hashing, rules) };
+
+    fn hash<H: Hasher>(&self, state: &mut H) {
+        self.get().hash(state);
+    }
+}
 
 impl PartialOrd for Decimal {
     ghost partial_cmp = { as_partial_cmp decimal_cmp };
@@ -109,5 +150,75 @@ impl Hash for Timestamp {
         local.minute.hash(state);
         local.second.hash(state);
         local.fraction.hash(state);
+    }
+}
+
+impl PartialOrd for Text {
+    ghost partial_cmp = { as_partial_cmp (slice_cmp nat_cmp) };
+
+    ghost laws = { texts_po };
+
+    fn partial_cmp(&self, other: &Text) -> Option<Ordering> {
+        Some(self.cmp(other))
+    }
+}
+
+// Octet by octet, a proper prefix first.
+impl Ord for Text {
+    ghost cmp = { slice_cmp nat_cmp };
+
+    ghost total = { nat_list_cmp_total };
+
+    ghost matches_partial_cmp = { λ s t. refl };
+
+    ghost matches_eq = { texts_ties };
+
+    fn cmp(&self, other: &Text) -> Ordering {
+        self.as_str().cmp(other.as_str())
+    }
+}
+
+impl Hash for Text {
+    ghost hash_input = { fed.str };
+
+    ghost respects_eq = { Prim.search (hashing, rules) };
+
+    fn hash<H: Hasher>(&self, state: &mut H) {
+        self.as_str().hash(state);
+    }
+}
+
+impl PartialOrd for Bytes {
+    ghost partial_cmp = { as_partial_cmp (slice_cmp nat_cmp) };
+
+    ghost laws = { texts_po };
+
+    fn partial_cmp(&self, other: &Bytes) -> Option<Ordering> {
+        Some(self.cmp(other))
+    }
+}
+
+// Octet by octet, a proper prefix first.
+impl Ord for Bytes {
+    ghost cmp = { slice_cmp nat_cmp };
+
+    ghost total = { nat_list_cmp_total };
+
+    ghost matches_partial_cmp = { λ s t. refl };
+
+    ghost matches_eq = { texts_ties };
+
+    fn cmp(&self, other: &Bytes) -> Ordering {
+        self.as_slice().cmp(other.as_slice())
+    }
+}
+
+impl Hash for Bytes {
+    ghost hash_input = { fed.slice fed.u8 };
+
+    ghost respects_eq = { Prim.search (hashing, rules) };
+
+    fn hash<H: Hasher>(&self, state: &mut H) {
+        self.as_slice().hash(state);
     }
 }

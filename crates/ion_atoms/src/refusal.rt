@@ -5,8 +5,9 @@ ghost use Rattle.ion_atoms.specs.Reasons.{reason_number, reason_name, is_of_prof
 use std::alloc::{AllocError, AllocFailed};
 use std::fmt::{self, Display, Formatter};
 
-/// Why octets are refused. Where two reasons fall on one octet, the one of the smaller number answers.
-#[derive(Clone, Copy, Debug, PartialEq, Eq)]
+/// Why octets are refused. Where two reasons fall on one octet, the one of the smaller number answers. The derived order
+/// is that of the numbers.
+#[derive(Clone, Copy, Debug, PartialEq, Eq, PartialOrd, Ord, Hash)]
 pub enum Reason {
     /// A growth was refused: there is too little memory.
     Memory = 1,

@@ -2,6 +2,7 @@
 use Rattle.std.specs.Prelude.{ℕ, ◌≡◌, ◌≢◌, ◌<◌, ◌≤◌, ◌⊎◌, ◌==◌, not, Bool, true, false, IsTrue, ◌↔◌, List, [], ◌∷◌, map, slice_index}
 use Rattle.std.specs.List.{filter}
 use Rattle.std.specs.Char.{digit_value}
+pub use Rattle.ion_atoms.specs.Texts.{minus}
 use Rattle.ion_scalar.specs.binary.Fields.{positional}
 
 -- digits of a base with at most one `_` between two of them
@@ -36,11 +37,6 @@ continued base before os = positional base (before ∷ digits_in os)
 -- `0`, or digits that begin with 1 to 9
 abbrev pub IsWhole : List ℕ → Type 0
 IsWhole os = (os ≡ 48 ∷ []) ⊎ (IsDigits 10 os × (slice_index os 0 ≢ 48))
-
--- a sign
-abbrev pub minus : Bool → List ℕ
-minus true = 45 ∷ []
-minus false = []
 
 -- whether the octets begin with `-`
 abbrev pub BeginsWithMinus : Bool → List ℕ → Type 0
