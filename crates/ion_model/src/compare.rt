@@ -24,24 +24,24 @@ pub fn order(a: &Value, b: &Value) -> Ordering
 pub(crate) fn order_value(a: &Value, b: &Value) -> Ordering
     ensures { result ≡ order a.now b.now }
 {
-    match order_payload(a, b) {
+    match order_payload(&a.payload, &b.payload) {
         Ordering::Equal => a.annotations.as_slice().cmp(b.annotations.as_slice()),
         other => other,
     }
 }
 
-pub(crate) fn is_full(value: &Value) -> bool
-    ensures { result ≡ (scalar (out-Payload value.now.payload)).full }
+pub(crate) fn is_full(payload: &Payload) -> bool
+    ensures { result ≡ (scalar (out-Payload payload.now)).full }
 {
-    match &value.payload {
+    match payload {
         Payload::Null(_) => false,
         _ => true,
     }
 }
 
 // By kind, a null first.
-fn order_heads(a: &Value, b: &Value) -> Ordering
-    ensures { result ≡ heads_cmp (out-Payload a.now.payload) (out-Payload b.now.payload) }
+fn order_heads(a: &Payload, b: &Payload) -> Ordering
+    ensures { result ≡ heads_cmp (out-Payload a.now) (out-Payload b.now) }
 {
     a.kind()
         .rank()
@@ -50,10 +50,10 @@ fn order_heads(a: &Value, b: &Value) -> Ordering
 }
 
 #[cycle(order)]
-fn order_payload(a: &Value, b: &Value) -> Ordering
-    ensures { result ≡ layer_cmp order (out-Payload a.now.payload) (out-Payload b.now.payload) }
+pub(crate) fn order_payload(a: &Payload, b: &Payload) -> Ordering
+    ensures { result ≡ layer_cmp order (out-Payload a.now) (out-Payload b.now) }
 {
-    match (&a.payload, &b.payload) {
+    match (a, b) {
         (Payload::Truth(s), Payload::Truth(t)) => s.cmp(t),
         (Payload::Int(y), Payload::Int(z)) => y.get().cmp(&z.get()),
         (Payload::Decimal(d), Payload::Decimal(e)) => d.order(*e),

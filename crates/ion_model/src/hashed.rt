@@ -59,7 +59,7 @@ fn hash_head<H: Hasher>(value: &Value, state: &mut H)
         state.new ≡ fold H.write state.old (head_fed (layer_kind layer) (scalar layer).full) }
 {
     value.kind().rank().hash(state);
-    is_full(value).hash(state);
+    is_full(&value.payload).hash(state);
 }
 
 // All octets go in one write, which takes less time than one for each.

@@ -2,19 +2,20 @@
 //! part by part, fields as they stand; whether two values are equivalent `equivalent` says. What values
 //! themselves feed a hasher stands in `hashed.rt`.
 ghost use Rattle.std.specs.Prelude.{refl};
-ghost use Rattle.std.specs.Cmp.{eq_by_cmp_equiv, partial_equiv_from_equiv, partial_order_from_own_ties, partial_order_from_total};
+ghost use Rattle.std.specs.Cmp.{eq_by_cmp_equiv, on_equiv, partial_equiv_from_equiv, partial_order_from_own_ties, partial_order_from_total};
 ghost use Rattle.std.specs.Cmp.Rules.{comparing, hashing};
-ghost use Rattle.std.specs.Ordering.{as_partial_cmp, eq_by_cmp};
+ghost use Rattle.std.specs.Ordering.{as_partial_cmp, eq_by_cmp, on};
 ghost use Rattle.std.proofs.Common.{rules};
 ghost use Rattle.ion_model.specs.Symbols.{symbol_same, symbol_cmp};
-ghost use Rattle.ion_model.specs.Order.{order};
+ghost use Rattle.ion_model.specs.Order.{order, field_cmp, layer_cmp};
+ghost use Rattle.ion_model.specs.declared.value.Payload.TheViews.{out-Payload};
 ghost use Rattle.ion_model.specs.Hashed.{symbol_fed};
 ghost use Rattle.ion_model.specs.laws.Equivalence.{symbol_same-equiv};
-ghost use Rattle.ion_model.specs.laws.OrderTotal.{symbol_ties, symbol_cmp-total, order-total};
+ghost use Rattle.ion_model.specs.laws.OrderTotal.{symbol_ties, symbol_cmp-total, field_cmp-total, layer_cmp-total, order-total};
 
-use crate::compare::order;
+use crate::compare::{order, order_field, order_payload};
 use crate::symbol::Symbol;
-use crate::value::Value;
+use crate::value::{Field, Payload, Value};
 use std::cmp::Ordering;
 use std::hash::{Hash, Hasher};
 
@@ -111,4 +112,34 @@ impl Ord for Value {
     fn cmp(&self, other: &Value) -> Ordering {
         order(self, other)
     }
+}
+
+/// As `==` of values: of one kind, both null or neither, and part by part.
+impl PartialEq for Payload {
+    ghost eq = { on out-Payload (eq_by_cmp (layer_cmp order)) };
+
+    ghost laws = { partial_equiv_from_equiv (on_equiv out-Payload (eq_by_cmp_equiv (layer_cmp-total order order-total))) };
+
+    fn eq(&self, other: &Payload) -> bool {
+        order_payload(self, other).is_eq()
+    }
+}
+
+impl Eq for Payload {
+    ghost laws = { on_equiv out-Payload (eq_by_cmp_equiv (layer_cmp-total order order-total)) };
+}
+
+/// The same name, and values that are `==`.
+impl PartialEq for Field {
+    ghost eq = { eq_by_cmp (field_cmp order) };
+
+    ghost laws = { partial_equiv_from_equiv (eq_by_cmp_equiv (field_cmp-total order order-total)) };
+
+    fn eq(&self, other: &Field) -> bool {
+        order_field(self, other).is_eq()
+    }
+}
+
+impl Eq for Field {
+    ghost laws = { eq_by_cmp_equiv (field_cmp-total order order-total) };
 }

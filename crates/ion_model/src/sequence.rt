@@ -1,6 +1,7 @@
 //! The list type of recursive values.
 ghost use Rattle.std.specs.Slice.Iter.{iter_rest};
-ghost use Rattle.std.specs.Prelude.{◌≡◌, ◌==◌, [], ◌∷◌, ◌++◌, length, OnOk, OnErr};
+ghost use Rattle.std.specs.Prelude.{◌≡◌, ◌==◌, [], ◌∷◌, ◌++◌, length, option_map, slice_get, OnOk, OnErr};
+ghost use Rattle.std.specs.Cmp.Lexicographic.{pointwise, lists_per, lists_equiv};
 
 use std::alloc::{AllocError, Global};
 use std::marker::Model;
@@ -56,6 +57,13 @@ impl<T> Sequence<T> {
         self.items.as_slice()
     }
 
+    /// The item at this index, the first at 0; `None` behind the last.
+    pub fn get(&self, index: usize) -> Option<&T>
+        ensures { option_map (λ item. item.now) result ≡ slice_get self.now index }
+    {
+        self.items.get(index)
+    }
+
     /// How many items there are.
     pub fn len(&self) -> usize
         ensures { result ≡ length self.now }
@@ -69,6 +77,21 @@ impl<T> Sequence<T> {
     {
         self.items.is_empty()
     }
+}
+
+/// As many items, of which those at the same place are `==`.
+impl<T: PartialEq> PartialEq for Sequence<T> {
+    ghost eq = { pointwise T.eq };
+
+    ghost laws = { lists_per T.laws };
+
+    fn eq(&self, other: &Sequence<T>) -> bool {
+        self.as_slice() == other.as_slice()
+    }
+}
+
+impl<T: Eq> Eq for Sequence<T> {
+    ghost laws = { lists_equiv T.Eq.laws };
 }
 
 /// The items by reference, in order.

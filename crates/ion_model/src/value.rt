@@ -1,7 +1,8 @@
 //! Values, as the Ion data model has them.
 ghost use Rattle.std.specs.Prelude.{◌≡◌};
-ghost use Rattle.ion_model.specs.Kinds.{kind_of, is_table};
+ghost use Rattle.ion_model.specs.Kinds.{kind_of, layer_kind, is_table};
 ghost use Rattle.ion_model.specs.Measures.{bare};
+ghost use Rattle.ion_model.specs.declared.value.Payload.TheViews.{out-Payload};
 
 use crate::sequence::Sequence;
 use crate::symbol::Symbol;
@@ -74,7 +75,28 @@ impl Value {
     pub fn kind(&self) -> Kind
         ensures { result ≡ kind_of self.now }
     {
-        match &self.payload {
+        self.payload.kind()
+    }
+
+    /// Whether the value is a local symbol table where it stands at the top level: its first
+    /// annotation has the text `$ion_symbol_table`, and its kind is that of structs, null or not
+    /// (Ion 1.0, "Symbols", "Local Symbol Tables"). Takes no memory.
+    pub fn is_table(&self) -> bool
+        ensures { result ≡ is_table self.now }
+    {
+        match self.annotations.as_slice().first() {
+            None => false,
+            Some(symbol) => symbol.names_table() && self.kind() == Kind::Fields,
+        }
+    }
+}
+
+impl Payload {
+    /// The kind of the values that hold it; that of a null is the kind that it is the null of. Takes no memory.
+    pub fn kind(&self) -> Kind
+        ensures { result ≡ layer_kind (out-Payload self.now) }
+    {
+        match self {
             Payload::Null(kind) => *kind,
             Payload::Truth(_) => Kind::Bool,
             Payload::Int(_) => Kind::Int,
@@ -87,18 +109,6 @@ impl Value {
             Payload::List(_) => Kind::List,
             Payload::Sexp(_) => Kind::Sexp,
             Payload::Fields(_) => Kind::Fields,
-        }
-    }
-
-    /// Whether the value is a local symbol table where it stands at the top level: its first
-    /// annotation has the text `$ion_symbol_table`, and its kind is that of structs, null or not
-    /// (Ion 1.0, "Symbols", "Local Symbol Tables"). Takes no memory.
-    pub fn is_table(&self) -> bool
-        ensures { result ≡ is_table self.now }
-    {
-        match self.annotations.as_slice().first() {
-            None => false,
-            Some(symbol) => symbol.names_table() && self.kind() == Kind::Fields,
         }
     }
 }

@@ -34,7 +34,7 @@ scalar_cmp-total =
 pub field_cmp-total : (R : Value → Value → Ordering) → IsTotalOrder R → IsTotalOrder (field_cmp R)
 field_cmp-total R o = then_total (on_total (λ f. f.name) symbol_cmp-total) (on_total (λ f. f.value) o)
 
-layer_cmp-total : (R : Value → Value → Ordering) → IsTotalOrder R → IsTotalOrder (layer_cmp R)
+pub layer_cmp-total : (R : Value → Value → Ordering) → IsTotalOrder R → IsTotalOrder (layer_cmp R)
 layer_cmp-total R o = then_total (on_total scalar scalar_cmp-total) (then_total (on_total items (lists_total o)) (on_total fields (lists_total (field_cmp-total R o))))
 
 value_cmp-total : (R : Value → Value → Ordering) → IsTotalOrder R → IsTotalOrder (value_cmp R)

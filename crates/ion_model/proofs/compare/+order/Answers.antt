@@ -19,4 +19,4 @@ order_value-returns-in_default t c = rw (order-is c.args.a.now c.args.b.now) (gr
 
 pub order_payload-returns-in_default : goal.order_payload-returns-in_default
 order_payload-returns-in_default t c =
-    c.order_heads.ensures ∙ heads_decide order (out-Payload c.args.a.now.payload) (out-Payload c.args.b.now.payload) (search rules)
+    c.order_heads.ensures ∙ heads_decide order (out-Payload c.args.a.now) (out-Payload c.args.b.now) (search rules)
