@@ -4,11 +4,24 @@ ghost use Rattle.ion_symtab.specs.Told.{Told, MayTell, known_some};
 ghost use Rattle.ion_symtab.specs.kept.FromRead.{reader_of};
 
 use crate::history::History;
+use std::fmt::{self, Display, Formatter};
 use std::io::Read;
 
 /// A read, a write or a flush of a device failed; why is not told.
 #[derive(Clone, Copy, Debug, PartialEq, Eq)]
 pub struct Failed;
+
+impl Display for Failed {
+    ghost use Rattle.std.specs.Prelude.{Some, codes};
+
+    ghost output = { λ _. Some (codes "Failed") };
+
+    fn fmt<W: fmt::Write>(&self, f: &mut Formatter<W>) -> fmt::Result {
+        f.write_str("Failed")
+    }
+}
+
+impl std::error::Error for Failed {}
 
 /// A device that tells octets up to an end.
 ///
