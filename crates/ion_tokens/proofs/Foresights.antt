@@ -1,7 +1,8 @@
 -- What an octet shows of a token that may go on is so in the words of the grammar.
-use Rattle.std.proofs.Common.{◌≡◌, ℕ, ◌+◌, ◌-◌, ◌≤◌, inl, inr, Bool, true, false, cond, List, [], ◌∷◌, ◌++◌, length, refl, sym, ap, ◌∙◌, subst, arith, append-nil}
+use Rattle.std.proofs.Common.{◌≡◌, ℕ, ◌+◌, ◌-◌, inl, inr, Bool, true, false, cond, List, [], ◌∷◌, ◌++◌, length, refl, sym, ap, ◌∙◌, subst, arith, append-nil}
 use Rattle.std.specs.Prelude.{◌==◌, ◌&&◌, bytes_eq, codes, Option, Some, None, if◌then◌else◌}
 use Rattle.ion_tokens.specs.declared.mode.Place.{Place}
+use Rattle.ion_tokens.specs.declared.mode.Mode.{Mode}
 use Rattle.ion_tokens.specs.declared.mode.Mode.TheVariants as modes
 use Rattle.ion_tokens.specs.declared.mode.Mark.TheVariants as marks
 use Rattle.ion_tokens.specs.declared.mode.TokenKind.{TokenKind}
@@ -17,34 +18,31 @@ use Rattle.ion_tokens.specs.machine.Table.{next}
 use Rattle.ion_tokens.specs.machine.Bounds.{is_idle}
 use Rattle.ion_tokens.specs.machine.Scanning.{Known, Lexeme, Outcome, Next, Given, Left, Refused, cut, past, go_to, blob_ends, acts, feed, follow, run}
 use Rattle.ion_tokens.specs.machine.Views.{behind, form_of, foresight_by, foresight_at, foresight_behind, foresight}
-use Rattle.ion_tokens.specs.Lexed.{Placed, Lexes}
+use Rattle.ion_tokens.specs.Blanks.{IsBlank}
+use Rattle.ion_tokens.specs.Lexed.{Placed, Lexes, LexesTo}
 use Rattle.ion_tokens.specs.machine.Scanned.{Scanned, Continues, ShowsBegun}
 use Rattle.ion_tokens.specs.machine.Foreseen.{NextIs, ForeseenSo}
 use Rattle.ion_tokens.proofs.Histories.{given_next, left_next}
-use Rattle.ion_tokens.proofs.Begins.{begun_right}
+use Rattle.ion_tokens.proofs.Begins.{begun_right, begun_holds}
+use Rattle.ion_tokens.proofs.Holds.{InMode, IsBegun}
+use Rattle.ion_tokens.proofs.LeftSymbols.{leaves_quotes}
 use Rattle.ion_tokens.proofs.Stepped.{from_left, behind_since, there, scanned_used, goes_on}
 
-lexeme_or : Lexeme → Outcome → Lexeme
-lexeme_or d (Given l s) = l
-lexeme_or d (Left l s) = l
-lexeme_or d _ = d
-
--- where a token ends that an octet ends, and one that it leaves
+-- where a token ends that an octet ends
 Ends : ℕ → Outcome → Type 0
 Ends used (Given l s) = l.end ≡ used + 1
-Ends used (Left l s) = l.end ≤ used
 Ends used _ = Unit {0}
 
 acts_ends : (p : Place) (s : Known) (o : ℕ) (a : Action) → Ends s.used (acts p s o a)
 unfolding Ends
 acts_ends p s o (actions.Go m k) = tt
 acts_ends p s o (actions.Give kind k) = refl
-acts_ends p s o (actions.Before kind k m) = omega arith
+acts_ends p s o (actions.Before kind k m) = tt
 acts_ends p s o actions.EndWord = by ((o == 46) && bytes_eq s.kept (codes "null")) where
   by : (b : Bool) → Ends s.used (cond b (Next (go_to s modes.KindName [])) (Left (cut s kinds.Word s.kept s.used) (past p kinds.Word modes.Blank [] s.used s.used)))
   by true = tt
-  by false = omega arith
-acts_ends p s o (actions.Split n) = omega arith
+  by false = tt
+acts_ends p s o (actions.Split n) = tt
 acts_ends p s o actions.EndBlob = by (blob_of s.kept) where
   by : (b : Option (List ℕ)) → Ends s.used (blob_ends s b)
   by None = tt
@@ -57,10 +55,6 @@ feed_ends p s o x e = subst (λ y. Ends s.used y) e (acts_ends p s o (next p s.c
 given_end : (p : Place) (s t : Known) (o : ℕ) (l : Lexeme) → feed p s o ≡ Given l t → l.end ≡ s.used + 1
 unfolding Ends
 given_end p s t o l e = feed_ends p s o (Given l t) e
-
-left_end : (p : Place) (s t : Known) (o : ℕ) (l : Lexeme) → feed p s o ≡ Left l t → l.end ≤ s.used
-unfolding Ends
-left_end p s t o l e = feed_ends p s o (Left l t) e
 
 module _ (p : Place) (s : Known) (u : List ℕ) (ts : List Placed) (h : Scanned p s u ts []) (o : ℕ) where
   ran : (x : Outcome) → feed p s o ≡ x → run p (o ∷ []) s ≡ follow x (λ t. Next t)
@@ -93,8 +87,19 @@ module _ (p : Place) (s : Known) (u : List ℕ) (ts : List Placed) (h : Scanned 
   gives t l kinds.LongString i e = inr (l, i, (given_end p s t o l e ∙ ap (λ (n : ℕ). n + 1) used), next_given t l e)
   gives t l _ i e = tt
 
+  -- what the octets behind the tokens told are behind `''`
+  in_quotes : (colon : Bool) (end : ℕ) (m : Mode) (kept : List ℕ) (start : ℕ) (since : List ℕ) → m ≡ modes.Quotes → InMode p colon end m kept start since
+      → (blank : List ℕ) × IsBlank blank × (since ≡ blank ++ codes "''") × (kept ≡ [])
+  in_quotes colon end m kept start since e k =
+      let b : IsBegun p colon end modes.Quotes kept start since = subst (λ x. InMode p colon end x kept start since) e k in
+      (b.front, b.blank, b.cut ∙ ap (λ w. b.front ++ w) b.is.0, b.is.1)
+
   leaves : (t : Known) (l : Lexeme) (k : TokenKind) → l.kind ≡ k → feed p s o ≡ Left l t → ForeseenSo p u ts o (foresight_behind k)
-  leaves t l kinds.QuotedSymbol i e = let at = left_end p s t o l e in (l, i, (omega (arith, at, used)), next_left t l e)
+  leaves t l kinds.QuotedSymbol i e =
+      let q = leaves_quotes p s t o l e i in
+      let b = begun_holds p s u ts h in
+      let quotes = in_quotes b.colon b.end s.mode s.kept s.start b.since q.mode b.holds.mode in
+      ((b.colon, b.end, quotes.0, quotes.1, subst (λ w. LexesTo false 0 u ts b.colon b.end w) quotes.2 b.lexes), l, i, q.octets ∙ quotes.3, q.end ∙ used, next_left t l e)
   leaves t l _ i e = tt
 
   -- What an octet shows.

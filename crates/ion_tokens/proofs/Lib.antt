@@ -23,6 +23,7 @@ pub mod HoldsStep
 pub mod LaneMasks
 pub mod LaneRuns
 pub mod LastOctets
+pub mod LeftSymbols
 pub mod Lendings
 pub mod Moves
 pub mod OneBegun
@@ -51,6 +52,7 @@ pub mod TextsComplete
 pub mod TextsRead
 pub mod TextsSound
 pub mod Told
+pub mod TokensTraced
 pub mod Traced
 pub mod TraceTokens
 pub mod TurnsBlanks

@@ -71,7 +71,7 @@ unfolding OwesLess
 left_owes p s t o l e = subst (λ x. OwesLess (debt s.mode) x) e (acts_owe p s o (next p s.colon s.mode o) (table_fits p s.colon s.mode o))
 
 -- one time more changes nothing
-settles : (n : ℕ) (places : Places) (o : ℕ) (ts : List Told) (s : Known) → debt s.mode < n → takes n places o ts s ≡ takes (suc n) places o ts s
+pub settles : (n : ℕ) (places : Places) (o : ℕ) (ts : List Told) (s : Known) → debt s.mode < n → takes n places o ts s ≡ takes (suc n) places o ts s
 settles zero places o ts s h = absurd (omega arith)
 settles (suc n) places o ts s h = by (feed (places ts) s o) refl (λ us t less. settles n places o us t less) where
   again : (r : Result Content Reason) (l : Lexeme) (t : Known) (f g : List Told → Known → Trail) → ((us : List Told) → f us t ≡ g us t) → then_by (judged ts l (t.used + 1) t r) f ≡ then_by (judged ts l (t.used + 1) t r) g
@@ -90,7 +90,7 @@ state_in (Next s) t = s
 state_in _ t = t
 
 -- octets that are all used lead on from what the scanner knows behind them
-over_next : (places : Places) (ts : List Told) (p : Place) (octets rest : List ℕ) (s t : Known) → places ts ≡ p → run p octets s ≡ Next t → over places (octets ++ rest) ts s ≡ over places rest ts t
+pub over_next : (places : Places) (ts : List Told) (p : Place) (octets rest : List ℕ) (s t : Known) → places ts ≡ p → run p octets s ≡ Next t → over places (octets ++ rest) ts s ≡ over places rest ts t
 over_next places ts p [] rest s t place e = ap (λ x. over places rest ts (state_in x s)) e
 over_next places ts p (o ∷ os) rest s t place e = by (feed p s o) refl e (λ s'. over_next places ts p os rest s' t place) where
   by : (x : Outcome) → feed p s o ≡ x → follow x (λ s'. run p os s') ≡ Next t → ((s' : Known) → run p os s' ≡ Next t → over places (os ++ rest) ts s' ≡ over places rest ts t) → over places (o ∷ os ++ rest) ts s ≡ over places rest ts t
@@ -103,7 +103,7 @@ over_next places ts p (o ∷ os) rest s t place e = by (feed p s o) refl e (λ s
   by (Refused k r) f g more = cc
 
 -- and up to a token or a refusal
-over_end : (places : Places) (ts : List Told) (p : Place) (piece rest : List ℕ) (s : Known) (x : Outcome) → places ts ≡ p → (d : LastOctet p piece s x)
+pub over_end : (places : Places) (ts : List Told) (p : Place) (piece rest : List ℕ) (s : Known) (x : Outcome) → places ts ≡ p → (d : LastOctet p piece s x)
     → over places (d.before ++ d.octet ∷ rest) ts s ≡ then_by (comes (takes 2 places d.octet) ts x) (over places rest)
 over_end places ts p piece rest s x place d =
     over_next places ts p d.before (d.octet ∷ rest) s d.known place d.ran

@@ -7,4 +7,5 @@ pub mod Numerals
 pub mod Judged
 pub mod Tokens
 pub mod TokensKept
+pub mod TokensTraced
 pub mod Waits

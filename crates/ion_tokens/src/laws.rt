@@ -9,6 +9,7 @@ ghost use Rattle.ion_tokens.specs.Bodies.{Content, IsBody};
 ghost use Rattle.ion_tokens.specs.machine.Scanning.{Known, feed, follow, run};
 ghost use Rattle.ion_tokens.specs.machine.Traces.{Told, Places, over, over_pieces, IsTraced};
 ghost use Rattle.ion_tokens.specs.laws.Tokens.{TellsRightly, ToldAll, OneBegun, TracesTokens};
+ghost use Rattle.ion_tokens.specs.laws.TokensTraced.{TokensTraced};
 
 /// It doesn't matter how octets are cut: pieces lead to the tokens, totals and refusal to which the whole leads; and what comes of octets
 /// in one place is what comes of the second part behind the first, unless a token or a refusal came of the first.
@@ -45,9 +46,11 @@ pub fn tokens_told()
 {}
 
 /// Where the trace of octets ends well, the octets are the tokens that it tells, with blanks between, each in the place to which those before
-/// it lead, at its span and saying what it says.
+/// it lead, at its span and saying what it says. The trace of octets that are such tokens ends well and tells just these; or their last is a
+/// word directly behind an operator, and the end of the octets comes before it shows whether that is a word.
 pub fn trace_is_exact()
-    ensures { TracesTokens }
+    ensures tells { TracesTokens }
+    ensures told { TokensTraced }
 {}
 
 /// None but the tokens told has ended whatever octets follow.

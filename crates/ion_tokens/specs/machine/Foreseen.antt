@@ -1,5 +1,5 @@
 -- What an octet shows of a token that may go on, in the words of the grammar.
-use Rattle.std.specs.Prelude.{◌≡◌, ◌≢◌, ◌≤◌, ℕ, ◌+◌, ◌⊎◌, false, List, [], ◌∷◌, ◌++◌, length, Some, None}
+use Rattle.std.specs.Prelude.{◌≡◌, ◌≢◌, ℕ, ◌+◌, ◌⊎◌, Bool, false, List, [], ◌∷◌, ◌++◌, length, codes, Some, None}
 use Rattle.ion_tokens.specs.declared.mode.Place.{Place}
 use Rattle.ion_tokens.specs.declared.mode.Mark.TheVariants as marks
 use Rattle.ion_tokens.specs.declared.mode.TokenKind.TheVariants as kinds
@@ -8,18 +8,24 @@ use Rattle.ion_tokens.specs.declared.token.Form.TheVariants as forms
 use Rattle.ion_tokens.specs.declared.token.Foresight.{Foresight}
 use Rattle.ion_tokens.specs.declared.token.Foresight.TheVariants as foresights
 use Rattle.ion_tokens.specs.machine.Scanning.{Known, Lexeme}
-use Rattle.ion_tokens.specs.Lexed.{Placed, Lexes, LooksIn, IsNext}
+use Rattle.ion_tokens.specs.Blanks.{IsBlank}
+use Rattle.ion_tokens.specs.Lexed.{Placed, Lexes, LexesTo, LooksIn, IsNext}
 use Rattle.ion_tokens.specs.machine.Scanned.{Scanned, ShowsBegun}
 
 -- in each document that has the tokens told and begins with these octets, the next token is this one
 abbrev pub NextIs : Place → List ℕ → List Placed → Lexeme → Type 0
 NextIs p u ts l = (rest : List ℕ) (others : List Placed) → LooksIn p others → Lexes false 0 (u ++ rest) (ts ++ others) → IsNext l others
 
+-- the octets behind the tokens told are a blank and `''`
+abbrev pub EndsInQuotes : List ℕ → List Placed → Type 0
+EndsInQuotes u ts = (colon : Bool) × (end : ℕ) × (blank : List ℕ) × IsBlank blank × LexesTo false 0 u ts colon end (blank ++ codes "''")
+
 -- Behind the octets u and the tokens told, the octet o shows this in a place:
 -- that with it the octets are a blank, or a blank and one colon, so that no token has begun;
 -- that the next token is `::`, and ends with it;
 -- that a quoted symbol or a long string has begun, or a segment of a long string ends with it;
--- that a quoted symbol ended before it. Of others nothing is said.
+-- that the octets behind the tokens told, a blank and `''`, are the empty symbol, which is the next token and ends before it.
+-- Of others nothing is said.
 abbrev pub ForeseenSo : Place → List ℕ → List Placed → ℕ → Foresight → Type 0
 ForeseenSo p u ts o foresights.Blank = ShowsBegun p (u ++ o ∷ []) ts None
 ForeseenSo p u ts o foresights.Colons =
@@ -28,7 +34,7 @@ ForeseenSo p u ts o foresights.Long =
     ((b : Begun) × (b.form ≢ forms.Other) × ShowsBegun p (u ++ o ∷ []) ts (Some b))
     ⊎ ((l : Lexeme) × (l.kind ≡ kinds.LongString) × (l.end ≡ length u + 1) × NextIs p (u ++ o ∷ []) ts l)
 ForeseenSo p u ts o foresights.Empty =
-    (l : Lexeme) × (l.kind ≡ kinds.QuotedSymbol) × (l.end ≤ length u) × NextIs p (u ++ o ∷ []) ts l
+    EndsInQuotes u ts × (l : Lexeme) × (l.kind ≡ kinds.QuotedSymbol) × (l.octets ≡ []) × (l.end ≡ length u) × NextIs p (u ++ o ∷ []) ts l
 ForeseenSo p u ts o foresights.Other = Unit {0}
 
 -- so behind all octets and tokens told that led to what the scanner knows
