@@ -2,7 +2,8 @@
 ghost use Rattle.std.specs.Prelude.{◌≡◌, ◌↔◌, ◌≤◌, ◌++◌, ◌+ℤ◌, ℕ, ℤ, pos, Bool, List, Result, Ok, length};
 ghost use Rattle.ion_scalar.specs.binary.Fields.{positional, int_negative, int_magnitude, VarUInt, VarInt, var_uint, var_int, signed_of};
 ghost use Rattle.ion_scalar.specs.binary.Reads.{ReadsVarUInt, ReadsVarInt, ReadsDecimalBody};
-ghost use Rattle.ion_scalar.specs.binary.Spellings.{AreBelow, var_uint_octets, var_int_octets, uint_octets, int_octets};
+ghost use Rattle.ion_scalar.specs.binary.Spellings.{AreBelow, var_uint_octets, var_int_octets, uint_octets, int_octets, decimal_octets};
+ghost use Rattle.ion_scalar.specs.binary.TimestampSpellings.{timestamp_octets};
 ghost use Rattle.ion_atoms.specs.Ranges.{IsWhole};
 ghost use Rattle.ion_atoms.specs.Decimals.{DecimalParts, IsDecimal};
 ghost use Rattle.ion_atoms.specs.declared.refusal.Reason.{Reason};
@@ -74,12 +75,14 @@ pub fn moved_by_number()
         → InYears (pos (minute_number m) +ℤ by) }
 {}
 
-/// No spelling of a number has fewer octets than the one that is written.
+/// No spelling of a number has fewer octets than the one that is written; nor has a body of a decimal or of a timestamp.
 pub fn fewest()
     ensures var_uint { (w : List ℕ) (n : ℕ) → AreBelow 256 w → VarUInt w n → length (var_uint_octets n) ≤ length w }
     ensures var_int { (w : List ℕ) (negative : Bool) (n : ℕ) → AreBelow 256 w → VarInt w negative n → length (var_int_octets negative n) ≤ length w }
     ensures uint { (w : List ℕ) → AreBelow 256 w → length (uint_octets (positional 256 w)) ≤ length w }
     ensures int { (w : List ℕ) → AreBelow 256 w → length (int_octets (int_negative w) (int_magnitude w)) ≤ length w }
+    ensures decimal { (w : List ℕ) (d : DecimalParts) → AreBelow 256 w → IsDecimalField w d → length (decimal_octets d) ≤ length w }
+    ensures timestamp { (w : List ℕ) (t : TimestampParts) → AreBelow 256 w → IsTimestampBody w t → length (timestamp_octets t) ≤ length w }
 {}
 
 /// The descriptors are the printed table.

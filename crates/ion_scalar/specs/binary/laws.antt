@@ -5,6 +5,7 @@ pub mod VarUInt
 pub mod VarInt
 pub mod Spellings
 pub mod Fewest
+pub mod FewestBodies
 pub mod Decimal
 pub mod Shifted
 pub mod Timestamp
