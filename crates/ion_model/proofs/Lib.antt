@@ -1,4 +1,5 @@
 pub mod Heads
+pub mod ByKind
 pub mod CountLengths
 pub mod NormalUnique
 pub mod NormalLaws

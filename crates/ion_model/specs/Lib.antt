@@ -6,6 +6,7 @@ pub mod Outlines
 pub mod Holds
 pub mod Kept
 pub mod Same
+pub mod ByKind
 pub mod Order
 pub mod Hashed
 pub mod Normal

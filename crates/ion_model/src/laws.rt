@@ -1,12 +1,14 @@
 //! Laws of equivalence, of the order and of normal forms. Each stands on an empty function: its
 //! contract is the law.
-ghost use Rattle.std.specs.Prelude.{◌≡◌, ◌+◌, ◌↔◌, ℕ, List, Option, length, false, IsTrue, IsPermutation};
+ghost use Rattle.std.specs.Prelude.{◌≡◌, ◌+◌, ◌↔◌, ◌&&◌, ℕ, List, Option, length, false, IsTrue, IsPermutation};
 ghost use Rattle.std.specs.Cmp.{IsTotalOrder};
 ghost use Rattle.std.specs.declared.cmp.Ordering.TheVariants.{Equal};
 ghost use lib.Pointwise.{pointwise};
 ghost use Rattle.ion_atoms.specs.Timestamps.{TimestampParts, IsTimestamp, instant, timestamp_same};
 ghost use Rattle.ion_model.specs.Measures.{annotated, depth, nodes, layer_depth, layer_nodes};
+ghost use Rattle.ion_model.specs.ByKind.{payload_same};
 ghost use Rattle.ion_model.specs.Same.{same, value_same, field_same};
+ghost use Rattle.ion_model.specs.Symbols.{symbol_same};
 ghost use Rattle.ion_model.specs.Order.{order, value_cmp};
 ghost use Rattle.ion_model.specs.Normal.{IsNormal, LayerNormal};
 ghost use Rattle.ion_model.specs.Parting.{IsPath, EndsApart};
@@ -20,6 +22,14 @@ ghost use Rattle.ion_model.specs.declared.value.Payload.TheViews.{out-Payload};
 /// the values inside.
 pub fn level_by_level()
     ensures { (v w : Value) → same v w ≡ value_same same v w }
+{}
+
+/// Two values are equivalent where their annotations agree one by one and their payloads do by their kinds: nulls of one kind, scalars in
+/// every part, lists and s-expressions place by place, and structs of whose fields each stands as often in the one as in the other.
+pub fn equivalent_by_kind()
+    ensures { (v w : Value) → same v w
+        ≡ (pointwise symbol_same v.annotations w.annotations
+        && payload_same same (out-Payload v.payload) (out-Payload w.payload)) }
 {}
 
 /// Equivalence is reflexive, symmetric and transitive.
