@@ -32,6 +32,7 @@ pub mod Pending
 pub mod Reaches
 pub mod Runs
 pub mod Scans
+pub mod Since
 pub mod Slashes
 pub mod SoundEnds
 pub mod SoundHistories

@@ -1,12 +1,15 @@
 //! What the definitions that this crate's contracts name have to do with the specification. A law is called for its clause alone.
-ghost use Rattle.std.specs.Prelude.{◌≡◌, ◌↔◌, ◌+◌, ◌<◌, ◌^◌, ◌++◌, ℕ, List, [], Some, Result, length};
+ghost use Rattle.std.specs.Prelude.{◌≡◌, ◌↔◌, ◌+◌, ◌<◌, ◌^◌, ◌++◌, ◌∷◌, ℕ, List, [], Some, Result, length, false};
 ghost use Rattle.std.specs.List.{flat_map};
 ghost use Rattle.ion_atoms.specs.declared.refusal.Reason.{Reason};
 ghost use Rattle.ion_tokens.specs.declared.mode.Place.{Place};
 ghost use Rattle.ion_tokens.specs.declared.mode.TokenKind.{TokenKind};
 ghost use Rattle.ion_tokens.specs.Blobs.{AreOctets, base64_of, blob_of};
 ghost use Rattle.ion_tokens.specs.Bodies.{Content, IsBody};
-ghost use Rattle.ion_tokens.specs.machine.Scanning.{Known, feed, follow, run};
+ghost use Rattle.ion_tokens.specs.declared.token.Begun.{Begun};
+ghost use Rattle.ion_tokens.specs.Lexed.{Placed, Lexes, LooksIn};
+ghost use Rattle.ion_tokens.specs.machine.Scanned.{Scanned, ShowsBegun};
+ghost use Rattle.ion_tokens.specs.machine.Scanning.{Known, feed, follow, run, start_of};
 ghost use Rattle.ion_tokens.specs.machine.Traces.{Told, Places, over, over_pieces, IsTraced};
 ghost use Rattle.ion_tokens.specs.laws.Tokens.{TellsRightly, ToldAll, OneBegun, TracesTokens};
 ghost use Rattle.ion_tokens.specs.laws.TokensTraced.{TokensTraced};
@@ -51,6 +54,15 @@ pub fn tokens_told()
 pub fn trace_is_exact()
     ensures tells { TracesTokens }
     ensures told { TokensTraced }
+{}
+
+/// Where a document goes on with one octet more, and a token has begun then, it begins where `since` says before that octet.
+pub fn begins_since()
+    ensures { (p : Place) (s : Known) (u : List ℕ) (ts : List Placed) → Scanned p s u ts [] →
+        (o : ℕ) (b : Begun) → ShowsBegun p (u ++ o ∷ []) ts (Some b) →
+        (rest : List ℕ) (others : List Placed) → LooksIn p others →
+        Lexes false 0 ((u ++ o ∷ []) ++ rest) (ts ++ others) →
+        b.start ≡ start_of s.mode s.start s.used }
 {}
 
 /// None but the tokens told has ended whatever octets follow.

@@ -1,0 +1,5 @@
+use Rattle.ion_tokens.proofs.Since.{begins_since}
+use Rattle.ion_tokens.proofs.laws.begins_since.Goals as goal
+
+pub returns : goal.returns
+returns c = begins_since
