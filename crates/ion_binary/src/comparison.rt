@@ -1,10 +1,11 @@
 //! The visitor that compares: whether the value that is gone over stands in other octets, too, which have a
 //! symbol table of their own. Both are judged once, and neither is built. What is spelled in different ways
 //! other than by its lengths and ids isn't told here.
-ghost use Rattle.std.specs.Prelude.{◌≡◌, ◌≤◌, ◌<◌, ◌-◌, true, length, IfSome};
+ghost use Rattle.std.specs.Prelude.{◌≡◌, ◌≤◌, ◌<◌, ◌-◌, true, length, get_or, IfSome};
 ghost use Rattle.ion_scalar.specs.binary.Fields.{VarUInt};
 ghost use Rattle.ion_binary.specs.visiting.Brackets.{form_in};
-ghost use Rattle.ion_binary.specs.declared.form.Opening.TheVariants.{Null, Truth};
+ghost use Rattle.ion_binary.specs.Opening.{opening_of};
+ghost use Rattle.ion_binary.specs.declared.form.Opening.TheVariants.{Null, Truth, Sized};
 ghost use Rattle.ion_binary.specs.visiting.Comparing.{Enters, IsThere, IsOne, IsIdOf, Moves, between};
 
 use crate::alike::alike_scalars;
@@ -12,6 +13,7 @@ use crate::form::{Bracket, Form, Listing, Opening, Scalar, opening_of};
 use crate::visitor::Visitor;
 use crate::whole::{lengths, number};
 use ion_model::{Kind, Symbol};
+use ion_scalar::Size;
 use ion_symtab::Context;
 
 /// Where a container that is open in the other octets ends, and the ids of its annotations where it is a wrapper.
@@ -74,9 +76,42 @@ impl Comparison<'_> {
         if other != form {
             return None;
         }
+        self.enter_sized(form, size)
+    }
+
+    /// The same, not inlined.
+    #[inline(never)]
+    fn enter_any(&mut self, form: Form) -> Option<usize>
+        ensures { IfSome result (λ end. Enters form self.old self.new end) }
+    {
+        self.enter(form)
+    }
+
+    /// The same, where the descriptor says this size.
+    #[inline(always)]
+    fn enter_sized(&mut self, form: Form, size: Size) -> Option<usize>
+        requires some { self.old.at < length self.old.octets.now }
+        requires opens { opening_of (get_or self.old.octets.now self.old.at 0) ≡ Sized form size }
+        ensures { IfSome result (λ end. Enters form self.old self.new end) }
+    {
         let (used, count) = lengths(size, &self.octets[self.at + 1..])?;
         self.at = self.at + 1 + used;
         Some(self.at + count)
+    }
+
+    /// The same, by a descriptor of this form and size, which is most often the next octet, too.
+    #[inline(always)]
+    fn enter_as(&mut self, form: Form, descriptor: u8, size: Size) -> Option<usize>
+        requires { opening_of descriptor ≡ Sized form size }
+        ensures { IfSome result (λ end. Enters form self.old self.new end) }
+    {
+        if self.at >= self.octets.len() {
+            return None;
+        }
+        if self.octets[self.at] == descriptor {
+            return self.enter_sized(form, size);
+        }
+        self.enter_any(form)
     }
 
     /// Goes behind the VarUInt that comes next.
@@ -140,8 +175,15 @@ impl Visitor for Comparison<'_> {
     ghost visits = { comparing };
 
     #[inline(always)]
-    fn scalar(&mut self, context: &Context, scalar: Scalar, body: &[u8]) -> bool {
-        let Some(end) = self.enter(Form::Scalar(scalar)) else {
+    fn scalar(
+        &mut self,
+        context: &Context,
+        scalar: Scalar,
+        descriptor: u8,
+        size: Size,
+        body: &[u8],
+    ) -> bool {
+        let Some(end) = self.enter_as(Form::Scalar(scalar), descriptor, size) else {
             return false;
         };
         let other_body = &self.octets[self.at..end];

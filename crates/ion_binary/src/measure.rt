@@ -6,6 +6,7 @@ use crate::form::{Bracket, Form, Scalar, kind_in, kind_of};
 use crate::visitor::Visitor;
 use crate::walk::is_scalar;
 use ion_model::{Kind, Outline, Symbol};
+use ion_scalar::Size;
 use ion_symtab::Context;
 
 /// What was counted of the values that were gone over.
@@ -67,7 +68,14 @@ impl Visitor for Measure {
     ghost visits = { measuring };
 
     #[inline(always)]
-    fn scalar(&mut self, context: &Context, scalar: Scalar, body: &[u8]) -> bool {
+    fn scalar(
+        &mut self,
+        context: &Context,
+        scalar: Scalar,
+        _descriptor: u8,
+        _size: Size,
+        body: &[u8],
+    ) -> bool {
         if !is_scalar(context, scalar, body) {
             return false;
         }

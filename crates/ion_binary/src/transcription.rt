@@ -23,7 +23,7 @@ use crate::writer::framing::{
 };
 use crate::writer::names::Names;
 use ion_model::{Kind, Payload, Symbol};
-use ion_scalar::is_uint;
+use ion_scalar::{Size, is_uint};
 use ion_symtab::Context;
 use std::hash::BuildHasher;
 use std::mem;
@@ -99,7 +99,14 @@ impl<S: BuildHasher + Drop> Visitor for Transcription<'_, S> {
     ghost visits = { transcribing };
 
     #[inline(always)]
-    fn scalar(&mut self, context: &Context, scalar: Scalar, body: &[u8]) -> bool {
+    fn scalar(
+        &mut self,
+        context: &Context,
+        scalar: Scalar,
+        _descriptor: u8,
+        _size: Size,
+        body: &[u8],
+    ) -> bool {
         put_scalar_again(
             context,
             self.names,

@@ -4,10 +4,14 @@ ghost use Rattle.std.specs.Prelude.{◌≡◌, true, IfSome, Option, List, ℕ};
 ghost use Rattle.ion_model.specs.declared.value.Payload.TheVariants as payloads;
 ghost use Rattle.ion_model.specs.declared.value.Payload.{Payload as SpecPayload};
 ghost use Rattle.ion_binary.specs.Grammar.{IsScalar};
+ghost use Rattle.ion_binary.specs.Opening.{opening_of};
+ghost use Rattle.ion_binary.specs.declared.form.Form.TheVariants as forms;
+ghost use Rattle.ion_binary.specs.declared.form.Opening.TheVariants.{Sized};
 ghost use Rattle.ion_binary.specs.visiting.Visits.{Visits, part, annotation, name};
 
 use crate::form::{Bracket, Scalar};
 use ion_model::{Kind, Symbol};
+use ion_scalar::Size;
 use ion_symtab::Context;
 
 /// What takes the parts of a value in order. It answers `false` or `None` where it can't go on, and its state
@@ -19,8 +23,16 @@ pub(crate) trait Visitor {
     /// From which state to which it gets by what it takes.
     ghost visits: { Visits Self Self.Mark };
 
-    /// A scalar, if the body is this one.
-    fn scalar(&mut self, context: &Context, scalar: Scalar, body: &[u8]) -> bool
+    /// A scalar, if the body is this one. The descriptor before it is this octet, which says this size.
+    fn scalar(
+        &mut self,
+        context: &Context,
+        scalar: Scalar,
+        descriptor: u8,
+        size: Size,
+        body: &[u8],
+    ) -> bool
+        requires { opening_of descriptor ≡ Sized (forms.Scalar scalar) size }
         ensures { result ≡ true → (p : SpecPayload)
             × IsScalar context.now body.now scalar p × visits.takes self.old (part p) self.new };
 

@@ -4,6 +4,7 @@ ghost use Rattle.std.specs.Prelude.{◌≡◌, ◌≤◌, ◌<◌, true, List, l
 ghost use Rattle.std.specs.Str.{IsUtf8};
 ghost use Rattle.ion_symtab.specs.Slots.{Slot};
 ghost use Rattle.ion_binary.specs.Opening.{opening_of};
+ghost use Rattle.ion_binary.specs.declared.form.Opening.TheVariants.{Sized};
 ghost use Rattle.ion_binary.specs.declared.form.Scalar.TheVariants as scalars;
 ghost use Rattle.ion_binary.specs.machine.Walked.{WalkedScalar};
 ghost use Rattle.ion_binary.specs.machine.Walked.{Walked, WalkedPlain, WalkedBody, WalkedWrapper, WalkedListing, WalkedStruct, WalkedItems, WalkedFields, WalkedIds};
@@ -12,7 +13,7 @@ use crate::form::{Bracket, Form, Listing, Opening, Scalar, bracket_of, opening_o
 use crate::slots::{magnitude_of, small_uint};
 use crate::visitor::Visitor;
 use crate::whole::{lengths, number, pad_of};
-use ion_scalar::{is_decimal_body, is_timestamp_body, is_uint};
+use ion_scalar::{Size, is_decimal_body, is_timestamp_body, is_uint};
 use ion_symtab::Context;
 
 /// Whether a body is this scalar (Ion 1.0, "Ion Binary Encoding", typed value formats).
@@ -196,7 +197,8 @@ fn walk_plain<T: Visitor>(
         Opening::Sized(form, size) => {
             let rest = &octets[1..];
             let (used, count) = lengths(size, rest)?;
-            if walk_body(context, form, &rest[used..used + count], level, visitor) {
+            let body = &rest[used..used + count];
+            if walk_body(context, form, octets[0], size, body, level, visitor) {
                 return Some(1 + used + count);
             }
             None
@@ -205,21 +207,24 @@ fn walk_plain<T: Visitor>(
     }
 }
 
-/// Whether these octets are the body of a value of this form.
+/// Whether these octets are the body of a value of this form, behind a descriptor that says so and this size.
 #[cycle(walk)]
 #[inline(always)]
 fn walk_body<T: Visitor>(
     context: &Context,
     form: Form,
+    descriptor: u8,
+    size: Size,
     body: &[u8],
     level: u32,
     visitor: &mut T,
 ) -> bool
+    requires { opening_of descriptor ≡ Sized form size }
     ensures { result ≡ true →
         WalkedBody T.visits context.now form level body.now visitor.old visitor.new }
 {
     match form {
-        Form::Scalar(scalar) => visitor.scalar(context, scalar, body),
+        Form::Scalar(scalar) => visitor.scalar(context, scalar, descriptor, size, body),
         Form::Listing(listing) => walk_listing(context, listing, body, level, visitor),
         Form::Struct => walk_struct(context, body, level, visitor),
         Form::OrderedStruct => !body.is_empty() && walk_struct(context, body, level, visitor),

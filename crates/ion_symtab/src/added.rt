@@ -1,5 +1,5 @@
 //! The slots of a context behind the system slots.
-ghost use Rattle.std.specs.Prelude.{◌≡◌, ◌⊎◌, ◌≤◌, ◌<◌, ◌+◌, ◌-◌, ◌++◌, [], length, map, Ok, Err, MatchResult, OnOk, OnErr, IfErr, slice_get};
+ghost use Rattle.std.specs.Prelude.{◌≡◌, ◌⊎◌, ◌≤◌, ◌<◌, ◌+◌, ◌-◌, ◌++◌, [], length, map, Ok, Err, MatchResult, OnOk, OnErr, IfErr, IfSome, slice_get};
 ghost use Rattle.ion_atoms.specs.declared.refusal.Reason.TheVariants as reasons;
 ghost use Rattle.ion_symtab.specs.Slots.{greatest_id, symbol_at};
 ghost use Rattle.ion_symtab.specs.Fields.{symbol_of};
@@ -84,6 +84,24 @@ impl Added {
             return self.earlier.symbol_at(place);
         }
         Ok(&self.last[(place - end) as usize])
+    }
+
+    /// The symbol of an id, where it stands behind the last import, as most do.
+    #[inline(always)]
+    pub(crate) fn last_symbol(&self, id: u64) -> Option<&Symbol>
+        ensures behind { IfSome result (λ _. self.now.first < id) }
+        ensures found { IfSome result (λ s.
+            symbol_at (slice_get self.now.slots (id - 1 - self.now.first)) ≡ Ok s.now) }
+    {
+        let end = self.earlier.end() as u64;
+        if id <= end {
+            return None;
+        }
+        let place = id - 1;
+        if place - end >= self.last.len() as u64 {
+            return None;
+        }
+        Some(&self.last[(place - end) as usize])
     }
 
     /// Drops all slots. Takes no memory.

@@ -108,8 +108,21 @@ impl Context {
 
     /// The symbol of an id; 0 is the symbol of unknown text. `SymbolRange` where the id is above the
     /// greatest, `ImportGap` where a gap stands there. Takes no memory.
-    #[tactic(auto, using(crate::specs::Slots::nine_system_slots), unfolding(crate::specs::Slots::resolve))]
+    #[inline(always)]
     pub fn symbol(&self, id: u64) -> Result<&Symbol, Reason>
+        ensures { MatchResult result (λ s. resolve self.now id ≡ Ok s.now)
+            (λ r. resolve self.now id ≡ Err r) }
+    {
+        match self.added.last_symbol(id) {
+            Some(symbol) => Ok(symbol),
+            None => self.any_symbol(id),
+        }
+    }
+
+    // The same, wherever the id stands.
+    #[inline(never)]
+    #[tactic(auto, using(crate::specs::Slots::nine_system_slots), unfolding(crate::specs::Slots::resolve))]
+    fn any_symbol(&self, id: u64) -> Result<&Symbol, Reason>
         ensures { MatchResult result (λ s. resolve self.now id ≡ Ok s.now)
             (λ r. resolve self.now id ≡ Err r) }
     {

@@ -11,7 +11,6 @@ ghost use Rattle.ion_binary.specs.Carrying.{WritesValue};
 
 use super::BinaryReader;
 use crate::alike::alike_value;
-use crate::form::Form;
 use crate::measure::Measure;
 use crate::walk::walk_value;
 use crate::whole::extent;
@@ -56,7 +55,7 @@ impl BinaryReader<'_> {
         let mut measure = Measure::new();
         let count = walk_value(&self.context, piece, depth, &mut measure)?;
         let used = self.used + count as u64;
-        if self.unfit(Form::Wrapper, used).is_some() {
+        if !self.admits(used) {
             return None;
         }
         self.used = used;
@@ -99,10 +98,7 @@ impl BinaryReader<'_> {
         )?;
         let used = self.used + count as u64;
         let other_used = other.used + other_count as u64;
-        if self.unfit(Form::Wrapper, used).is_some() {
-            return None;
-        }
-        if other.unfit(Form::Wrapper, other_used).is_some() {
+        if !self.admits(used) || !other.admits(other_used) {
             return None;
         }
         self.used = used;
@@ -163,7 +159,7 @@ impl<'a> BinaryReader<'a> {
         }
         let count = extent(piece);
         let used = self.used + count as u64;
-        if count == 0 || self.unfit(Form::Wrapper, used).is_some() {
+        if count == 0 || !self.admits(used) {
             return None;
         }
         let octets = &piece[..count];

@@ -1,5 +1,6 @@
 //! Where a value, a pad or a number may stand, and how far it may reach.
-ghost use Rattle.std.specs.Prelude.{◌≡◌, nat_lt};
+ghost use Rattle.std.specs.Prelude.{◌≡◌, [], true, None, nat_lt};
+ghost use Rattle.ion_binary.specs.declared.form.Form.TheVariants as forms;
 ghost use Rattle.ion_binary.specs.machine.EachOctet.{levels, too_long, misfits, stray, nameless, unending, outside, past, unfit};
 ghost use Rattle.ion_binary.specs.machine.Views.{open_frames, malformed_unless};
 
@@ -141,5 +142,14 @@ impl BinaryReader<'_> {
             return Some(reason);
         }
         self.nameless(form)
+    }
+
+    /// Whether an item of the top level may end at the octet `to`, where no container is open.
+    #[inline(always)]
+    pub(super) fn admits(&self, to: u64) -> bool
+        ensures { result ≡ true →
+            unfit self.now.limits.item self.now.start [] forms.Wrapper to ≡ None }
+    {
+        to <= self.start.saturating_add(self.limits.item)
     }
 }

@@ -43,6 +43,9 @@ walk_value-returns-then-walk_wrapped-clause-value g t c =
     (λ w. Walked g.T.Visitor.visits c.args.context.now c.args.level w c.args.visitor.now c.walk_wrapped.new.visitor)
     (λ h d. record { value = found.value; is = found.wraps h d; deep = found.deep; given = found.given; visited = found.visited })
 
+pub walk_body-scalar-requires : goal.walk_body-scalar-requires
+walk_body-scalar-requires g t c = c.requires ∙ ap (λ f. Sized f c.args.size) c.in-Scalar.is
+
 pub walk_body-returns-in-Scalar : goal.walk_body-returns-in-Scalar
 walk_body-returns-in-Scalar g t c = λ e. let s = c.scalar.ensures e in walked_scalar g.T.Visitor.visits c.args.context.now _ _ _ _ _ _ s.0 c.in-Scalar.is s.1 s.2
 

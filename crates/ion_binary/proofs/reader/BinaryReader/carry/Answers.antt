@@ -13,8 +13,8 @@ returns-clause-carries g c =
     let found = c.in_ok-written.ensures.writes in
     let v = found.0 in
     let admitted = found.1 in
-    let fits : unfit r.limits.item r.start (open_frames r) forms.Wrapper (r.used + n) ≡ None = search rules in
     let ready = c.may_walk.ensures c.if-not-may_walk.false in
+    let fits : unfit r.limits.item r.start (open_frames r) forms.Wrapper (r.used + n) ≡ None = rw ready.1 (c.admits.ensures c.if-not-admits.false) in
     let gives = walk_gives r.catalog.now r.limits (spot_of r) (open_frames r) r.body.items r.phase c.args.piece.now n ready.0 ready.1 c.extent-count.ensures v admitted.is admitted.deep admitted.given fits in
     let setting : SameSetting r (record r { used = r.used + n; start = r.used + n }) = record { catalog = refl; limits = refl; failed = refl } in (
       v,

@@ -1,4 +1,4 @@
-use Rattle.std.proofs.Common.{rules, ◌≡◌, ◌+◌, ◌≤◌, ◌<◌, ◌^◌, ℕ, length-take, None, sym, ◌∙◌, arith}
+use Rattle.std.proofs.Common.{◌≡◌, ◌+◌, ◌≤◌, ◌<◌, ◌^◌, ℕ, length-take, None, sym, ◌∙◌, arith}
 use Rattle.ion_binary.specs.declared.form.Form.TheVariants as forms
 use Rattle.ion_binary.specs.laws.reading.Small.{binary_nodes}
 use Rattle.ion_binary.specs.machine.EachOctet.{unfit}
@@ -13,8 +13,8 @@ returns-clause-gives c =
     let r = c.args.self.now in
     let n = c.in_ok-count.count in
     let found = c.in_ok-count.ensures.value in
-    let fits : unfit r.limits.item r.start (open_frames r) forms.Wrapper (r.used + n) ≡ None = search rules in
     let ready = c.may_walk.ensures c.if-not-may_walk.false in
+    let fits : unfit r.limits.item r.start (open_frames r) forms.Wrapper (r.used + n) ≡ None = rw ready.1 (c.admits.ensures c.if-not-admits.false) in
     let admitted : depth found.value ≤ r.limits.depth = omega (arith, found.deep) in
     let gives = walk_gives r.catalog.now r.limits (spot_of r) (open_frames r) r.body.items r.phase c.args.piece.now n ready.0 ready.1 c.in_ok-count.ensures.within found.value found.is admitted found.given fits in
     let few = binary_nodes _ _ found.value found.is in

@@ -1,4 +1,4 @@
-use Rattle.std.proofs.Common.{rules, ◌≡◌, ◌+◌, ◌≤◌, None, arith}
+use Rattle.std.proofs.Common.{◌≡◌, ◌+◌, ◌≤◌, None, arith}
 use Rattle.ion_binary.specs.declared.form.Form.TheVariants as forms
 use Rattle.ion_binary.specs.machine.EachOctet.{unfit}
 use Rattle.ion_binary.specs.machine.Views.{spot_of, open_frames}
@@ -12,10 +12,10 @@ returns-clause-gives c =
     let q = c.args.other.now in
     let step = c.in_ok-count in
     let found = step.ensures.value in
-    let fits : unfit r.limits.item r.start (open_frames r) forms.Wrapper (r.used + step.count) ≡ None = search rules in
-    let other_fits : unfit q.limits.item q.start (open_frames q) forms.Wrapper (q.used + step.other_count) ≡ None = search rules in
     let ready = c.may_walk.ensures c.if-not-may_walk.false in
     let other_ready = c.may_walk-else-not-may_walk.ensures c.if-not-may_walk-2.false in
+    let fits : unfit r.limits.item r.start (open_frames r) forms.Wrapper (r.used + step.count) ≡ None = rw ready.1 (c.admits.ensures c.if-not-admits.false) in
+    let other_fits : unfit q.limits.item q.start (open_frames q) forms.Wrapper (q.used + step.other_count) ≡ None = rw other_ready.1 (c.admits-else-not-admits.ensures c.if-not-admits-2.false) in
     let admitted : depth found.value ≤ r.limits.depth = omega (arith, found.deep, c.min-depth.ensures) in
     let other_admitted : depth found.value ≤ q.limits.depth = omega (arith, found.deep, c.min-depth.ensures) in
     let mine = walk_gives r.catalog.now r.limits (spot_of r) (open_frames r) r.body.items r.phase c.args.piece.now step.count ready.0 ready.1 step.ensures.within found.value found.is admitted found.given fits in
