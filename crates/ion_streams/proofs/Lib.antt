@@ -1,4 +1,5 @@
 pub mod Pieces
+pub mod Unfailed
 pub mod Endings
 pub mod Steps
 pub mod Wholes

@@ -1,5 +1,5 @@
 //! Catalogs from documents.
-ghost use Rattle.std.specs.Prelude.{◌≡◌, ◌⊎◌, ◌+◌, ◌^◌, ◌≤◌, IfOk, IfErr, MatchResult, Ok, Err, option_to_list, length, ◌*◌};
+ghost use Rattle.std.specs.Prelude.{◌≡◌, ◌⊎◌, ◌+◌, ◌^◌, ◌≤◌, false, OnOk, IfOk, IfErr, MatchResult, Ok, Err, option_to_list, length, ◌*◌};
 ghost use Rattle.ion_atoms.specs.declared.refusal.Reason.TheVariants as reasons;
 ghost use Rattle.ion_symtab.specs.Cause.{IsReadCause};
 ghost use Rattle.ion_streams.specs.Formats.{format_of};
@@ -26,6 +26,7 @@ pub fn load_items<I: Items + Drop, R: Inlet>(
         (format_of I.Items (I.catalog items) (I.limits items)) reader.old reader.new) }
     ensures few_calls { R.calls_made reader.new ≤ R.calls_made reader.old + reads }
     ensures few_octets { length (R.handed reader.new) ≤ length (R.handed reader.old) + 4096 * reads }
+    ensures no_read_failed { OnOk result (R.has_failed reader.new ≡ false) }
     ensures cause { IfErr result (IsReadCause R.Inlet reads reader.old reader.new) }
 {
     let mut source = Source::new(alloc, items, reads)?;

@@ -1,5 +1,5 @@
 //! How many values a document has.
-ghost use Rattle.std.specs.Prelude.{◌+◌, ◌^◌, ◌≤◌, IfOk, IfErr, length, ◌*◌};
+ghost use Rattle.std.specs.Prelude.{◌+◌, ◌^◌, ◌≤◌, false, ◌≡◌, IfOk, IfErr, OnOk, length, ◌*◌};
 ghost use Rattle.ion_symtab.specs.Cause.{IsReadCause};
 ghost use Rattle.ion_streams.specs.Formats.{format_of};
 ghost use Rattle.ion_streams.specs.reading.Read.{IsFresh};
@@ -26,6 +26,7 @@ pub fn check_items<I: Items + Drop, R: Inlet>(
         (format_of I.Items (I.catalog items) (I.limits items)) reader.old reader.new) }
     ensures few_calls { R.calls_made reader.new ≤ R.calls_made reader.old + reads }
     ensures few_octets { length (R.handed reader.new) ≤ length (R.handed reader.old) + 4096 * reads }
+    ensures no_read_failed { OnOk result (R.has_failed reader.new ≡ false) }
     ensures cause { IfErr result (IsReadCause R.Inlet reads reader.old reader.new) }
 {
     let source = Source::new(alloc, items, reads)?;

@@ -1,11 +1,11 @@
 //! Whether two documents have equivalent streams.
-ghost use Rattle.std.specs.Prelude.{◌≡◌, ℕ, ◌+◌, ◌*◌, ◌^◌, ◌<◌, ◌≤◌, ◌⊎◌, [], true, false, IfOk, IfErr, MatchResult, length};
+ghost use Rattle.std.specs.Prelude.{◌≡◌, ℕ, ◌+◌, ◌*◌, ◌^◌, ◌<◌, ◌≤◌, ◌⊎◌, [], true, false, IfOk, IfErr, OnOk, MatchResult, length};
 ghost use Rattle.ion_symtab.specs.declared.catalog.Catalog.{Catalog};
 ghost use Rattle.ion_symtab.specs.declared.limits.Limits.{Limits};
 ghost use Rattle.ion_symtab.specs.Cause.{IsReadCause};
 ghost use Rattle.ion_streams.specs.reading.Alongside.{GoAlike};
 ghost use Rattle.ion_streams.specs.Formats.{format_of};
-ghost use Rattle.ion_streams.specs.reading.Standing.{IfOpen, IsOpen, work_of, reads_of, Stood};
+ghost use Rattle.ion_streams.specs.reading.Standing.{IfOpen, IsOpen, StandsUnread, work_of, reads_of, Stood};
 ghost use Rattle.ion_streams.specs.reading.Read.{IsFresh, IsReady, IsWithin};
 ghost use Rattle.ion_streams.specs.Compared.{IsCompared};
 ghost use Rattle.ion_streams.specs.reading.Courses.{IsMet, count_of, verdict_of};
@@ -171,6 +171,8 @@ fn compare_places<A: Alike<I, J>, I: Items + Drop, J: Items + Drop, L: Inlet, R:
     requires left { IfOpen left_place.old (IsReady I.Items) }
     requires right { IfOpen right_place.old (IsReady J.Items) }
     requires opened { IsOpen left_place.old }
+    requires left_unread { StandsUnread I.Items left_place.old }
+    requires right_unread { StandsUnread J.Items right_place.old }
     requires few { work_of I.Items left_place.old + work_of J.Items right_place.old
         ≤ 2 * (8193 * 2 ^ 32 + 1) }
     ensures verdict { IfOk result (λ verdict. (g h : Catalog) (k l : Limits) →
@@ -183,6 +185,8 @@ fn compare_places<A: Alike<I, J>, I: Items + Drop, J: Items + Drop, L: Inlet, R:
     ensures few_octets { (length (L.handed left.new)
         ≤ length (L.handed left.old) + 4096 * reads_of left_place.old)
         × (length (R.handed right.new) ≤ length (R.handed right.old) + 4096 * reads_of right_place.old) }
+    ensures no_read_failed { OnOk result ((L.has_failed left.new ≡ false)
+        × ((right.new ≡ right.old) ⊎ (R.has_failed right.new ≡ false))) }
     ensures cause { IfErr result (λ fault. (reads : ℕ) →
         IfOpen left_place.old (IsWithin L.Inlet reads left.old left.old) →
         IfOpen right_place.old (IsWithin R.Inlet reads right.old right.old) →
@@ -246,6 +250,8 @@ pub fn compare_items<I: Items + Drop, J: Items + Drop, L: Inlet, R: Inlet>(
         × (R.calls_made right.new ≤ R.calls_made right.old + reads) }
     ensures few_octets { (length (L.handed left.new) ≤ length (L.handed left.old) + 4096 * reads)
         × (length (R.handed right.new) ≤ length (R.handed right.old) + 4096 * reads) }
+    ensures no_read_failed { OnOk result ((L.has_failed left.new ≡ false)
+        × ((right.new ≡ right.old) ⊎ (R.has_failed right.new ≡ false))) }
     ensures cause { IfErr result (λ fault.
         IsReadCause L.Inlet reads left.old left.new fault
         ⊎ IsReadCause R.Inlet reads right.old right.new fault) }
@@ -273,6 +279,8 @@ pub fn compare_by<A: Alike<I, J>, I: Items + Drop, J: Items + Drop, L: Inlet, R:
         × (R.calls_made right.new ≤ R.calls_made right.old + reads) }
     ensures few_octets { (length (L.handed left.new) ≤ length (L.handed left.old) + 4096 * reads)
         × (length (R.handed right.new) ≤ length (R.handed right.old) + 4096 * reads) }
+    ensures no_read_failed { OnOk result ((L.has_failed left.new ≡ false)
+        × ((right.new ≡ right.old) ⊎ (R.has_failed right.new ≡ false))) }
     ensures cause { IfErr result (λ fault.
         IsReadCause L.Inlet reads left.old left.new fault
         ⊎ IsReadCause R.Inlet reads right.old right.new fault) }

@@ -98,7 +98,7 @@ fn write_last<W: Outlet>(
 fn write_accepted<W: Outlet>(alloc: Global, writer: &mut W, values: u64) -> Result<(), Fault>
     ensures wrote { OnOk result (Took W.took W.written writer.old writer.new (accepted_line values)) }
     ensures passed_on { OnOk result (W.passed writer.new ≡ W.written writer.new) }
-    ensures fine { OnOk result (W.has_failed writer.new ≡ false) }
+    ensures no_write_failed { OnOk result (W.has_failed writer.new ≡ false) }
     ensures front { OnErr result (TookFront W.took W.written writer.old writer.new (accepted_line values)) }
     ensures cause { IfErr result (IsWriteCause W.Outlet writer.new) }
 {
@@ -128,11 +128,12 @@ pub fn show_items<I: Items + Drop, R: Inlet, W: Outlet>(
         (format_of I.Items (I.catalog items) (I.limits items))
         reader.old reader.new writer.old writer.new) }
     ensures passed_on { OnOk result (W.passed writer.new ≡ W.written writer.new) }
-    ensures fine { OnOk result (W.has_failed writer.new ≡ false) }
+    ensures no_write_failed { OnOk result (W.has_failed writer.new ≡ false) }
     ensures so_far { OnErr result (ShowsSoFar R.Inlet I.Items W.Outlet (I.catalog items)
         (I.limits items) reader.old reader.new writer.old writer.new) }
     ensures few_calls { R.calls_made reader.new ≤ R.calls_made reader.old + reads }
     ensures few_octets { length (R.handed reader.new) ≤ length (R.handed reader.old) + 4096 * reads }
+    ensures no_read_failed { OnOk result (R.has_failed reader.new ≡ false) }
     ensures cause { IfErr result (λ fault.
         IsReadCause R.Inlet reads reader.old reader.new fault
         ⊎ IsWriteCause W.Outlet writer.new fault) }

@@ -7,7 +7,7 @@ ghost use Rattle.ion_symtab.specs.declared.limits.Limits.{Limits};
 ghost use Rattle.ion_symtab.specs.Heard.{Heard};
 ghost use Rattle.ion_symtab.specs.Cause.{WereMade, IsReadCause};
 ghost use Rattle.ion_streams.specs.Formats.{format_of};
-ghost use Rattle.ion_streams.specs.reading.Read.{left_of, IsReady, IsWithin, work, Went, GaveEach, Reads, ReadsEach, GaveSoFar};
+ghost use Rattle.ion_streams.specs.reading.Read.{left_of, IsReady, HasToAsk, NoneFailed, NoReadFailed, IsWithin, work, Went, GaveEach, Reads, ReadsEach, GaveSoFar};
 ghost use Rattle.ion_streams.specs.reading.Reached.{IfValue, IfEnd, IsSpent, Reaches};
 ghost use Rattle.ion_streams.specs.Outcomes.{EndsWell, EndsRefused};
 ghost use Rattle.ion_streams.specs.reading.Standing.{IfOpen, IsOpen, IfClosed, MatchClosed, work_of, reads_of, Stood};
@@ -86,6 +86,9 @@ impl<I: Items + Drop> Source<I> {
             ((u ++ left_of self.old) ++ more) given refusal) }
         ensures ready { IfOk result (λ value. IsReady I.Items self.new) }
         ensures all { IfOk result (λ value. value ≡ Option.None → self.new.at ≡ self.new.end) }
+        ensures nothing { IfOk result (λ value. HasToAsk I.Items self.old → value ≡ Option.None) }
+        ensures none_refused { IfErr result (λ refusal. refusal.reason ≢ reasons.Memory →
+            HasToAsk I.Items self.old → ⊥) }
         ensures pending { IfOk result (λ value. work I.Items self.new ≤ work I.Items self.old) }
         ensures less { IfOk result (λ value. IsSome value →
             work I.Items self.new < work I.Items self.old) }
@@ -122,6 +125,7 @@ impl<I: Items + Drop> Source<I> {
         ensures kept { OnErr result (Heard R.Inlet reader.old reader.new [] false) }
         ensures few_calls { R.calls_made reader.new ≤ R.calls_made reader.old + 1 }
         ensures few_octets { length (R.handed reader.new) ≤ length (R.handed reader.old) + 4096 }
+        ensures no_read_failed { OnOk result (R.has_failed reader.new ≡ false) }
         ensures cause { IfErr result (λ fault. (fault ≡ Fault.Read) × (R.has_failed reader.new ≡ true)) }
     {
         self.reads -= 1;
@@ -163,6 +167,7 @@ impl<I: Items + Drop> Source<I> {
             ≤ R.calls_made reader.old + self.old.reads }
         ensures few_octets { length (R.handed reader.new) + 4096 * self.new.reads
             ≤ length (R.handed reader.old) + 4096 * self.old.reads }
+        ensures no_read_failed { OnOk result (R.has_failed reader.new ≡ false) }
         ensures cause { IfErr result (λ fault. (first : R) (reads : ℕ) →
             IsWithin R.Inlet reads first reader.old self.old →
             IsReadCause R.Inlet reads first reader.new fault) }
@@ -199,6 +204,9 @@ impl<I: Items + Drop> Source<I> {
             ≤ R.calls_made reader.old + self.old.reads }
         ensures few_octets { length (R.handed reader.new) + 4096 * self.new.reads
             ≤ length (R.handed reader.old) + 4096 * self.old.reads }
+        ensures unasked { OnOk result (NoReadFailed R.Inlet reader.old reader.new) }
+        ensures no_read_failed { OnOk result (NoneFailed R.Inlet I.Items reader.old self.old →
+            R.has_failed reader.new ≡ false) }
         ensures cause { IfErr result (λ fault. (first : R) (reads : ℕ) →
             IsWithin R.Inlet reads first reader.old self.old →
             IsReadCause R.Inlet reads first reader.new fault) }
@@ -287,6 +295,9 @@ impl<I: Items + Drop> Standing<I> {
             ≤ length (R.handed reader.old) + 4096 * reads_of self.old) }
         ensures few_octets { length (R.handed reader.new)
             ≤ length (R.handed reader.old) + 4096 * reads_of self.old }
+        ensures unasked { OnOk result (NoReadFailed R.Inlet reader.old reader.new) }
+        ensures no_read_failed { OnOk result (IfOpen self.old (λ source.
+            NoneFailed R.Inlet I.Items reader.old source → R.has_failed reader.new ≡ false)) }
         ensures cause { IfErr result (λ fault. (first : R) (reads : ℕ) →
             IfOpen self.old (IsWithin R.Inlet reads first reader.old) →
             IsReadCause R.Inlet reads first reader.new fault) }

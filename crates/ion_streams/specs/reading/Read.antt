@@ -1,5 +1,5 @@
 -- How far a document has been read from a device.
-use Rattle.std.specs.Prelude.{◌≡◌, ℕ, ◌+◌, ◌-◌, ◌*◌, ◌<◌, ◌≤◌, ◌^◌, List, [], ◌∷◌, ◌++◌, length, take, drop, Bool, false, Option, None, IfSome}
+use Rattle.std.specs.Prelude.{◌≡◌, ℕ, ◌+◌, ◌-◌, ◌*◌, ◌<◌, ◌≤◌, ◌^◌, ◌⊎◌, List, [], ◌∷◌, ◌++◌, length, take, drop, Bool, false, Option, None, IfSome}
 use Rattle.ion_model.specs.declared.value.Value.{Value}
 use Rattle.ion_symtab.specs.declared.catalog.Catalog.{Catalog}
 use Rattle.ion_symtab.specs.declared.limits.Limits.{Limits}
@@ -47,6 +47,20 @@ module _ {X : Type 0} (I : Items X) where
     pub to : List ℕ
     pub stood : I.stands after.items to (given ++ given_at value after.used)
     pub octets : to ++ left_of after ≡ u ++ before
+
+-- Nothing comes of a document before its device is asked: no octet of a piece is left, no value may still come, and nothing was refused.
+pub record HasToAsk {X : Type 0} (I : Items X) (source : Source X) : Type 0 where
+  pub used_up : source.at ≡ source.end
+  pub owes : I.pending source.items ≡ 0
+  pub not_failed : I.failed source.items ≡ None
+
+-- No read of the device has failed; or it has to be asked first, and one that had failed fails then.
+pub record NoneFailed {S X : Type 0} (R : Inlet S) (I : Items X) (now : S) (source : Source X) : Type 0 where
+  pub either : (R.has_failed now ≡ false) ⊎ HasToAsk I source
+
+-- the device wasn't asked between old and now, or no read of it has failed
+pub record NoReadFailed {S : Type 0} (R : Inlet S) (old now : S) : Type 0 where
+  pub either : (now ≡ old) ⊎ (R.has_failed now ≡ false)
 
 -- the calls of read that were made and those that may still be made are so many, and none answered the end
 pub record IsWithin {S X : Type 0} (R : Inlet S) (reads : ℕ) (first now : S) (source : Source X) : Type 0 where

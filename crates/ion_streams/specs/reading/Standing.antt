@@ -7,7 +7,7 @@ use Rattle.ion_symtab.specs.declared.limits.Limits.{Limits}
 use Rattle.ion_symtab.specs.declared.inlet.Inlet.{Ghosts as Inlet}
 use Rattle.ion_symtab.specs.declared.items.Items.{Ghosts as Items}
 use Rattle.ion_streams.specs.Formats.{format_of}
-use Rattle.ion_streams.specs.reading.Read.{work, Reads, ReadsEach}
+use Rattle.ion_streams.specs.reading.Read.{HasToAsk, work, Reads, ReadsEach}
 use Rattle.ion_streams.specs.Outcomes.{ToldDocument, ToldRefused, ToldEach, ToldRefusedEach}
 use Rattle.ion_streams.specs.declared.source.Source.{Source}
 use Rattle.ion_streams.specs.declared.source.Standing.{Standing}
@@ -22,6 +22,12 @@ abbrev pub IsOpen : {X : Type 0} → Standing X → Type 0
 IsOpen (Open source) = Unit {0}
 IsOpen Ended = ⊥
 IsOpen (Refused refusal) = ⊥
+
+-- it is open, and its device has to be asked first
+abbrev pub StandsUnread : {X : Type 0} → Items X → Standing X → Type 0
+StandsUnread I (Open source) = HasToAsk I source
+StandsUnread I Ended = ⊥
+StandsUnread I (Refused refusal) = ⊥
 
 abbrev pub IfClosed : {X : Type 0} → Standing X → Type 0 → Type 0
 IfClosed (Open source) P = Unit {0}

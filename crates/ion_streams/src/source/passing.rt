@@ -1,5 +1,5 @@
 //! Documents of which nobody asks for the values.
-ghost use Rattle.std.specs.Prelude.{◌≡◌, ◌≢◌, ℕ, ◌+◌, ◌*◌, ◌^◌, ◌<◌, ◌≤◌, List, [], ◌++◌, IfOk, IfErr, OnErr, Option, IsSome, option_map, length};
+ghost use Rattle.std.specs.Prelude.{◌≡◌, ◌≢◌, ℕ, ◌+◌, ◌*◌, ◌^◌, ◌<◌, ◌≤◌, false, List, [], ◌++◌, IfOk, IfErr, OnOk, OnErr, Option, IsSome, option_map, length};
 ghost use Rattle.ion_model.specs.Outlines.{outline_of};
 ghost use Rattle.ion_model.specs.declared.value.Value.{Value};
 ghost use Rattle.ion_atoms.specs.declared.refusal.Reason.TheVariants as reasons;
@@ -7,7 +7,7 @@ ghost use Rattle.ion_symtab.specs.declared.catalog.Catalog.{Catalog};
 ghost use Rattle.ion_symtab.specs.declared.limits.Limits.{Limits};
 ghost use Rattle.ion_symtab.specs.Cause.{IsReadCause};
 ghost use Rattle.ion_streams.specs.Formats.{format_of};
-ghost use Rattle.ion_streams.specs.reading.Read.{left_of, IsReady, IsWithin, work, Went, Reads, ReadsEach, GaveSoFar};
+ghost use Rattle.ion_streams.specs.reading.Read.{left_of, IsReady, HasToAsk, NoneFailed, NoReadFailed, IsWithin, work, Went, Reads, ReadsEach, GaveSoFar};
 ghost use Rattle.ion_streams.specs.reading.Reached.{IfValue, IfEnd, IsSpent, Reaches};
 ghost use Rattle.ion_streams.specs.Outcomes.{EndsRefused};
 ghost use Rattle.ion_streams.specs.Checked.{IsChecked, counted};
@@ -30,6 +30,9 @@ impl<I: Items + Drop> Source<I> {
             ((u ++ left_of self.old) ++ more) given refusal) }
         ensures ready { IfOk result (λ outline. IsReady I.Items self.new) }
         ensures all { IfOk result (λ outline. outline ≡ Option.None → self.new.at ≡ self.new.end) }
+        ensures nothing { IfOk result (λ outline. HasToAsk I.Items self.old → outline ≡ Option.None) }
+        ensures none_refused { IfErr result (λ refusal. refusal.reason ≢ reasons.Memory →
+            HasToAsk I.Items self.old → ⊥) }
         ensures pending { IfOk result (λ outline. work I.Items self.new ≤ work I.Items self.old) }
         ensures less { IfOk result (λ outline. IsSome outline →
             work I.Items self.new < work I.Items self.old) }
@@ -67,6 +70,9 @@ impl<I: Items + Drop> Source<I> {
             ≤ R.calls_made reader.old + self.old.reads }
         ensures few_octets { length (R.handed reader.new) + 4096 * self.new.reads
             ≤ length (R.handed reader.old) + 4096 * self.old.reads }
+        ensures unasked { OnOk result (NoReadFailed R.Inlet reader.old reader.new) }
+        ensures no_read_failed { OnOk result (NoneFailed R.Inlet I.Items reader.old self.old →
+            R.has_failed reader.new ≡ false) }
         ensures cause { IfErr result (λ fault. (first : R) (reads : ℕ) →
             IsWithin R.Inlet reads first reader.old self.old →
             IsReadCause R.Inlet reads first reader.new fault) }
@@ -108,6 +114,8 @@ pub(crate) fn pass_all<I: Items + Drop, R: Inlet>(
     ensures few_calls { R.calls_made reader.new ≤ R.calls_made reader.old + source.reads }
     ensures few_octets { length (R.handed reader.new)
         ≤ length (R.handed reader.old) + 4096 * source.reads }
+    ensures no_read_failed { OnOk result (NoneFailed R.Inlet I.Items reader.old source →
+        R.has_failed reader.new ≡ false) }
     ensures cause { IfErr result (λ fault. (first : R) (reads : ℕ) →
         IsWithin R.Inlet reads first reader.old source →
         IsReadCause R.Inlet reads first reader.new fault) }

@@ -1,9 +1,10 @@
-use Rattle.std.proofs.Common.{◌≡◌, ℕ, List, [], ◌∷◌, ◌++◌, arith, ap, sym, ◌∙◌, Ok, Err, option_to_list}
+use Rattle.std.proofs.Common.{inl, inr, ◌≡◌, ℕ, List, [], ◌∷◌, ◌++◌, arith, ap, sym, ◌∙◌, Ok, Err, option_to_list}
 use Rattle.std.proofs.lemmas.Result.{err_from_is_err_and}
 use Rattle.ion_model.specs.declared.value.Value.{Value}
 use Rattle.ion_streams.specs.Loaded.{catalog_of}
 use Rattle.ion_streams.specs.declared.source.Standing.TheVariants as TheStanding
 use Rattle.ion_streams.proofs.Pieces.{between_nil}
+use Rattle.ion_streams.proofs.Unfailed.{asks_begun}
 use Rattle.ion_streams.proofs.Steps.{each_begun, ready_begun, within_begun, each_next, each_ended, last_gives, closed_open}
 use Rattle.ion_streams.proofs.Loads.{catalog_ok, value_refused, document_refused, document_loaded}
 use Rattle.ion_streams.proofs.catalogs.load_items.Goals as goal
@@ -17,6 +18,7 @@ loop-catalog-init g c =
       ready = ready_begun g.I.Items source c.args.items (g.met.I.Items.counted c.args.items [] [] fresh.stood) fresh.awaited new.items new.nothing new.piece (omega (arith, new.reads));
       asked = omega (arith, new.reads);
       handed = omega (arith, new.reads);
+      heard = record { either = inr (asks_begun g.I.Items source c.args.items (g.met.I.Items.not_failed c.args.items [] [] fresh.stood) fresh.owes new.items new.nothing) };
       within = within_begun g.R.Inlet c.args.reader.now source c.args.reads new.reads;
       reads = (
         [],
@@ -45,6 +47,7 @@ loop-catalog-preserved g c =
       ready = rw c.in-Value.is at next.ready;
       asked = omega (arith, asked, next.few_calls);
       handed = omega (arith, handed, next.few_octets);
+      heard = record { either = inl (next.no_read_failed i.heard) };
       within = (rw c.in-Value.is at next.within) c.args.reader.now c.args.reads i.within;
       reads = (
         r.0 ++ found,

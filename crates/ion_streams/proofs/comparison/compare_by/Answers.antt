@@ -1,5 +1,6 @@
 use Rattle.std.proofs.Common.{◌≡◌, [], arith, refl, ap, ◌∙◌}
 use Rattle.ion_streams.proofs.Pieces.{between_nil}
+use Rattle.ion_streams.proofs.Unfailed.{asks_begun}
 use Rattle.ion_streams.proofs.Steps.{reads_begun, ready_begun, within_begun}
 use Rattle.ion_streams.proofs.Passes.{ok_by, err_by}
 use Rattle.ion_streams.proofs.comparison.compare_by.Goals as goal
@@ -17,6 +18,8 @@ compare_places-verdict-requires g c =
       left = ready_begun g.I.Items left c.args.left_items (g.met.I.Items.counted c.args.left_items [] [] c.requires.left.stood) c.requires.left.awaited l.items l.nothing l.piece (omega (arith, l.reads));
       right = ready_begun g.J.Items right c.args.right_items (g.met.J.Items.counted c.args.right_items [] [] c.requires.right.stood) c.requires.right.awaited r.items r.nothing r.piece (omega (arith, r.reads));
       opened = tt;
+      left_unread = asks_begun g.I.Items left c.args.left_items (g.met.I.Items.not_failed c.args.left_items [] [] c.requires.left.stood) c.requires.left.owes l.items l.nothing;
+      right_unread = asks_begun g.J.Items right c.args.right_items (g.met.J.Items.not_failed c.args.right_items [] [] c.requires.right.stood) c.requires.right.owes r.items r.nothing;
       few = omega (arith, left_pending, right_pending, l.reads, l.nothing.0, l.nothing.1, r.reads, r.nothing.0, r.nothing.1);
     }
 

@@ -1,10 +1,11 @@
-use Rattle.std.proofs.Common.{rules, ◌⊎◌, ◌++◌, [], ◌∷◌, Some, inl, inr, arith, ap, sym, subst, option_to_list}
+use Rattle.std.proofs.Common.{rules, ◌⊎◌, ◌++◌, [], ◌∷◌, Some, inl, inr, arith, refl, ap, sym, subst, option_to_list}
 use Rattle.ion_streams.specs.declared.source.Standing.{Standing}
 use Rattle.ion_streams.specs.reading.Courses.{count_of}
 use Rattle.ion_streams.specs.reading.Read.{IsWithin}
 use Rattle.ion_streams.specs.reading.Standing.{IfOpen, IsOpen, work_of, reads_of, Stood}
 use Rattle.ion_streams.proofs.Alongside.{past_open, past_closed, past_ready, past_less, past_reads, past_within, past_stood}
 use Rattle.ion_streams.proofs.Courses.{Meets, meets_begun, meets_more, left_refused, closed_verdict, count_met, works_less, true_case, false_case}
+use Rattle.ion_streams.proofs.Unfailed.{StandsHeard, heard_past, heard_alone, heard_since, stands_heard}
 use Rattle.ion_streams.proofs.comparison.compare_places.Goals.{else-not-is_open-via-then-not-is_open+else-not-is_open-2, else-not-is_open-via-else-not-is_open}
 use Rattle.ion_streams.proofs.comparison.compare_places.Goals as goal
 
@@ -21,6 +22,8 @@ loop-left_place-init g c =
       right_asked = omega arith;
       left_handed = omega arith;
       right_handed = omega arith;
+      left_heard = record { either = inl c.requires.left_unread };
+      right_heard = record { either = inl (c.requires.right_unread, refl) };
       bound = omega (arith, few, none);
       open_still = inl c.requires.opened;
       stood = λ left_catalog right_catalog left_limits right_limits a b. ([], [], a, b, subst (λ x. Meets x c.args.left_place.now c.args.right_place.now [] []) (sym c.requires.begun) (meets_begun _ _));
@@ -79,6 +82,8 @@ loop-left_place-preserved-then-go_alike g c =
       right_asked = let asked = i.right_asked in omega (arith, asked, past_reads g.J.Items right right_now both.value both.right_past);
       left_handed = let handed = i.left_handed in omega (arith, handed, past_reads g.I.Items left left_now both.value both.left_past);
       right_handed = let handed = i.right_handed in omega (arith, handed, past_reads g.J.Items right right_now both.value both.right_past);
+      left_heard = record { either = inr (heard_past g.I.Items g.L.Inlet c.loop-left_place.left left left_now both.value both.left_past i.left_heard) };
+      right_heard = record { either = inr (heard_past g.J.Items g.R.Inlet c.loop-left_place.right right right_now both.value both.right_past (heard_alone g.J.Items g.R.Inlet right c.args.right.now c.loop-left_place.right i.right_heard)) };
       bound = omega (arith, bound, left_less, right_less, count);
       open_still = inl (past_open g.I.Items left left_now both.value both.left_past);
       stood = λ left_catalog right_catalog left_limits right_limits a b.
@@ -106,6 +111,8 @@ loop-left_place-preserved g c =
     let left_reads = ap (λ (x : Standing _). reads_of x) stays.1 in
     let right_reads = ap (λ (x : Standing _). reads_of x) stays.2 in
     let counted = ap count_of stays.0 in
+    let left_heard = subst (λ (x : Standing _). StandsHeard g.I.Items g.L.Inlet x c.loop-left_place.left) (sym stays.1) i.left_heard in
+    let right_heard = subst (λ (x : Standing _). StandsHeard g.J.Items g.R.Inlet x c.loop-left_place.right) (sym stays.2) (heard_alone g.J.Items g.R.Inlet c.loop-left_place.right_place c.args.right.now c.loop-left_place.right i.right_heard) in
     let count = count_met c.go_alike.new.course c.meet-met.new.self c.in_ok-left_value.left_value c.in-Ok.value c.in_ok-met.ensures in
     record {
       left_ready = l.ready;
@@ -120,6 +127,8 @@ loop-left_place-preserved g c =
       right_asked = let asked = i.right_asked in omega (arith, asked, r.fewer_calls, right_reads);
       left_handed = let handed = i.left_handed in omega (arith, handed, l.fewer_octets, left_reads);
       right_handed = let handed = i.right_handed in omega (arith, handed, r.fewer_octets, right_reads);
+      left_heard = record { either = inr (stands_heard g.I.Items g.L.Inlet c.loop-left_place.left c.advance.new.reader c.go_alike.new.left left_heard l.unasked l.no_read_failed) };
+      right_heard = record { either = inr (stands_heard g.J.Items g.R.Inlet c.loop-left_place.right c.advance-in-loop-left_place.new.reader c.go_alike.new.right right_heard r.unasked r.no_read_failed) };
       bound = omega (arith, bound, less, count, left_work, right_work, counted);
       open_still = elim c.else-not-is_open.branch [
         | else-not-is_open-via-then-not-is_open+else-not-is_open-2 w ↦ inr (true_case w.is_open-then-not-is_open.result _ _ w.is_open-then-not-is_open.ensures (search rules))
@@ -137,3 +146,24 @@ loop-left_place-preserved g c =
             meets_more c.go_alike.new.course c.meet-met.new.self c.go_alike.new.left c.advance.new.self c.go_alike.new.right c.advance-in-loop-left_place.new.self w.0 w.1 c.in_ok-left_value.left_value c.in-Ok.value c.in_ok-met.ensures meets l.closed r.closed l.none r.none,
           );
     }
+
+-- the reads that failed
+pub returns-in-Refused-clause-no_read_failed : goal.returns-in-Refused-clause-no_read_failed
+returns-in-Refused-clause-no_read_failed g c =
+    let i = c.loop-left_place.invariant in
+    let stays = c.go_alike.ensures.stays (search rules) in
+    let l = c.in_ok-left_value.ensures in
+    let left_heard = subst (λ (x : Standing _). StandsHeard g.I.Items g.L.Inlet x c.loop-left_place.left) (sym stays.1) i.left_heard in
+    (stands_heard g.I.Items g.L.Inlet c.loop-left_place.left c.advance.new.reader c.go_alike.new.left left_heard l.unasked l.no_read_failed, heard_since g.J.Items g.R.Inlet c.loop-left_place.right_place c.args.right.now c.loop-left_place.right i.right_heard)
+
+pub returns-then-not-is_open-2-clause-no_read_failed : goal.returns-then-not-is_open-2-clause-no_read_failed
+returns-then-not-is_open-2-clause-no_read_failed g c =
+    let i = c.loop-left_place.invariant in
+    let stays = c.go_alike.ensures.stays (search rules) in
+    let l = c.in_ok-left_value.ensures in
+    let r = c.in-Ok.ensures in
+    let left_heard = subst (λ (x : Standing _). StandsHeard g.I.Items g.L.Inlet x c.loop-left_place.left) (sym stays.1) i.left_heard in
+    let right_heard = subst (λ (x : Standing _). StandsHeard g.J.Items g.R.Inlet x c.loop-left_place.right) (sym stays.2) (heard_alone g.J.Items g.R.Inlet c.loop-left_place.right_place c.args.right.now c.loop-left_place.right i.right_heard) in (
+      stands_heard g.I.Items g.L.Inlet c.loop-left_place.left c.advance.new.reader c.go_alike.new.left left_heard l.unasked l.no_read_failed,
+      inr (stands_heard g.J.Items g.R.Inlet c.loop-left_place.right c.advance-in-loop-left_place.new.reader c.go_alike.new.right right_heard r.unasked r.no_read_failed),
+    )

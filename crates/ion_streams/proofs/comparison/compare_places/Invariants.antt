@@ -6,6 +6,7 @@ use Rattle.ion_streams.specs.reading.Read.{IsReady, IsWithin}
 use Rattle.ion_streams.specs.reading.Standing.{IfOpen, IsOpen, work_of, reads_of, Stood}
 use Rattle.ion_streams.specs.reading.Courses.{count_of}
 use Rattle.ion_streams.proofs.Courses.{Meets}
+use Rattle.ion_streams.proofs.Unfailed.{StandsHeard, StandsHeardSince}
 use Rattle.ion_streams.proofs.comparison.compare_places.Given as goal
 
 abbrev pub invariant-loop-left_place : goal.invariant-loop-left_place
@@ -18,6 +19,8 @@ invariant-loop-left_place g l = record {
   right_asked : g.R.Inlet.calls_made l.right + reads_of l.right_place ≤ g.R.Inlet.calls_made l.fn.right + reads_of l.fn.right_place;
   left_handed : length (g.L.Inlet.handed l.left) + 4096 * reads_of l.left_place ≤ length (g.L.Inlet.handed l.fn.left) + 4096 * reads_of l.fn.left_place;
   right_handed : length (g.R.Inlet.handed l.right) + 4096 * reads_of l.right_place ≤ length (g.R.Inlet.handed l.fn.right) + 4096 * reads_of l.fn.right_place;
+  left_heard : StandsHeard g.I.Items g.L.Inlet l.left_place l.left;
+  right_heard : StandsHeardSince g.J.Items g.R.Inlet l.right_place l.fn.right l.right;
   bound : count_of l.course + work_of g.I.Items l.left_place + work_of g.J.Items l.right_place ≤ 2 * (8193 * 2 ^ 32 + 1);
   open_still : IsOpen l.left_place ⊎ IsOpen l.right_place;
   stood : (left_catalog right_catalog : Catalog) (left_limits right_limits : Limits)

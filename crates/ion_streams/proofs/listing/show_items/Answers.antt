@@ -1,4 +1,4 @@
-use Rattle.std.proofs.Common.{◌≡◌, ◌+◌, ◌++◌, ◌∷◌, [], length-append, true, false, inl, arith, refl, ap, sym, subst, ◌∙◌, ℕ, option_to_list}
+use Rattle.std.proofs.Common.{inr, ◌≡◌, ◌+◌, ◌++◌, ◌∷◌, [], length-append, true, false, inl, arith, refl, ap, sym, subst, ◌∙◌, ℕ, option_to_list}
 use Rattle.ion_model.specs.Outlines.{outline_of}
 use Rattle.ion_symtab.specs.Took.{Took, TookFront}
 use Rattle.ion_symtab.specs.laws.Took.{Took-nil, Took-trans, Took-kept, Front-all, Front-behind}
@@ -6,6 +6,7 @@ use Rattle.ion_streams.specs.reading.Read.{left_of}
 use Rattle.ion_streams.specs.Listing.{lines_of, accepted_line, in_reading, at_refusal, at_end}
 use Rattle.std.proofs.lemmas.Result.{err_from_is_err_and}
 use Rattle.ion_streams.proofs.Pieces.{between_nil}
+use Rattle.ion_streams.proofs.Unfailed.{asks_begun}
 use Rattle.ion_streams.proofs.Steps.{reads_begun, ready_begun, within_begun, gave_so_far, refused_plain, reads_more, stood_last, stood_ended, length_more, on_err}
 use Rattle.ion_streams.proofs.Fronts.{line_alone, front_next, wrote_next, so_far}
 use Rattle.ion_streams.proofs.listing.show_items.Goals as goal
@@ -21,6 +22,7 @@ loop-text-init g c =
       bound = omega (arith, new.reads, new.nothing.0, new.nothing.1);
       asked = omega (arith, new.reads);
       handed = omega (arith, new.reads);
+      heard = record { either = inr (asks_begun g.I.Items source c.args.items (g.met.I.Items.not_failed c.args.items [] [] fresh.stood) fresh.owes new.items new.nothing) };
       within = within_begun g.R.Inlet c.args.reader.now source c.args.reads new.reads;
       reads = (
         [],
@@ -67,6 +69,7 @@ loop-text-preserved g c =
       bound = omega (arith, bound, less);
       asked = omega (arith, asked, next.few_calls);
       handed = omega (arith, handed, next.few_octets);
+      heard = record { either = inl (next.no_read_failed i.heard) };
       within = (rw c.in-Value.is at next.within) c.args.reader.now c.args.reads i.within;
       reads = (
         r.0 ++ on.0 ∷ [],

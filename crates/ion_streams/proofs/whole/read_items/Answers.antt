@@ -1,6 +1,7 @@
-use Rattle.std.proofs.Common.{◌++◌, [], arith, sym, option_to_list}
+use Rattle.std.proofs.Common.{inl, inr, ◌++◌, [], arith, sym, option_to_list}
 use Rattle.std.proofs.lemmas.Result.{err_from_is_err_and}
 use Rattle.ion_streams.proofs.Pieces.{between_nil}
+use Rattle.ion_streams.proofs.Unfailed.{asks_begun}
 use Rattle.ion_streams.proofs.Steps.{reads_begun, ready_begun, within_begun, refused_plain, reads_next, stood_last, stood_ended}
 use Rattle.ion_streams.proofs.whole.read_items.Goals as goal
 
@@ -13,6 +14,7 @@ loop-values-init g c =
       ready = ready_begun g.I.Items source c.args.items (g.met.I.Items.counted c.args.items [] [] fresh.stood) fresh.awaited new.items new.nothing new.piece (omega (arith, new.reads));
       asked = omega (arith, new.reads);
       handed = omega (arith, new.reads);
+      heard = record { either = inr (asks_begun g.I.Items source c.args.items (g.met.I.Items.not_failed c.args.items [] [] fresh.stood) fresh.owes new.items new.nothing) };
       within = within_begun g.R.Inlet c.args.reader.now source c.args.reads new.reads;
       reads = rw c.new-values.ensures.items
           (reads_begun g.R.Inlet g.I.Items c.args.reader.now source c.args.items fresh.stood new.items
@@ -35,6 +37,7 @@ loop-values-preserved g c =
       ready = rw c.in-Value.is at next.ready;
       asked = omega (arith, asked, next.few_calls);
       handed = omega (arith, handed, next.few_octets);
+      heard = record { either = inl (next.no_read_failed i.heard) };
       within = (rw c.in-Value.is at next.within) c.args.reader.now c.args.reads i.within;
       reads = rw c.in_ok-keep_next-in-Value.ensures.more
           (reads_next g.R.Inlet g.I.Items _ _ _ _ _ c.loop-values.source c.read_on.new.self values c.in-Value.value i.reads (rw c.in-Value.is at (next.gives _ _ _ i.reads.given i.reads.each)));

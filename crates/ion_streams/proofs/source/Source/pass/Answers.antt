@@ -3,6 +3,7 @@ use Rattle.ion_streams.specs.Formats.{format_of}
 use Rattle.ion_streams.specs.reading.Read.{left_of}
 use Rattle.ion_streams.proofs.Pieces.{went, begins_drop}
 use Rattle.ion_streams.proofs.Endings.{refused_early}
+use Rattle.ion_streams.proofs.Unfailed.{none_there, none_failed}
 use Rattle.ion_streams.proofs.source.Source.pass.Goals as goal
 
 pub returns-in-Err-clause-refuses : goal.returns-in-Err-clause-refuses
@@ -39,3 +40,17 @@ returns-in-Ok-clause-ready g c =
       begins = begins_drop (g.I.Items.awaits c.pass.new.self) c.args.self.now.piece.items c.args.self.now.at c.args.self.now.end c.in-Ok.field-0.used fits (rw c.deref.ensures.value at c.in-Ok.ensures.awaited);
       counted = omega (arith, ready.counted, taken);
     }
+
+pub returns-in-Ok-clause-nothing : goal.returns-in-Ok-clause-nothing
+returns-in-Ok-clause-nothing g c = λ asks.
+    let used = c.in-Ok.ensures.used in
+    let fits : c.in-Ok.field-0.used ≤ c.args.self.now.end - c.args.self.now.at = omega (arith, used, length-take {A = ℕ}, length-drop {A = ℕ}) in
+    none_there c.in-Ok.field-0.outline (λ some. let less = c.in-Ok.ensures.progress some in let owes = asks.owes in let used_up = asks.used_up in absurd (omega (arith, less, owes, used_up, fits)))
+
+pub returns-in-Err-clause-none_refused : goal.returns-in-Err-clause-none_refused
+returns-in-Err-clause-none_refused g c = λ other asks.
+    let within = c.in-Err.ensures.within other (none_failed (g.I.Items.failed c.args.self.now.items) asks.not_failed) in
+    let used_up = asks.used_up in
+    let from = within.0 in
+    let to = within.1 in
+    absurd (omega (arith, from, to, used_up, length-take {A = ℕ}, length-drop {A = ℕ}))

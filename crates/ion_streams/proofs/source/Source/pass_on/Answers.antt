@@ -1,9 +1,10 @@
-use Rattle.std.proofs.Common.{rules, ◌≢◌, false, arith}
+use Rattle.std.proofs.Common.{inl, inr, rules, ◌≢◌, false, arith}
 use Rattle.ion_atoms.specs.declared.refusal.Reason.TheVariants as reasons
 use Rattle.std.proofs.lemmas.Result.{err_from_is_err_and}
 use Rattle.ion_streams.specs.reading.Read.{left_of}
 use Rattle.ion_streams.proofs.Steps.{gave_so_far, reads_none, reads_failed, within_kept, on_err}
 use Rattle.ion_streams.proofs.Passes.{none_went, passes_on}
+use Rattle.ion_streams.proofs.Unfailed.{was_asked, gave_some}
 use Rattle.ion_streams.proofs.source.Source.pass_on.Goals as goal
 
 pub returns-in-Err-Memory-clause-kept : goal.returns-in-Err-Memory-clause-kept
@@ -62,6 +63,8 @@ loop-refusal-preserved g c =
       less = omega (arith, less, t.pending, f.less (search rules));
       asked = omega (arith, asked, t.reads, f.few_calls);
       handed = omega (arith, handed, t.reads, f.few_octets);
+      unasked = record { either = inr f.no_read_failed };
+      heard = λ h. record { either = inl f.no_read_failed };
       within = λ first reads h. f.within (search rules) first reads (within_kept g.R.Inlet reads first c.loop-refusal.reader from mid t.reads (i.within first reads h));
       reads = λ catalog limits first given h.
           f.goes_on (search rules) catalog limits first given (reads_none g.R.Inlet g.I.Items catalog limits first c.loop-refusal.reader from mid given (i.reads catalog limits first given h) gives t.catalog t.limits);
@@ -76,3 +79,12 @@ returns-then-not-branch-clause-gives g c =
     let gives = none_went g.I.Items from mid _ c.in-Ok-None.field-0-is t.gives in
     λ catalog limits first given h.
     c.in_ok-refill.ensures.ends (search rules) catalog limits first given (reads_none g.R.Inlet g.I.Items catalog limits first c.loop-refusal.reader from mid given (i.reads catalog limits first given h) gives t.catalog t.limits)
+
+pub returns-in-Ok-Some-clause-no_read_failed : goal.returns-in-Ok-Some-clause-no_read_failed
+returns-in-Ok-Some-clause-no_read_failed g c = λ h.
+    gave_some g.R.Inlet g.I.Items c.loop-refusal.reader c.loop-refusal.self _ c.in-Ok-Some.outline c.in-Ok-Some.field-0-is c.in-Ok-Some.ensures.nothing (c.loop-refusal.invariant.heard h)
+
+pub returns-in-Err-clause-no_read_failed : goal.returns-in-Err-clause-no_read_failed
+returns-in-Err-clause-no_read_failed g c =
+    let other : c.in-Err.refusal.reason ≢ reasons.Memory = search rules in
+    λ h. was_asked g.R.Inlet g.I.Items c.loop-refusal.reader c.loop-refusal.self (c.in-Err.ensures.none_refused other) (c.loop-refusal.invariant.heard h)

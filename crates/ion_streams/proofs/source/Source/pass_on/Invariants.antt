@@ -2,7 +2,7 @@ use Rattle.std.proofs.Common.{◌+◌, ◌≤◌, ℕ, List, length, ◌*◌}
 use Rattle.ion_model.specs.declared.value.Value.{Value}
 use Rattle.ion_symtab.specs.declared.catalog.Catalog.{Catalog}
 use Rattle.ion_symtab.specs.declared.limits.Limits.{Limits}
-use Rattle.ion_streams.specs.reading.Read.{IsReady, IsWithin, work, ReadsEach}
+use Rattle.ion_streams.specs.reading.Read.{IsReady, NoneFailed, NoReadFailed, IsWithin, work, ReadsEach}
 use Rattle.ion_streams.proofs.source.Source.pass_on.Given as goal
 
 -- nothing was given yet
@@ -12,6 +12,8 @@ invariant-loop-refusal g l = record {
   less : work g.I.Items l.self ≤ work g.I.Items l.fn.self;
   asked : g.R.Inlet.calls_made l.reader + l.self.reads ≤ g.R.Inlet.calls_made l.fn.reader + l.fn.self.reads;
   handed : length (g.R.Inlet.handed l.reader) + 4096 * l.self.reads ≤ length (g.R.Inlet.handed l.fn.reader) + 4096 * l.fn.self.reads;
+  unasked : NoReadFailed g.R.Inlet l.fn.reader l.reader;
+  heard : NoneFailed g.R.Inlet g.I.Items l.fn.reader l.fn.self → NoneFailed g.R.Inlet g.I.Items l.reader l.self;
   within : (first : g.row.R.Denot) (reads : ℕ) → IsWithin g.R.Inlet reads first l.fn.reader l.fn.self → IsWithin g.R.Inlet reads first l.reader l.self;
   reads : (catalog : Catalog) (limits : Limits) (first : g.row.R.Denot) (given : List (Value × ℕ)) → ReadsEach g.R.Inlet g.I.Items catalog limits first l.fn.reader l.fn.self given
       → ReadsEach g.R.Inlet g.I.Items catalog limits first l.reader l.self given;

@@ -123,3 +123,13 @@ returns-in_ok-close-in-End-clause-fewer_octets g c =
 
 pub returns-in_ok-close-in-End-clause-few_octets : goal.returns-in_ok-close-in-End-clause-few_octets
 returns-in_ok-close-in-End-clause-few_octets g c = let few = c.in_ok-value-in-Open.ensures.few_octets in rw c.in-Open.is (omega (arith, few))
+
+-- the reads that failed
+pub returns-in-Value-clause-no_read_failed : goal.returns-in-Value-clause-no_read_failed
+returns-in-Value-clause-no_read_failed g c = rw c.in-Open.is c.in_ok-value-in-Open.ensures.no_read_failed
+
+pub returns-in-Refused-2-clause-no_read_failed : goal.returns-in-Refused-2-clause-no_read_failed
+returns-in-Refused-2-clause-no_read_failed g c = rw c.in-Open.is c.in_ok-value-in-Open.ensures.no_read_failed
+
+pub returns-in_ok-close-in-End-clause-no_read_failed : goal.returns-in_ok-close-in-End-clause-no_read_failed
+returns-in_ok-close-in-End-clause-no_read_failed g c = rw c.in-Open.is c.in_ok-value-in-Open.ensures.no_read_failed

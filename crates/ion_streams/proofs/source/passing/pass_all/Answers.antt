@@ -1,4 +1,4 @@
-use Rattle.std.proofs.Common.{ℕ, ◌+◌, ◌∷◌, ◌++◌, [], length-append, ◌∙◌, arith, ap}
+use Rattle.std.proofs.Common.{inl, ℕ, ◌+◌, ◌∷◌, ◌++◌, [], length-append, ◌∙◌, arith, ap}
 use Rattle.ion_streams.proofs.Passes.{passes_refused, passes_end}
 use Rattle.ion_streams.proofs.source.passing.pass_all.Goals as goal
 
@@ -15,6 +15,7 @@ loop-source-preserved g c =
       bound = omega (arith, bound, less);
       asked = omega (arith, asked, c.in_ok-pass_on.ensures.few_calls);
       handed = omega (arith, handed, c.in_ok-pass_on.ensures.few_octets);
+      heard = λ h. record { either = inl (on.no_read_failed (i.heard h)) };
       within = λ first reads h. (rw c.in-Value.is at on.within) first reads (i.within first reads h);
       reads = λ catalog limits first h.
           let r = i.reads catalog limits first h in

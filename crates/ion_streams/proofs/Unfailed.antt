@@ -1,0 +1,99 @@
+-- Reads of a device that were all answered.
+use Rattle.std.proofs.Common.{◌≡◌, ◌⊎◌, ◌+◌, inl, inr, ap, sym, ◌∙◌, arith, false, Option, Some, None, IsNone, IsSome, Result, Ok, Err, OnOk, refl}
+use Rattle.ion_model.specs.declared.value.Value.{Value}
+use Rattle.ion_symtab.specs.declared.inlet.Inlet.{Ghosts as Inlet}
+use Rattle.ion_symtab.specs.declared.items.Items.{Ghosts as Items}
+use Rattle.ion_streams.specs.reading.Alongside.{WentPast, StandingPast}
+use Rattle.ion_streams.specs.reading.Read.{HasToAsk, NoneFailed, NoReadFailed}
+use Rattle.ion_streams.specs.reading.Standing.{IfOpen, StandsUnread}
+use Rattle.ion_streams.specs.declared.source.Source.{Source}
+use Rattle.ion_streams.specs.declared.source.Standing.{Standing}
+use Rattle.ion_streams.specs.declared.source.Standing.TheVariants.{Open, Ended, Refused}
+
+pub on_ok : {A E : Type 0} (result : Result A E) (P : Type 0) → P → OnOk result P
+on_ok (Ok a) P p = p
+on_ok (Err e) P p = tt
+
+pub none_there : {A : Type 0} (found : Option A) → (IsSome found → ⊥) → found ≡ None
+none_there None h = refl
+none_there (Some v) h = absurd (h refl)
+
+pub none_failed : {A : Type 0} (failed : Option A) → failed ≡ None → IsNone failed
+none_failed None h = refl
+none_failed (Some r) h = absurd cc
+
+module _ {S X : Type 0} (R : Inlet S) (I : Items X) (now : S) where
+  -- something came of the document
+  pub was_asked : (source : Source X) → (HasToAsk I source → ⊥) → NoneFailed R I now source → R.has_failed now ≡ false
+  was_asked source came h = go h.either
+    where
+      go : (R.has_failed now ≡ false) ⊎ HasToAsk I source → R.has_failed now ≡ false
+      go (inl fine) = fine
+      go (inr asks) = absurd (came asks)
+
+  pub gave_some : {A : Type 0} (source : Source X) (found : Option A) (v : A) → found ≡ Some v → (HasToAsk I source → found ≡ None) → NoneFailed R I now source → R.has_failed now ≡ false
+  gave_some source found v is nothing h = was_asked source (λ asks. let none = sym is ∙ nothing asks in absurd cc) h
+
+module _ {X : Type 0} (I : Items X) where
+  pub asks_begun : (source : Source X) (items : X) → I.failed items ≡ None → I.pending items ≡ 0 → source.items ≡ items → (source.at ≡ 0) × (source.end ≡ 0) × (source.used ≡ 0) → HasToAsk I source
+  asks_begun source items fine owes same empty =
+      record { used_up = empty.0 ∙ sym empty.1; owes = ap (λ x. I.pending x) same ∙ owes; not_failed = ap (λ x. I.failed x) same ∙ fine }
+
+  -- where it stands, its device has to be asked first, or no read has failed
+  pub record StandsHeard {S : Type 0} (R : Inlet S) (place : Standing X) (now : S) : Type 0 where
+    pub either : (StandsUnread I place) ⊎ (R.has_failed now ≡ false)
+
+  -- the same of a device that isn't asked before the first value is sought
+  pub record StandsHeardSince {S : Type 0} (R : Inlet S) (place : Standing X) (first now : S) : Type 0 where
+    pub either : (StandsUnread I place × (now ≡ first)) ⊎ (R.has_failed now ≡ false)
+
+  -- a document that has to ask doesn't go past a value
+  pub past_asked : (before after : Source X) (v : Value) → WentPast I before after v → HasToAsk I before → ⊥
+  past_asked before after v past asks =
+      let less = past.less in
+      let same = past.reads in
+      let owes = asks.owes in
+      let used_up = asks.used_up in
+      absurd (omega (arith, less, same, owes, used_up))
+
+  pub past_unread : (place after : Standing X) (v : Value) → StandingPast I place after v → StandsUnread I place → ⊥
+  past_unread (Open before) (Open after) v past asks = past_asked before after v past asks
+  past_unread (Open before) Ended v past asks = past
+  past_unread (Open before) (Refused r) v past asks = past
+  past_unread Ended after v past asks = past
+  past_unread (Refused r) after v past asks = past
+
+  -- where a document is read on, and its device hasn't failed or has to be asked first
+  pub stands_heard : {S : Type 0} (R : Inlet S) (old now : S) (place : Standing X) → StandsHeard R place old → NoReadFailed R old now →
+      IfOpen place (λ source. NoneFailed R I old source → R.has_failed now ≡ false) → R.has_failed now ≡ false
+  stands_heard R old now place h unasked answered = go place h.either unasked.either answered
+    where
+      go : (place : Standing X) → (StandsUnread I place) ⊎ (R.has_failed old ≡ false) → (now ≡ old) ⊎ (R.has_failed now ≡ false) → IfOpen place (λ source. NoneFailed R I old source → R.has_failed now ≡ false) → R.has_failed now ≡ false
+      go place h (inr fine) answered = fine
+      go place (inr fine) (inl same) answered = ap (λ x. R.has_failed x) same ∙ fine
+      go (Open source) (inl asks) (inl same) answered = answered (record { either = inr asks })
+      go Ended (inl asks) (inl same) answered = absurd asks
+      go (Refused r) (inl asks) (inl same) answered = absurd asks
+
+  -- it went past a value, so that it had asked
+  pub heard_past : {S : Type 0} (R : Inlet S) (now : S) (place after : Standing X) (v : Value) → StandingPast I place after v → StandsHeard R place now → R.has_failed now ≡ false
+  heard_past R now place after v past h = go h.either
+    where
+      go : (StandsUnread I place) ⊎ (R.has_failed now ≡ false) → R.has_failed now ≡ false
+      go (inl asks) = absurd (past_unread place after v past asks)
+      go (inr fine) = fine
+
+  -- the same of a device that wasn't asked at all
+  pub heard_alone : {S : Type 0} (R : Inlet S) (place : Standing X) (first now : S) → StandsHeardSince R place first now → StandsHeard R place now
+  heard_alone R place first now h = record { either = go h.either }
+    where
+      go : (StandsUnread I place × (now ≡ first)) ⊎ (R.has_failed now ≡ false) → (StandsUnread I place) ⊎ (R.has_failed now ≡ false)
+      go (inl both) = inl both.0
+      go (inr fine) = inr fine
+
+  pub heard_since : {S : Type 0} (R : Inlet S) (place : Standing X) (first now : S) → StandsHeardSince R place first now → (now ≡ first) ⊎ (R.has_failed now ≡ false)
+  heard_since R place first now h = go h.either
+    where
+      go : (StandsUnread I place × (now ≡ first)) ⊎ (R.has_failed now ≡ false) → (now ≡ first) ⊎ (R.has_failed now ≡ false)
+      go (inl both) = inl both.1
+      go (inr fine) = inr fine
