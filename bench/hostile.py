@@ -159,6 +159,21 @@ def backward_names(count):
     return many_names(count, True)
 
 
+def two_lines(count, last=1):
+    """Values whose first lines are the same; the last octets may tell them apart."""
+    value = b"[\n" + b"abc," * 200 + b"%d]\n" % last
+    return value * (count * 10 // len(value))
+
+
+def ending_in_an_id(count):
+    value = b"[" + b"abc," * 200 + b"$4]\n"
+    return value * (count * 10 // len(value))
+
+
+def empty_lists(count):
+    return b"[] " * count
+
+
 def symbols(count):
     """A list of symbols, in text."""
     return b"[" + b",".join(b"a" + name.encode() for name in names(count)) + b"]"
@@ -256,6 +271,9 @@ CASES = [
     ("many names, to binary", "convert A --to binary", [many_names], MILLION, LARGE),
     ("many names, compared", "compare A B", [many_names, many_names], MILLION, LARGE),
     ("many names, the other way round", "compare A B", [many_names, backward_names], MILLION, LARGE),
+    ("texts that part in the last octets of each value", "compare A B", [two_lines, lambda count: two_lines(count, 2)], MILLION, LARGE),
+    ("equal texts that end in what isn't passed over", "compare A B", [ending_in_an_id, ending_in_an_id], MILLION, LARGE),
+    ("small equal texts on one line", "compare A B", [empty_lists, empty_lists], MILLION, LARGE),
     ("symbols, to binary", "convert A --to binary", [symbols], MILLION, LARGE),
     ("colliding symbols, to binary", "convert A --to binary", [colliding], MILLION, LARGE),
     ("appended tables", "check A", [tables], MILLION, LARGE),

@@ -2,7 +2,7 @@
 use crate::doc_reader::{DocReader, Format};
 use ion_streams::Alike;
 
-/// Values of two binary documents are seen to be the same where they lie.
+/// Values of two documents of one encoding are seen to be the same where they lie.
 pub(crate) struct SideBySide;
 
 impl<'a> Alike<DocReader<'a>, DocReader<'a>> for SideBySide {
@@ -14,6 +14,9 @@ impl<'a> Alike<DocReader<'a>, DocReader<'a>> for SideBySide {
     ) -> Option<(usize, usize)> {
         match (&mut left.format, &mut right.format) {
             (Format::Binary(reader), Format::Binary(other)) => {
+                reader.pass_alike(piece, other, beside)
+            }
+            (Format::Text(reader), Format::Text(other)) => {
                 reader.pass_alike(piece, other, beside)
             }
             _ => None,

@@ -22,4 +22,6 @@ pub mod Walking
 pub mod Keywords
 pub mod Notes
 pub mod Tops
+pub mod Elsewhere
+pub mod Alikes
 pub mod Calls

@@ -9,3 +9,4 @@ pub mod Progress
 pub mod AtOnce
 pub mod Nested
 pub mod Walked
+pub mod Alike

@@ -13,6 +13,7 @@ use std::alloc::Global;
 use std::fmt::{self, Debug, Formatter};
 use std::mem;
 
+mod alike;
 mod beside;
 mod closes;
 mod ends;

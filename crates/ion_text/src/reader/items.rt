@@ -51,7 +51,7 @@ impl<'a> TextReader<'a> {
 
 impl TextReader<'_> {
     /// The refusal that each call answers, if one came.
-    fn failure(&self) -> Option<Refusal>
+    pub(super) fn failure(&self) -> Option<Refusal>
         ensures { result ≡ failed self.now }
     {
         match self.failed {

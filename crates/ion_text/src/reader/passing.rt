@@ -17,7 +17,7 @@ use ion_model::Outline;
 use ion_tokens::{Rest, blanks};
 
 // Octets up to so many.
-fn up_to(octets: &[u8], most: u64) -> &[u8]
+pub(super) fn up_to(octets: &[u8], most: u64) -> &[u8]
     ensures { result.now ≡ take (min (length octets.now) most) octets.now }
 {
     if (octets.len() as u64) < most {
@@ -29,7 +29,7 @@ fn up_to(octets: &[u8], most: u64) -> &[u8]
 
 impl TextReader<'_> {
     /// Where the scanner rests, if no item is open and no octet is awaited.
-    fn fresh_rest(&self) -> Option<Rest>
+    pub(super) fn fresh_rest(&self) -> Option<Rest>
         ensures { IfSome result (λ rest. IsFresh self.now rest) }
     {
         match (self.frames.last(), &self.stage, self.awaited) {

@@ -1,0 +1,26 @@
+-- What is found of two pieces that begin with the same item.
+use Rattle.std.specs.Prelude.{◌≡◌, ◌≤◌, ℕ, List, length}
+use Rattle.ion_model.specs.declared.value.Value.{Value}
+use Rattle.ion_tokens.specs.declared.whole.Rest.{Rest}
+use Rattle.ion_tokens.specs.machine.Rests.{past_blank, IsPassed}
+use Rattle.ion_text.specs.declared.reader.TextReader.{TextReader}
+use Rattle.ion_text.specs.declared.reader.walks.Tally.{Tally}
+use Rattle.ion_text.specs.machine.Walked.{IsFresh, WalkedTop}
+
+-- an item may begin at the front of a piece behind a blank of so many octets, where the scanner rests
+pub record IsFront (r : TextReader) (piece : List ℕ) (blank : ℕ) (behind : Rest) : Type 0 where
+  pub before : Rest
+  pub fresh : IsFresh r before
+  pub within : blank ≤ length piece
+  pub few : blank ≤ r.limits.item
+  pub passed : IsPassed piece blank
+  pub rests : behind ≡ past_blank before blank
+
+-- octets at the top level begin with an item of at most so many levels, which gives this value with the last of so many
+pub record IsTop (level : ℕ) (octets : List ℕ) (count : ℕ) (before after : Rest) (v : Value) : Type 0 where
+  pub first : Tally
+  pub last : Tally
+  pub walked : WalkedTop level octets count first last
+  pub begins : first.rest ≡ before
+  pub ends : last.rest ≡ after
+  pub gives : walked.value ≡ v
