@@ -1,11 +1,11 @@
 -- Which octet decides that no document begins so, or what the end decides, and why, for the reasons that symbols, symbol tables, versions
 -- and levels give: for each of these rows of docs/FORMAT.md, "Values in text", the constructors of `Gives` that stand under it. A row says
 -- which tokens the octets are (whole pieces of the grammar, then those of an open item), and what shows it. Nothing here speaks of reading.
-use Rattle.std.specs.Prelude.{◌≡◌, ◌≢◌, ◌⊎◌, ◌≤◌, ℕ, Bool, true, false, List, [], ◌∷◌, ◌++◌, length, Option, Err, codes}
+use Rattle.std.specs.Prelude.{◌≡◌, ◌≢◌, ◌⊎◌, ◌+◌, ◌≤◌, ℕ, suc, Bool, true, false, ◌&&◌, List, [], ◌∷◌, ◌++◌, length, map, Option, Err, codes}
 use Rattle.ion_model.specs.declared.value.Value.{Value}
 use Rattle.ion_model.specs.declared.value.Field.{Field}
 use Rattle.ion_model.specs.declared.value.Payload.TheVariants as payloads
-use Rattle.ion_model.specs.Measures.{annotated}
+use Rattle.ion_model.specs.Measures.{depth, annotated, greatest}
 use Rattle.ion_model.specs.Kinds.{is_table}
 use Rattle.ion_atoms.specs.declared.kind.Kind.{Kind}
 use Rattle.ion_atoms.specs.declared.refusal.Reason.{Reason}
@@ -20,7 +20,7 @@ use Rattle.ion_tokens.specs.declared.mode.Place.TheVariants as places
 use Rattle.ion_tokens.specs.declared.mode.Mark.TheVariants as marks
 use Rattle.ion_tokens.specs.Bodies.{Content, Word, Id, TypedNull, Mark'}
 use Rattle.ion_tokens.specs.Lexed.{Placed, LexesTo}
-use Rattle.ion_text.specs.Grammar.{Says, Annotations, IsName, Means, Elements, Row, Members, Pieces, BlankThen, is_keyword, is_version, the_marker}
+use Rattle.ion_text.specs.Grammar.{Says, Annotations, IsName, Means, Elements, Row, Members, Pieces, BlankThen, ends_long, begins_as_long, is_keyword, is_version, the_marker}
 
 -- 1. What stands open.
 
@@ -48,20 +48,24 @@ abbrev pub TakesValue : List Container → Type 0
 TakesValue (InStruct ∷ ks) = ⊥
 TakesValue _ = Unit {0}
 
+-- what has come of a container with values as deep as this, in these containers, is within the limit
+abbrev pub MayGoSoDeep : Limits → List Container → ℕ → Type 0
+MayGoSoDeep l ks deepest = deepest + suc (length ks) ≤ l.depth
+
 -- the tokens of an item, behind which these containers stand open, the innermost first
-pub data Open (c : List Slot) : List Container → List Placed → Type 0 where
-  none_open : Open c [] []
+pub data Open (l : Limits) (c : List Slot) : List Container → List Placed → Type 0 where
+  none_open : Open l c [] []
   list_open : (ks : List Container) (ts notes us : List Placed) (ss : List (Option (List ℕ))) (t : Placed) (vs : List Value)
-      → Open c ks ts → TakesValue ks → Annotations c (place_of ks) notes ss → Says (place_of ks) t (Mark' marks.ListOpen) → Elements c us vs true
-      → Open c (InList ∷ ks) (ts ++ (notes ++ t ∷ us))
+      → Open l c ks ts → TakesValue ks → Annotations c (place_of ks) notes ss → Says (place_of ks) t (Mark' marks.ListOpen) → Elements c us vs true
+      → MayGoSoDeep l ks (greatest (map depth vs)) → Open l c (InList ∷ ks) (ts ++ (notes ++ t ∷ us))
   sexp_open : (ks : List Container) (ts notes us : List Placed) (ss : List (Option (List ℕ))) (t : Placed) (vs : List Value)
-      → Open c ks ts → TakesValue ks → Annotations c (place_of ks) notes ss → Says (place_of ks) t (Mark' marks.SexpOpen) → Row c us vs
-      → Open c (InSexp ∷ ks) (ts ++ (notes ++ t ∷ us))
+      → Open l c ks ts → TakesValue ks → Annotations c (place_of ks) notes ss → Says (place_of ks) t (Mark' marks.SexpOpen) → Row c us vs
+      → MayGoSoDeep l ks (greatest (map depth vs)) → Open l c (InSexp ∷ ks) (ts ++ (notes ++ t ∷ us))
   struct_open : (ks : List Container) (ts notes us : List Placed) (ss : List (Option (List ℕ))) (t : Placed) (ms : List Field)
-      → Open c ks ts → TakesValue ks → Annotations c (place_of ks) notes ss → Says (place_of ks) t (Mark' marks.FieldsOpen) → Members c us ms true
-      → Open c (InStruct ∷ ks) (ts ++ (notes ++ t ∷ us))
+      → Open l c ks ts → TakesValue ks → Annotations c (place_of ks) notes ss → Says (place_of ks) t (Mark' marks.FieldsOpen) → Members c us ms true
+      → MayGoSoDeep l ks (greatest (map (λ f. depth f.value) ms)) → Open l c (InStruct ∷ ks) (ts ++ (notes ++ t ∷ us))
   named : (ks : List Container) (ts ns : List Placed) (s : Option (List ℕ)) (colon : Placed)
-      → Open c (InStruct ∷ ks) ts → IsName c ns s → Says places.Name colon (Mark' marks.Colon) → Open c (InField ∷ ks) (ts ++ (ns ++ colon ∷ []))
+      → Open l c (InStruct ∷ ks) ts → IsName c ns s → Says places.Name colon (Mark' marks.Colon) → Open l c (InField ∷ ks) (ts ++ (ns ++ colon ∷ []))
 
 -- annotations may stand before a value, and none before a name
 abbrev pub MayNote : List Container → List Placed → Type 0
@@ -69,7 +73,7 @@ MayNote (InStruct ∷ ks) notes = notes ≡ []
 MayNote _ notes = Unit {0}
 
 -- The tokens are whole pieces, behind which the slots are c, and an open item of which these containers stand open, where this token comes
--- next and says this: a value or a name begins with it, or annotations stand before it.
+-- next and says this: a value or a name begins with it, or annotations stand before it. An item doesn't go on with a long string before it.
 pub record Comes (g : Catalog) (l : Limits) (c : List Slot) (ks : List Container) (said : Content) (ts : List Placed) : Type 0 where
   pub front : List Placed
   pub item : List Placed
@@ -79,9 +83,10 @@ pub record Comes (g : Catalog) (l : Limits) (c : List Slot) (ks : List Container
   pub symbols : List (Option (List ℕ))
   pub parts : ts ≡ front ++ ((item ++ notes) ++ token ∷ [])
   pub pieces : Pieces g l front values c
-  pub open' : Open c ks item
+  pub open' : Open l c ks item
   pub noted : Annotations c (place_of ks) notes symbols
   pub may : MayNote ks notes
+  pub apart : (ends_long front && begins_as_long (item ++ notes)) ≡ false
   pub says : Says (place_of ks) token said
 
 -- the tokens are whole pieces, behind which the slots are c, and this value
@@ -92,6 +97,8 @@ pub record Ends (g : Catalog) (l : Limits) (c : List Slot) (v : Value) (ts : Lis
   pub parts : ts ≡ front ++ item
   pub pieces : Pieces g l front values c
   pub means : Means c places.Top item v
+  pub deep : depth v ≤ l.depth
+  pub apart : (ends_long front && begins_as_long item) ≡ false
 
 -- 2. What the octets show.
 
@@ -107,11 +114,12 @@ pub record NoColons (u : List ℕ) (ts : List Placed) : Type 0 where
   pub before : (more : List ℕ) × BlankThen (codes "::") (rest ++ more)
   pub after : (more : List ℕ) → BlankThen (codes "::") (rest ++ o ∷ more) → ⊥
 
--- behind the tokens `::` may yet follow
+-- behind the tokens `::` may yet follow, and hasn't
 pub record AwaitsColons (u : List ℕ) (ts : List Placed) : Type 0 where
   pub rest : List ℕ
   pub are : Are u ts rest
   pub before : (more : List ℕ) × BlankThen (codes "::") (rest ++ more)
+  pub after : BlankThen (codes "::") rest → ⊥
 
 -- what shows that the last of the tokens has ended: an octet, or the end of the input
 pub record Sight : Type 1 where

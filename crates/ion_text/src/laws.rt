@@ -3,6 +3,7 @@
 //! proved to answer what they say.
 ghost use Rattle.std.specs.Prelude.{◌≡◌, ◌↔◌, ◌≤◌, ◌++◌, ◌⊎◌, ℕ, Bool, List, [], ◌∷◌, length, take, codes, Some, None, Ok, Err};
 ghost use Rattle.ion_model.specs.declared.value.Value.{Value};
+ghost use Rattle.ion_atoms.specs.declared.refusal.Reason.{Reason};
 ghost use Rattle.ion_atoms.specs.declared.refusal.Refusal.{Refusal};
 ghost use Rattle.ion_model.specs.Kept.{AreKept};
 ghost use Rattle.ion_model.specs.Measures.{nodes};
@@ -151,12 +152,18 @@ pub fn first_refused()
 
 /// Where an octet is refused for a symbol, a symbol table, a version or a level, the octets up to it are such as
 /// the table of the format names for that reason, and the last of them shows it (`octet`). Where the end refuses
-/// for one of these reasons, they are all the octets, and the end shows it (`end`).
+/// for one of these reasons, they are all the octets, and the end shows it (`end`). Where the first octets are such
+/// as the table names, the last of them is refused, or one before it (`refuses`). Where all are such as the end
+/// shows, it refuses (`ends`).
 pub fn deciding()
     ensures octet { (g : List Table) (l : Limits) (u : List ℕ) (r : Refusal) →
         (trace g l u).refused ≡ Some r → HasRow r.reason → Decides g l (take r.offset u) r.reason }
     ensures end { (g : List Table) (l : Limits) (u : List ℕ) (r : Refusal) → (trace g l u).refused ≡ None →
         (trace g l u).ends ≡ Err r → HasRow r.reason → EndDecides g l u r.reason }
+    ensures refuses { (g : List Table) (l : Limits) (u : List ℕ) (k : ℕ) (e : Reason) → k ≤ length u →
+        Decides g l (take k u) e → (r : Refusal) × ((trace g l u).refused ≡ Some r) × (r.offset ≤ k) }
+    ensures ends { (g : List Table) (l : Limits) (u : List ℕ) (e : Reason) →
+        EndDecides g l u e → (r : Refusal) × ((trace g l u).ends ≡ Err r) }
 {}
 
 /// Worked documents denote their streams, under every catalog and all limits of at least two levels and items

@@ -5,3 +5,10 @@ pub mod Turns
 pub mod Lates
 pub mod Octets
 pub mod AtEnd
+-- Where a row of it stands, octets are refused.
+pub mod Fronts
+pub mod Comings
+pub mod Tokens
+pub mod Waiting
+pub mod Ends
+pub mod Rows

@@ -1,6 +1,7 @@
 use Rattle.ion_text.specs.laws.deciding.AtEnd.{end_deciding}
 use Rattle.ion_text.specs.laws.deciding.Octets as octets
+use Rattle.ion_text.specs.laws.deciding.Rows as rows
 use Rattle.ion_text.proofs.laws.deciding.Goals as goal
 
 pub returns : goal.returns
-returns c = record { octet = octets.deciding; end = end_deciding }
+returns c = record { octet = octets.deciding; end = end_deciding; refuses = rows.refuses; ends = rows.end_refuses }

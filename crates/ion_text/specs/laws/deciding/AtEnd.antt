@@ -55,7 +55,7 @@ lexes_are : (ts : List Placed) (colon : Bool) (before : ℕ) (octets : List ℕ)
 lexes_are [] colon before octets h = (colon, before, octets, (refl, refl, refl))
 lexes_are (t ∷ ts) colon before octets (q, b, h) = let x = lexes_are ts (colon_behind t) t.lexeme.end q h in (x.0, x.1, x.2, (q, b, x.3))
 
-last_ends : (ts : List Placed) (t : Placed) (colon : Bool) (before : ℕ) (octets : List ℕ) (after : Bool) (end : ℕ) (rest : List ℕ) → LexesTo colon before octets (ts ++ t ∷ []) after end rest → t.lexeme.end ≡ end
+pub last_ends : (ts : List Placed) (t : Placed) (colon : Bool) (before : ℕ) (octets : List ℕ) (after : Bool) (end : ℕ) (rest : List ℕ) → LexesTo colon before octets (ts ++ t ∷ []) after end rest → t.lexeme.end ≡ end
 last_ends [] t colon before octets after end rest (q, b, h) = h.1
 last_ends (x ∷ ts) t colon before octets after end rest (q, b, h) = last_ends ts t (colon_behind x) x.lexeme.end q after end rest h
 
@@ -93,6 +93,11 @@ opens_struct _ = false
 opens_is : (c : Content) → opens_struct c ≡ true → c ≡ Mark' marks.FieldsOpen
 opens_is (Mark' marks.FieldsOpen) h = refl
 opens_is _ h = absurd cc
+
+-- nothing is left
+none_then : (w more : List ℕ) → [] ≡ w ++ codes "::" ++ more → ⊥
+none_then [] more e = cc
+none_then (x ∷ w) more e = cc
 
 module _ (g : Catalog) (l : Limits) (u : List ℕ) where
   -- how tokens stand to octets that end with them
@@ -175,7 +180,7 @@ module _ (g : Catalog) (l : Limits) (u : List ℕ) where
         (subst (Waits g l s) e wait) refl
 
     waited : TurnDecided g l (by_end u) (settle g l r)
-    waited = settled_decided g l (by_end u) r.context b.front vs b.pieces r.start b.item r.frames r.notes r.now b.stands awaits
+    waited = settled_decided g l (by_end u) r.context b.front vs b.pieces r.start b.item r.frames r.notes r.now b.first b.stands awaits
 
     -- a token that the end ends
     module _ (x : Lexeme) (e : at_end (place r) s ≡ Ok (Some x)) (c : Content) (k : said x.kind x.octets ≡ Ok c) where
@@ -224,7 +229,7 @@ module _ (g : Catalog) (l : Limits) (u : List ℕ) where
 
       -- behind it `::` may yet follow, where nothing else does
       settles : (t : Turn) → Reads g l AllAre u vs s [] (λ n. Unit {0}) t → Settles t
-      settles (goes m) h = settled_decided g l (by_end u) m.context h.front vs h.pieces m.start h.item m.frames m.notes m.now h.stands (λ y end f top. record { rest = []; are = h.scanned; before = (codes "::", ([], [], blank_none, refl)) })
+      settles (goes m) h = settled_decided g l (by_end u) m.context h.front vs h.pieces m.start h.item m.frames m.notes m.now h.first h.stands (λ y end f top. record { rest = []; are = h.scanned; before = (codes "::", ([], [], blank_none, refl)); after = λ i. none_then i.0 i.1 i.3 })
       settles (gives v m) h = tt
       settles (refuses z) h = tt
       settles (late z m) h = tt
@@ -240,7 +245,7 @@ module _ (g : Catalog) (l : Limits) (u : List ℕ) where
           other : (c ≡ Mark' marks.FieldsOpen → ⊥) → EndRows (end_turned g l used (turn g l r (token_of x c)))
           other n =
               turned_rows used (turn g l r (token_of x c))
-              (token_decided g l (by_end u) r.context b.front vs b.pieces (placed (place r) x) x.start x.end r.start b.item r.frames r.notes c r.now b.stands (record { place = refl; body = body })
+              (token_decided g l (by_end u) r.context b.front vs b.pieces (placed (place r) x) x.start x.end r.start b.item r.frames r.notes c r.now b.deep b.first b.stands (record { place = refl; body = body })
               (subst (λ y. Shown (by_end u) y c) (append_assoc b.front b.item (placed (place r) x ∷ [])) (shown n)))
               (settles (turn g l r (token_of x c)) read)
 

@@ -145,7 +145,7 @@ module _ (g : Catalog) (l : Limits) where
 
         turned : (x : Lexeme) (c : Content) → said x.kind x.octets ≡ Ok c → Shown (by_octet w) (ts ++ placed (place r) x ∷ []) c → TurnDecided g l (by_octet w) (turn g l r (token_of x c))
         turned x c k shown =
-            token_decided g l (by_octet w) r.context b.front vs b.pieces (placed (place r) x) x.start x.end r.start b.item r.frames r.notes c r.now b.stands (record { place = refl; body = said_body x.kind x.octets c k })
+            token_decided g l (by_octet w) r.context b.front vs b.pieces (placed (place r) x) x.start x.end r.start b.item r.frames r.notes c r.now b.deep b.first b.stands (record { place = refl; body = said_body x.kind x.octets c k })
             (subst (λ y. Shown (by_octet w) y c) (append_assoc b.front b.item (placed (place r) x ∷ [])) shown)
 
         given_rows : (x : Lexeme) (s' : Known) → feed (place r) s o ≡ Given x s' → Rows (on_said (said x.kind x.octets) (λ c. behind_given l s' (turn g l r (token_of x c))))
@@ -240,7 +240,7 @@ module _ (g : Catalog) (l : Limits) where
 
         settled_rows : Rows (on_settled g l (λ k. takes g l n k o) s (feed (place r) s o) (settle g l r))
         settled_rows =
-            by (settle g l r) (settled_decided g l (by_octet w) r.context b.front vs b.pieces r.start b.item r.frames r.notes r.now b.stands colons)
+            by (settle g l r) (settled_decided g l (by_octet w) r.context b.front vs b.pieces r.start b.item r.frames r.notes r.now b.first b.stands colons)
             (settled_read g l Scanned u vs s ahead o r.start r.context r.frames r.notes r.now b not_waiting) (settle_same g l r.start r.context r.frames r.notes r.now)
             (settle_free g l r.start r.context r.frames r.notes r.now) (settled_late r.start r.context r.frames r.notes r.now)
 

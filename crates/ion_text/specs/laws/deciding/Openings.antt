@@ -1,5 +1,5 @@
 -- What the reader of tokens holds of the open item is what stands open.
-use Rattle.std.proofs.Common.{◌≡◌, suc, List, [], ◌∷◌, ◌++◌, length, true, Bool, refl, sym, ap, ◌∙◌, subst, append_assoc, append-nil}
+use Rattle.std.proofs.Common.{◌≡◌, ◌+◌, ◌≤◌, ℕ, suc, List, [], ◌∷◌, ◌++◌, length, true, false, Bool, ◌&&◌, refl, sym, ap, ◌∙◌, subst, arith, append_assoc, append-nil}
 use Rattle.ion_model.specs.declared.value.Value.{Value}
 use Rattle.ion_model.specs.declared.value.Field.{Field}
 use Rattle.ion_model.specs.declared.value.Payload.TheVariants as payloads
@@ -13,9 +13,12 @@ use Rattle.ion_tokens.specs.Bodies.{Content, Mark'}
 use Rattle.ion_tokens.specs.Lexed.{Placed}
 use Rattle.ion_text.specs.declared.state.Frame.{Frame}
 use Rattle.ion_text.specs.declared.state.Frame.TheVariants as frames
-use Rattle.ion_text.specs.Grammar.{Says, Annotations, no_annotation, means, Pieces, is_struct, Means, close_place}
+use Rattle.ion_text.specs.Grammar.{Says, Annotations, no_annotation, means, Pieces, is_struct, Means, close_place, ends_long, begins_as_long}
 use Rattle.ion_text.specs.Deciding.{Container, InList, InSexp, InStruct, InField, place_of, TakesValue, Open, none_open, list_open, sexp_open, struct_open, named, MayNote, Comes, Ends}
 use Rattle.ion_text.specs.machine.EachToken.{Symbols}
+use Rattle.ion_text.specs.laws.reading.Complete.{depth-struct}
+use Rattle.ion_text.specs.laws.reading.Depths.{Deep}
+use Rattle.ion_text.specs.laws.reading.Held.{IsSome, some_more}
 use Rattle.ion_text.specs.laws.reading.Sound.{Opened, Receives, ReadyFor, value_place}
 
 abbrev pub container : Frame → Container
@@ -59,31 +62,46 @@ noted_there c fs notes ss h = subst (λ p. Annotations c p notes ss) (place_same
 pub says_there : (fs : List Frame) (t : Placed) (said : Content) → Says (value_place fs) t said → Says (place_of (containers fs)) t said
 says_there fs t said h = subst (λ p. Says p t said) (place_same fs) h
 
--- The open containers of the reader stand open.
-pub opened_open : (c : List Slot) (fs : List Frame) (ts : List Placed) → Opened c fs ts true → Open c (containers fs) ts
-opened_open c [] ts o = subst (Open c []) (sym o) none_open
-opened_open c (frames.List ss vs ∷ fs) ts o =
-    subst (Open c (InList ∷ containers fs)) (sym o.whole)
-    (list_open (containers fs) o.front o.notes o.body ss o.open' vs (opened_open c fs o.front o.outer) (takes_value fs o.receives) (noted_there c fs o.notes ss o.noted) (says_there fs o.open' (Mark' marks.ListOpen) o.opens) o.items)
-opened_open c (frames.Sexp ss vs ∷ fs) ts o =
-    subst (Open c (InSexp ∷ containers fs)) (sym o.whole)
-    (sexp_open (containers fs) o.front o.notes o.body ss o.open' vs (opened_open c fs o.front o.outer) (takes_value fs o.receives) (noted_there c fs o.notes ss o.noted) (says_there fs o.open' (Mark' marks.SexpOpen) o.opens) o.items)
-opened_open c (frames.Fields ss ms ∷ fs) ts o =
-    subst (Open c (InStruct ∷ containers fs)) (sym o.whole)
-    (struct_open (containers fs) o.front o.notes o.body ss o.open' ms (opened_open c fs o.front o.outer) (takes_value fs o.receives) (noted_there c fs o.notes ss o.noted) (says_there fs o.open' (Mark' marks.FieldsOpen) o.opens) o.items)
-opened_open c (frames.Named ss ms s ∷ fs) ts o =
-    let name : List Placed = o.name ++ o.colon ∷ [] in
-    let cut : ts ≡ (o.front ++ (o.notes ++ o.open' ∷ o.body)) ++ name =
-    o.whole ∙ (ap (λ x. o.front ++ x) (sym (append_assoc o.notes (o.open' ∷ o.body) name)) ∙ sym (append_assoc o.front (o.notes ++ o.open' ∷ o.body) name)) in
-    subst (Open c (InField ∷ containers fs)) (sym cut)
-    (named (containers fs) (o.front ++ (o.notes ++ o.open' ∷ o.body)) o.name s o.colon
-    (struct_open (containers fs) o.front o.notes o.body ss o.open' ms (opened_open c fs o.front o.outer) (takes_value fs o.receives) (noted_there c fs o.notes ss o.noted) (says_there fs o.open' (Mark' marks.FieldsOpen) o.opens) o.items)
-    o.named o.colons)
+module _ (l : Limits) (c : List Slot) where
+  -- one level more
+  deeper : (fs : List Frame) (n : ℕ) → n + suc (length fs) ≤ l.depth → n + suc (length (containers fs)) ≤ l.depth
+  deeper fs n h = omega (arith, h, levels_same fs)
+
+  -- The open containers of the reader stand open.
+  pub opened_open : (fs : List Frame) (ts : List Placed) → Deep l.depth fs → Opened c fs ts true → Open l c (containers fs) ts
+  opened_open [] ts d o = subst (Open l c []) (sym o) none_open
+  opened_open (frames.List ss vs ∷ fs) ts d o =
+      subst (Open l c (InList ∷ containers fs)) (sym o.whole)
+      (list_open (containers fs) o.front o.notes o.body ss o.open' vs (opened_open fs o.front d.1 o.outer) (takes_value fs o.receives) (noted_there c fs o.notes ss o.noted) (says_there fs o.open' (Mark' marks.ListOpen) o.opens) o.items (deeper fs _ d.0))
+  opened_open (frames.Sexp ss vs ∷ fs) ts d o =
+      subst (Open l c (InSexp ∷ containers fs)) (sym o.whole)
+      (sexp_open (containers fs) o.front o.notes o.body ss o.open' vs (opened_open fs o.front d.1 o.outer) (takes_value fs o.receives) (noted_there c fs o.notes ss o.noted) (says_there fs o.open' (Mark' marks.SexpOpen) o.opens) o.items (deeper fs _ d.0))
+  opened_open (frames.Fields ss ms ∷ fs) ts d o =
+      subst (Open l c (InStruct ∷ containers fs)) (sym o.whole)
+      (struct_open (containers fs) o.front o.notes o.body ss o.open' ms (opened_open fs o.front d.1 o.outer) (takes_value fs o.receives) (noted_there c fs o.notes ss o.noted) (says_there fs o.open' (Mark' marks.FieldsOpen) o.opens) o.items (deeper fs _ d.0))
+  opened_open (frames.Named ss ms s ∷ fs) ts d o =
+      let name : List Placed = o.name ++ o.colon ∷ [] in
+      let cut : ts ≡ (o.front ++ (o.notes ++ o.open' ∷ o.body)) ++ name =
+      o.whole ∙ (ap (λ x. o.front ++ x) (sym (append_assoc o.notes (o.open' ∷ o.body) name)) ∙ sym (append_assoc o.front (o.notes ++ o.open' ∷ o.body) name)) in
+      subst (Open l c (InField ∷ containers fs)) (sym cut)
+      (named (containers fs) (o.front ++ (o.notes ++ o.open' ∷ o.body)) o.name s o.colon
+      (struct_open (containers fs) o.front o.notes o.body ss o.open' ms (opened_open fs o.front d.1 o.outer) (takes_value fs o.receives) (noted_there c fs o.notes ss o.noted) (says_there fs o.open' (Mark' marks.FieldsOpen) o.opens) o.items (deeper fs _ d.0))
+      o.named o.colons)
+
+-- the first token stays so
+pub begins_so : (a : Bool) (ts us : List Placed) → (a && begins_as_long (ts ++ us)) ≡ false → (a && begins_as_long ts) ≡ false
+begins_so true [] us h = refl
+begins_so false ts us h = refl
+begins_so true (t ∷ ts) us h = h
+
+pub begins_on : (a : Bool) (ts us : List Placed) → IsSome ts → (a && begins_as_long ts) ≡ false → (a && begins_as_long (ts ++ us)) ≡ false
+begins_on a (t ∷ ts) us i h = h
+begins_on a [] us i h = absurd i
 
 module _ (g : Catalog) (l : Limits) (c : List Slot) (front : List Placed) (vs : List Value) (pieces : Pieces g l front vs c) (t : Placed) (said : Content) where
   -- a token comes where a value may begin
-  abbrev pub value_comes : (fs : List Frame) (ss : Symbols) (item : List Placed) → ReadyFor c fs ss item → Says (value_place fs) t said → Comes g l c (containers fs) said (front ++ (item ++ t ∷ []))
-  value_comes fs ss item d h = record {
+  abbrev pub value_comes : (fs : List Frame) (ss : Symbols) (item : List Placed) → Deep l.depth fs → (ends_long front && begins_as_long item) ≡ false → ReadyFor c fs ss item → Says (value_place fs) t said → Comes g l c (containers fs) said (front ++ (item ++ t ∷ []))
+  value_comes fs ss item deep apart d h = record {
     front = front;
     item = d.front;
     notes = d.notes;
@@ -92,16 +110,17 @@ module _ (g : Catalog) (l : Limits) (c : List Slot) (front : List Placed) (vs : 
     symbols = ss;
     parts = ap (λ x. front ++ (x ++ t ∷ [])) d.whole;
     pieces = pieces;
-    open' = opened_open c fs d.front d.outer;
+    open' = opened_open l c fs d.front deep d.outer;
     noted = noted_there c fs d.notes ss d.noted;
     may = may_note fs d.notes d.receives;
+    apart = subst (λ x. (ends_long front && begins_as_long x) ≡ false) d.whole apart;
     says = says_there fs t said h;
   }
 
   -- and where a name may
-  pub name_comes : (rs : Symbols) (ms : List Field) (fs : List Frame) (item : List Placed) → Opened c (frames.Fields rs ms ∷ fs) item true → Says places.Name t said
+  pub name_comes : (rs : Symbols) (ms : List Field) (fs : List Frame) (item : List Placed) → Deep l.depth (frames.Fields rs ms ∷ fs) → (ends_long front && begins_as_long item) ≡ false → Opened c (frames.Fields rs ms ∷ fs) item true → Says places.Name t said
       → Comes g l c (InStruct ∷ containers fs) said (front ++ (item ++ t ∷ []))
-  name_comes rs ms fs item o h = record {
+  name_comes rs ms fs item deep apart o h = record {
     front = front;
     item = item;
     notes = [];
@@ -110,16 +129,17 @@ module _ (g : Catalog) (l : Limits) (c : List Slot) (front : List Placed) (vs : 
     symbols = [];
     parts = ap (λ x. front ++ (x ++ t ∷ [])) (sym (append-nil item));
     pieces = pieces;
-    open' = opened_open c (frames.Fields rs ms ∷ fs) item o;
+    open' = opened_open l c (frames.Fields rs ms ∷ fs) item deep o;
     noted = no_annotation;
     may = refl;
+    apart = subst (λ x. (ends_long front && begins_as_long x) ≡ false) (sym (append-nil item)) apart;
     says = h;
   }
 
 -- a struct of the top level is closed
-pub struct_ends : (g : Catalog) (l : Limits) (c : List Slot) (front : List Placed) (vs : List Value) (ss : Symbols) (ms : List Field) (item : List Placed) (more : Bool) (t : Placed) → Pieces g l front vs c
+pub struct_ends : (g : Catalog) (l : Limits) (c : List Slot) (front : List Placed) (vs : List Value) (ss : Symbols) (ms : List Field) (item : List Placed) (more : Bool) (t : Placed) → Pieces g l front vs c → Deep l.depth (frames.Fields ss ms ∷ []) → (ends_long front && begins_as_long item) ≡ false
     → Opened c (frames.Fields ss ms ∷ []) item more → Says (close_place more) t (Mark' marks.FieldsClose) → Ends g l c (annotated ss (payloads.Fields ms)) (front ++ (item ++ t ∷ []))
-struct_ends g l c front vs ss ms item more t pieces o h =
+struct_ends g l c front vs ss ms item more t pieces deep apart o h =
     let alone : item ≡ o.notes ++ o.open' ∷ o.body = o.whole ∙ ap (λ x. x ++ (o.notes ++ o.open' ∷ o.body)) o.outer in
     let cut : item ++ t ∷ [] ≡ o.notes ++ (o.open' ∷ (o.body ++ t ∷ [])) = ap (λ x. x ++ t ∷ []) alone ∙ append_assoc o.notes (o.open' ∷ o.body) (t ∷ []) in
     record {
@@ -128,6 +148,8 @@ struct_ends g l c front vs ss ms item more t pieces o h =
       values = vs;
       parts = refl;
       pieces = pieces;
+      deep = omega (arith, deep.0, depth-struct ss ms);
+      apart = begins_on (ends_long front) item (t ∷ []) (subst IsSome (sym alone) (some_more o.notes o.body o.open')) apart;
       means =
           subst (λ x. Means c places.Top x (annotated ss (payloads.Fields ms))) (sym cut)
           (means places.Top o.notes (o.open' ∷ (o.body ++ t ∷ [])) ss (payloads.Fields ms) o.noted (is_struct places.Top o.open' t o.body ms more o.opens o.items h));

@@ -1,5 +1,5 @@
 -- What octets show of a token that ends with the last of them, or before it.
-use Rattle.std.proofs.Common.{◌≡◌, ℕ, List, [], ◌∷◌, ◌++◌, length, Bool, true, false, Ok, refl, sym, ap, ◌∙◌, subst, append-nil, length-append, arith, ◌⊎◌, inl, inr}
+use Rattle.std.proofs.Common.{◌≡◌, ℕ, ◌+◌, List, [], ◌∷◌, ◌++◌, length, Bool, true, false, Ok, refl, sym, ap, ◌∙◌, subst, append-nil, length-append, arith, ◌⊎◌, inl, inr, codes}
 use Rattle.ion_tokens.specs.declared.mode.Mark.{Mark}
 use Rattle.ion_tokens.specs.declared.mode.Mark.TheVariants as marks
 use Rattle.ion_tokens.specs.declared.mode.Mode.TheVariants as modes
@@ -19,7 +19,9 @@ use Rattle.ion_tokens.proofs.Holds.{IsTold, InMode, Sound}
 use Rattle.ion_tokens.proofs.Moves.{at}
 use Rattle.ion_tokens.proofs.Scans.{placed}
 use Rattle.ion_tokens.proofs.Sounds.{feed_sound}
+use Rattle.ion_text.specs.Grammar.{BlankThen}
 use Rattle.ion_text.specs.Deciding.{Are, AwaitsColons, NoColons, Sight, by_octet}
+use Rattle.ion_text.specs.laws.reading.Admits.{at_end_fine}
 use Rattle.ion_text.specs.laws.reading.Going.{mark_kind}
 use Rattle.ion_text.specs.laws.reading.Meets.{IdleLeft, end_spans, follows_as, idle_left}
 use Rattle.ion_text.specs.laws.reading.Segments.{never}
@@ -81,6 +83,24 @@ said_bare kinds.Clob octets c b h = absurd (other_bare c (Clob octets) (let e : 
 said_bare kinds.Blob octets c b h = absurd (other_bare c (Blob octets) (let e : c ≡ Blob octets = cc in e) (λ x. x) h)
 said_bare (kinds.Mark m) octets c b h = mark_bare m (subst BareSaid (let e : c ≡ Mark' m = cc in e) h)
 
+-- `::` would have been told
+colons_told : (p : Place) (k : ℕ) (since : List ℕ) (s : Known) → is_idle s.mode ≡ true → run p since (at modes.Blank [] true k k) ≡ Next s → BlankThen (codes "::") since → ⊥
+colons_told p k since s idle ran (w, more, is, e) = by (subst (Is p x) ran (one_found true k since (placed p x) more token))
+  where
+    x : Lexeme
+    x = record { start = k + length w; end = (k + length w) + 2; kind = kinds.Mark marks.Colons; octets = [] }
+
+    token : BeginsWith true k since (placed p x) more
+    token = record { blank = w; token = codes "::"; is_blank = is; cut = e; start = refl; end = refl; is = (refl, refl, refl, tt) }
+
+    by : Is p x (Next s) → ⊥
+    by (inl e) = go ((at_end_fine p s x e).4 idle)
+      where
+        go : (x.kind ≡ kinds.Mark marks.Colon) ⊎ (x.kind ≡ kinds.Operator) → ⊥
+        go (inl y) = cc
+        go (inr y) = cc
+    by (inr e) = let n : x.kind ≡ kinds.Operator = e.1 in cc
+
 module _ (p : Place) (s : Known) (u : List ℕ) (ts : List Placed) (ahead : List ℕ) (h : Scanned p s u ts ahead) (o : ℕ) (next : Continues (o ∷ []) ahead) where
   abbrev pub k : Behind p s u ts ahead
   k = behind_tokens p s u ts ahead h
@@ -111,6 +131,7 @@ module _ (p : Place) (s : Known) (u : List ℕ) (ts : List Placed) (ahead : List
         rest = k.since;
         are = (k.colon, k.end, subst (λ x. LexesTo false 0 x ts k.colon k.end k.since) (append-nil u) (subst (λ x. LexesTo false 0 (u ++ []) ts k.colon k.end x) (append-nil k.since) here));
         before = (close.octets, close.shows);
+        after = colons_told p k.end k.since s idle (subst (λ c. run p k.since (at modes.Blank [] c k.end k.end) ≡ Next s) colon k.reached);
       }
 
   pub flag : (us : List Placed) (t : Placed) → ts ≡ us ++ t ∷ [] → colon_behind t ≡ true → k.colon ≡ true

@@ -30,14 +30,15 @@ use Rattle.ion_text.specs.declared.state.Now.{Now}
 use Rattle.ion_text.specs.declared.state.Now.TheVariants as nows
 use Rattle.ion_text.specs.declared.state.Frame.{Frame}
 use Rattle.ion_text.specs.declared.state.Frame.TheVariants as frames
-use Rattle.ion_text.specs.Grammar.{Says, Means, means, one_token, Pieces, close_place, is_keyword, is_version, the_marker}
+use Rattle.ion_text.specs.Grammar.{Says, Means, means, one_token, Pieces, close_place, ends_long, begins_as_long, is_keyword, is_version, the_marker}
 use Rattle.ion_text.specs.Deciding.{Ends, IsKeyword, InStruct, Sight, Gives, HasRow, no_symbol, keyword_as_name, keyword_as_annotation, other_version, null_table, too_deep, struct_too_deep, bad_table}
 use Rattle.ion_text.specs.machine.EachToken.{under, spot_at, token_at, Turn, goes, gives, refuses, late, Symbols, at, fresh, place_in, settle, turn_now, ended, within, turned, held_word, held_symbol, released, begun_at, on_ready, on_pending, on_after, on_name, on_comma, on_long, on_long_name, on_keyed, resolved, noted, keyed, named, list_closed, sexp_closed, number_payload}
+use Rattle.ion_text.specs.laws.reading.Depths.{Deep, flat_null}
 use Rattle.ion_text.specs.laws.reading.Held.{none_noted}
 use Rattle.ion_text.specs.laws.reading.Places.{pending_at}
 use Rattle.ion_text.specs.laws.reading.Segments.{never}
 use Rattle.ion_text.specs.laws.reading.Sound.{Opened, ReadyFor, PendingFor, NowStands, IsHeld, symbol_said, value_place}
-use Rattle.ion_text.specs.laws.deciding.Openings.{containers, levels_same, takes_value, says_there, value_comes, name_comes, struct_ends}
+use Rattle.ion_text.specs.laws.deciding.Openings.{containers, levels_same, takes_value, says_there, value_comes, name_comes, struct_ends, begins_so}
 use Rattle.ion_text.specs.laws.deciding.Shows.{Shown}
 
 -- 1. Of what is no local symbol table, and of words.
@@ -164,59 +165,62 @@ module _ (g : Catalog) (l : Limits) (sight : Sight) where
 
   module _ (c : List Slot) (front : List Placed) (vs : List Value) (pieces : Pieces g l front vs c) where
     -- a struct is closed
-    closed_decided : (start end : ℕ) (ss : Symbols) (ms : List Field) (fs : List Frame) (item : List Placed) (more : Bool) (t : Placed) → Opened c (frames.Fields ss ms ∷ fs) item more → Says (close_place more) t (Mark' marks.FieldsClose)
+    closed_decided : (start end : ℕ) (ss : Symbols) (ms : List Field) (fs : List Frame) (item : List Placed) (more : Bool) (t : Placed) → Deep l.depth (frames.Fields ss ms ∷ fs) → (ends_long front && begins_as_long item) ≡ false → Opened c (frames.Fields ss ms ∷ fs) item more → Says (close_place more) t (Mark' marks.FieldsClose)
         → sight.mark (front ++ (item ++ t ∷ [])) → TurnDecided (ended (under g l) (spot_at end start c) fs (annotated ss (payloads.Fields ms)))
-    closed_decided start end ss ms fs item more t o says shown =
+    closed_decided start end ss ms fs item more t deep apart o says shown =
         ended_decided start end c fs (annotated ss (payloads.Fields ms))
-        (λ e none i j k. bad_table (front ++ (item ++ t ∷ [])) c ss ms e shown (struct_ends g l c front vs ss ms item more t pieces (subst (λ y. Opened c (frames.Fields ss ms ∷ y) item more) none o) says) i j)
+        (λ e none i j k. bad_table (front ++ (item ++ t ∷ [])) c ss ms e shown (struct_ends g l c front vs ss ms item more t pieces (subst (λ y. Deep l.depth (frames.Fields ss ms ∷ y)) none deep) apart (subst (λ y. Opened c (frames.Fields ss ms ∷ y) item more) none o) says) i j)
 
-    module _ (t : Placed) (start end : ℕ) (item : List Placed) where
+    module _ (t : Placed) (start end : ℕ) (item : List Placed) (apart : (ends_long front && begins_as_long item) ≡ false) where
       abbrev ts : List Placed
       ts = front ++ (item ++ t ∷ [])
 
       -- where a value may come
-      ready_decided : (fs : List Frame) (ss : Symbols) (said : Content) → ReadyFor c fs ss item → Says (value_place fs) t said → Shown sight ts said → TurnDecided (on_ready (under g l) (spot_at end start c) fs ss said)
-      ready_decided fs ss (Word x) d says shown = tt
-      ready_decided fs ss (Id id) d says shown = go (resolve c id) refl
+      ready_decided : (fs : List Frame) (ss : Symbols) (said : Content) → Deep l.depth fs → ReadyFor c fs ss item → Says (value_place fs) t said → Shown sight ts said → TurnDecided (on_ready (under g l) (spot_at end start c) fs ss said)
+      ready_decided fs ss (Word x) deep d says shown = tt
+      ready_decided fs ss (Id id) deep d says shown = go (resolve c id) refl
         where
           go : (r : Result (Option (List ℕ)) Reason) → resolve c id ≡ r → TurnDecided (resolved r (λ s. goes (at start c fs ss (nows.Pending (helds.Symbol s) end))))
           go (Ok s) e = tt
-          go (Err e) f = λ i. no_symbol ts c (containers fs) id e shown (value_comes g l c front vs pieces t (Id id) fs ss item d says) f
-      ready_decided fs ss (Quoted x) d says shown = tt
-      ready_decided fs ss (TypedNull k) d says shown = tt
-      ready_decided fs ss (Long x) d says shown = tt
-      ready_decided fs ss (Short x) d says shown = flat_decided start end c fs ss (payloads.Str x) (ap (λ y. is_fields (layer_kind y)) (views.outs-Str x))
-      ready_decided fs ss (Number' n) d says shown = flat_decided start end c fs ss (number_payload n) (flat_number n)
-      ready_decided fs ss (Operator x) d says shown = flat_decided start end c fs ss (payloads.Symbol (Some x)) (ap (λ y. is_fields (layer_kind y)) (views.outs-Symbol (Some x)))
-      ready_decided fs ss (Clob x) d says shown = flat_decided start end c fs ss (payloads.Clob x) (ap (λ y. is_fields (layer_kind y)) (views.outs-Clob x))
-      ready_decided fs ss (Blob x) d says shown = flat_decided start end c fs ss (payloads.Blob x) (ap (λ y. is_fields (layer_kind y)) (views.outs-Blob x))
-      ready_decided fs ss (Mark' marks.ListOpen) d says shown = go (nat_lt (length fs) l.depth) refl
+          go (Err e) f = λ i. no_symbol ts c (containers fs) id e shown (value_comes g l c front vs pieces t (Id id) fs ss item deep apart d says) f
+      ready_decided fs ss (Quoted x) deep d says shown = tt
+      ready_decided fs ss (TypedNull k) deep d says shown = tt
+      ready_decided fs ss (Long x) deep d says shown = tt
+      ready_decided fs ss (Short x) deep d says shown = flat_decided start end c fs ss (payloads.Str x) (ap (λ y. is_fields (layer_kind y)) (views.outs-Str x))
+      ready_decided fs ss (Number' n) deep d says shown = flat_decided start end c fs ss (number_payload n) (flat_number n)
+      ready_decided fs ss (Operator x) deep d says shown = flat_decided start end c fs ss (payloads.Symbol (Some x)) (ap (λ y. is_fields (layer_kind y)) (views.outs-Symbol (Some x)))
+      ready_decided fs ss (Clob x) deep d says shown = flat_decided start end c fs ss (payloads.Clob x) (ap (λ y. is_fields (layer_kind y)) (views.outs-Clob x))
+      ready_decided fs ss (Blob x) deep d says shown = flat_decided start end c fs ss (payloads.Blob x) (ap (λ y. is_fields (layer_kind y)) (views.outs-Blob x))
+      ready_decided fs ss (Mark' marks.ListOpen) deep d says shown = go (nat_lt (length fs) l.depth) refl
         where
           go : (b : Bool) → nat_lt (length fs) l.depth ≡ b → TurnDecided (if b then goes (at start c (frames.List ss [] ∷ fs) [] nows.Ready) else refuses reasons.Depth)
           go true e = tt
-          go false e = λ i. too_deep ts c (containers fs) (Mark' marks.ListOpen) shown (value_comes g l c front vs pieces t (Mark' marks.ListOpen) fs ss item d says) (takes_value fs d.receives) (inl refl) (omega (arith, not_less (length fs) l.depth e, levels_same fs))
-      ready_decided fs ss (Mark' marks.SexpOpen) d says shown = go (nat_lt (length fs) l.depth) refl
+          go false e = λ i. too_deep ts c (containers fs) (Mark' marks.ListOpen) shown (value_comes g l c front vs pieces t (Mark' marks.ListOpen) fs ss item deep apart d says) (takes_value fs d.receives) (inl refl) (omega (arith, not_less (length fs) l.depth e, levels_same fs))
+      ready_decided fs ss (Mark' marks.SexpOpen) deep d says shown = go (nat_lt (length fs) l.depth) refl
         where
           go : (b : Bool) → nat_lt (length fs) l.depth ≡ b → TurnDecided (if b then goes (at start c (frames.Sexp ss [] ∷ fs) [] nows.Ready) else refuses reasons.Depth)
           go true e = tt
-          go false e = λ i. too_deep ts c (containers fs) (Mark' marks.SexpOpen) shown (value_comes g l c front vs pieces t (Mark' marks.SexpOpen) fs ss item d says) (takes_value fs d.receives) (inr refl) (omega (arith, not_less (length fs) l.depth e, levels_same fs))
-      ready_decided fs ss (Mark' marks.FieldsOpen) d says shown = go (nat_lt (length fs) l.depth) refl
+          go false e = λ i. too_deep ts c (containers fs) (Mark' marks.SexpOpen) shown (value_comes g l c front vs pieces t (Mark' marks.SexpOpen) fs ss item deep apart d says) (takes_value fs d.receives) (inr refl) (omega (arith, not_less (length fs) l.depth e, levels_same fs))
+      ready_decided fs ss (Mark' marks.FieldsOpen) deep d says shown = go (nat_lt (length fs) l.depth) refl
         where
           go : (b : Bool) → nat_lt (length fs) l.depth ≡ b → TurnDecided (if b then goes (at start c (frames.Fields ss [] ∷ fs) [] nows.Name) else late reasons.Depth (at start c (frames.Fields ss [] ∷ fs) [] nows.Name))
           go true e = tt
-          go false e = λ i. struct_too_deep ts c (containers fs) shown (value_comes g l c front vs pieces t (Mark' marks.FieldsOpen) fs ss item d says) (takes_value fs d.receives) (omega (arith, not_less (length fs) l.depth e, levels_same fs))
-      ready_decided fs [] (Mark' marks.ListClose) d says shown = list_decided start end c fs
-      ready_decided fs (s ∷ ss) (Mark' marks.ListClose) d says shown = λ i. absurd i
-      ready_decided fs [] (Mark' marks.SexpClose) d says shown = sexp_decided start end c fs
-      ready_decided fs (s ∷ ss) (Mark' marks.SexpClose) d says shown = λ i. absurd i
-      ready_decided fs ss (Mark' marks.FieldsClose) d says shown = λ i. absurd i
-      ready_decided fs ss (Mark' marks.Comma) d says shown = λ i. absurd i
-      ready_decided fs ss (Mark' marks.Colon) d says shown = λ i. absurd i
-      ready_decided fs ss (Mark' marks.Colons) d says shown = λ i. absurd i
+          go false e = λ i. struct_too_deep ts c (containers fs) shown (value_comes g l c front vs pieces t (Mark' marks.FieldsOpen) fs ss item deep apart d says) (takes_value fs d.receives) (omega (arith, not_less (length fs) l.depth e, levels_same fs))
+      ready_decided fs [] (Mark' marks.ListClose) deep d says shown = list_decided start end c fs
+      ready_decided fs (s ∷ ss) (Mark' marks.ListClose) deep d says shown = λ i. absurd i
+      ready_decided fs [] (Mark' marks.SexpClose) deep d says shown = sexp_decided start end c fs
+      ready_decided fs (s ∷ ss) (Mark' marks.SexpClose) deep d says shown = λ i. absurd i
+      ready_decided fs ss (Mark' marks.FieldsClose) deep d says shown = λ i. absurd i
+      ready_decided fs ss (Mark' marks.Comma) deep d says shown = λ i. absurd i
+      ready_decided fs ss (Mark' marks.Colon) deep d says shown = λ i. absurd i
+      ready_decided fs ss (Mark' marks.Colons) deep d says shown = λ i. absurd i
+
+      before_apart : (fs : List Frame) (ss : Symbols) (h : Held) (d : PendingFor c fs ss h item) → (ends_long front && begins_as_long d.before) ≡ false
+      before_apart fs ss h d = begins_so (ends_long front) d.before (d.token ∷ []) (subst (λ x. (ends_long front && begins_as_long x) ≡ false) d.whole apart)
 
       -- behind what may be an annotation
-      pending_decided : (fs : List Frame) (ss : Symbols) (h : Held) (said : Content) → PendingFor c fs ss h item → Says (value_place fs) t said → Shown sight ts said → TurnDecided (on_pending start c fs ss h said)
-      pending_decided fs ss h (Mark' marks.Colons) d says shown = go (held_symbol h) refl
+      pending_decided : (fs : List Frame) (ss : Symbols) (h : Held) (said : Content) → Deep l.depth fs → PendingFor c fs ss h item → Says (value_place fs) t said → Shown sight ts said → TurnDecided (on_pending start c fs ss h said)
+      pending_decided fs ss h (Mark' marks.Colons) deep d says shown = go (held_symbol h) refl
         where
           whole : ts ≡ (front ++ (d.before ++ d.token ∷ [])) ++ t ∷ []
           whole = sym (append_assoc front item (t ∷ [])) ∙ ap (λ x. (front ++ x) ++ t ∷ []) d.whole
@@ -227,8 +231,8 @@ module _ (g : Catalog) (l : Limits) (sight : Sight) where
               let k = held_keyword c d.said h e d.named d.known f in
               subst Decided k.1
               (λ i. keyword_as_annotation (front ++ (d.before ++ d.token ∷ [])) t c (containers fs) d.said (subst sight.mark whole shown)
-              (value_comes g l c front vs pieces d.token d.said fs ss d.before d.ready d.says) (takes_value fs d.ready.receives) k.0 (says_there fs t (Mark' marks.Colons) says))
-      pending_decided fs ss h _ d says shown = λ i. absurd i
+              (value_comes g l c front vs pieces d.token d.said fs ss d.before deep (before_apart fs ss h d) d.ready d.says) (takes_value fs d.ready.receives) k.0 (says_there fs t (Mark' marks.Colons) says))
+      pending_decided fs ss h _ deep d says shown = λ i. absurd i
 
       comma_decided : (fs : List Frame) → TurnDecided (on_comma start c fs)
       comma_decided (frames.List ss vs ∷ fs) = tt
@@ -238,34 +242,34 @@ module _ (g : Catalog) (l : Limits) (sight : Sight) where
       comma_decided [] = λ i. absurd i
 
       -- behind an element or a field
-      after_decided : (fs : List Frame) (said : Content) → Opened c fs item false → Says (place_in fs nows.After) t said → Shown sight ts said → TurnDecided (on_after (under g l) (spot_at end start c) fs said)
-      after_decided fs (Mark' marks.Comma) o says shown = comma_decided fs
-      after_decided fs (Mark' marks.ListClose) o says shown = list_decided start end c fs
-      after_decided (frames.Fields ss ms ∷ fs) (Mark' marks.FieldsClose) o says shown = closed_decided start end ss ms fs item false t o says shown
-      after_decided (frames.List ss vs ∷ fs) (Mark' marks.FieldsClose) o says shown = λ i. absurd i
-      after_decided (frames.Sexp ss vs ∷ fs) (Mark' marks.FieldsClose) o says shown = λ i. absurd i
-      after_decided (frames.Named ss ms s ∷ fs) (Mark' marks.FieldsClose) o says shown = λ i. absurd i
-      after_decided [] (Mark' marks.FieldsClose) o says shown = λ i. absurd i
-      after_decided fs _ o says shown = λ i. absurd i
+      after_decided : (fs : List Frame) (said : Content) → Deep l.depth fs → Opened c fs item false → Says (place_in fs nows.After) t said → Shown sight ts said → TurnDecided (on_after (under g l) (spot_at end start c) fs said)
+      after_decided fs (Mark' marks.Comma) deep o says shown = comma_decided fs
+      after_decided fs (Mark' marks.ListClose) deep o says shown = list_decided start end c fs
+      after_decided (frames.Fields ss ms ∷ fs) (Mark' marks.FieldsClose) deep o says shown = closed_decided start end ss ms fs item false t deep apart o says shown
+      after_decided (frames.List ss vs ∷ fs) (Mark' marks.FieldsClose) deep o says shown = λ i. absurd i
+      after_decided (frames.Sexp ss vs ∷ fs) (Mark' marks.FieldsClose) deep o says shown = λ i. absurd i
+      after_decided (frames.Named ss ms s ∷ fs) (Mark' marks.FieldsClose) deep o says shown = λ i. absurd i
+      after_decided [] (Mark' marks.FieldsClose) deep o says shown = λ i. absurd i
+      after_decided fs _ deep o says shown = λ i. absurd i
 
       -- where a name may come
-      name_decided : (ss : Symbols) (ms : List Field) (fs : List Frame) (said : Content) → Opened c (frames.Fields ss ms ∷ fs) item true → Says places.Name t said → Shown sight ts said → TurnDecided (on_name (under g l) (spot_at end start c) (frames.Fields ss ms ∷ fs) said)
-      name_decided ss ms fs (Word x) o says shown = go (is_keyword x) refl
+      name_decided : (ss : Symbols) (ms : List Field) (fs : List Frame) (said : Content) → Deep l.depth (frames.Fields ss ms ∷ fs) → Opened c (frames.Fields ss ms ∷ fs) item true → Says places.Name t said → Shown sight ts said → TurnDecided (on_name (under g l) (spot_at end start c) (frames.Fields ss ms ∷ fs) said)
+      name_decided ss ms fs (Word x) deep o says shown = go (is_keyword x) refl
         where
           go : (b : Bool) → is_keyword x ≡ b → TurnDecided (if b then late reasons.KeywordAsName (keyed start c (frames.Fields ss ms ∷ fs) (Some x)) else goes (keyed start c (frames.Fields ss ms ∷ fs) (Some x)))
-          go true e = λ i. keyword_as_name ts c (containers fs) (Word x) shown (name_comes g l c front vs pieces t (Word x) ss ms fs item o says) e
+          go true e = λ i. keyword_as_name ts c (containers fs) (Word x) shown (name_comes g l c front vs pieces t (Word x) ss ms fs item deep apart o says) e
           go false e = tt
-      name_decided ss ms fs (TypedNull k) o says shown = λ i. keyword_as_name ts c (containers fs) (TypedNull k) shown (name_comes g l c front vs pieces t (TypedNull k) ss ms fs item o says) tt
-      name_decided ss ms fs (Id id) o says shown = go (resolve c id) refl
+      name_decided ss ms fs (TypedNull k) deep o says shown = λ i. keyword_as_name ts c (containers fs) (TypedNull k) shown (name_comes g l c front vs pieces t (TypedNull k) ss ms fs item deep apart o says) tt
+      name_decided ss ms fs (Id id) deep o says shown = go (resolve c id) refl
         where
           go : (r : Result (Option (List ℕ)) Reason) → resolve c id ≡ r → TurnDecided (resolved r (λ s. goes (keyed start c (frames.Fields ss ms ∷ fs) s)))
           go (Ok s) e = tt
-          go (Err e) f = λ i. no_symbol ts c (InStruct ∷ containers fs) id e shown (name_comes g l c front vs pieces t (Id id) ss ms fs item o says) f
-      name_decided ss ms fs (Quoted x) o says shown = tt
-      name_decided ss ms fs (Short x) o says shown = tt
-      name_decided ss ms fs (Long x) o says shown = tt
-      name_decided ss ms fs (Mark' marks.FieldsClose) o says shown = closed_decided start end ss ms fs item true t o says shown
-      name_decided ss ms fs _ o says shown = λ i. absurd i
+          go (Err e) f = λ i. no_symbol ts c (InStruct ∷ containers fs) id e shown (name_comes g l c front vs pieces t (Id id) ss ms fs item deep apart o says) f
+      name_decided ss ms fs (Quoted x) deep o says shown = tt
+      name_decided ss ms fs (Short x) deep o says shown = tt
+      name_decided ss ms fs (Long x) deep o says shown = tt
+      name_decided ss ms fs (Mark' marks.FieldsClose) deep o says shown = closed_decided start end ss ms fs item true t deep apart o says shown
+      name_decided ss ms fs _ deep o says shown = λ i. absurd i
 
       -- behind a segment of a long name
       long_name_decided : (fs : List Frame) (v : List ℕ) (said : Content) → TurnDecided (on_long_name start c fs v said)
@@ -288,23 +292,23 @@ module _ (g : Catalog) (l : Limits) (sight : Sight) where
       long_decided fs ss v _ = λ i. absurd i
 
     -- What a token is refused for is a row.
-    pub token_decided : (t : Placed) (begin end start : ℕ) (item : List Placed) (fs : List Frame) (ss : Symbols) (said : Content) (now : Now) → NowStands c fs ss item now → Says (place_in fs now) t said
+    pub token_decided : (t : Placed) (begin end start : ℕ) (item : List Placed) (fs : List Frame) (ss : Symbols) (said : Content) (now : Now) → Deep l.depth fs → (ends_long front && begins_as_long item) ≡ false → NowStands c fs ss item now → Says (place_in fs now) t said
         → Shown sight (front ++ (item ++ t ∷ [])) said → TurnDecided (turn_now (under g l) (at start c fs ss now) (token_at begin end said) now)
-    token_decided t begin end start item fs ss said nows.Ready d says shown = ready_decided t (begun_at start begin fs ss) end item fs ss said d says shown
-    token_decided t begin end start item fs ss said (nows.Pending h e) d says shown = pending_decided t start end item fs ss h said d (subst (λ p. Says p t said) (pending_at fs h e) says) shown
-    token_decided t begin end start item fs ss said (nows.Long v e) d says shown = long_decided t start end item fs ss v said
-    token_decided t begin end start item fs ss said nows.After d says shown = after_decided t start end item fs said d.0 says shown
-    token_decided t begin end start item (frames.Fields rs ms ∷ fs) ss said nows.Name d says shown = name_decided t start end item rs ms fs said d.0 says shown
-    token_decided t begin end start item [] ss said nows.Name d says shown = absurd d.1
-    token_decided t begin end start item (frames.List rs xs ∷ fs) ss said nows.Name d says shown = absurd d.1
-    token_decided t begin end start item (frames.Sexp rs xs ∷ fs) ss said nows.Name d says shown = absurd d.1
-    token_decided t begin end start item (frames.Named rs ms x ∷ fs) ss said nows.Name d says shown = absurd d.1
-    token_decided t begin end start item fs ss said (nows.LongName v) d says shown = long_name_decided t start end item fs v said
-    token_decided t begin end start item fs ss said (nows.Keyed x) d says shown = keyed_decided t start end item fs x said
+    token_decided t begin end start item fs ss said nows.Ready deep apart d says shown = ready_decided t (begun_at start begin fs ss) end item apart fs ss said deep d says shown
+    token_decided t begin end start item fs ss said (nows.Pending h e) deep apart d says shown = pending_decided t start end item apart fs ss h said deep d (subst (λ p. Says p t said) (pending_at fs h e) says) shown
+    token_decided t begin end start item fs ss said (nows.Long v e) deep apart d says shown = long_decided t start end item apart fs ss v said
+    token_decided t begin end start item fs ss said nows.After deep apart d says shown = after_decided t start end item apart fs said deep d.0 says shown
+    token_decided t begin end start item (frames.Fields rs ms ∷ fs) ss said nows.Name deep apart d says shown = name_decided t start end item apart rs ms fs said deep d.0 says shown
+    token_decided t begin end start item [] ss said nows.Name deep apart d says shown = absurd d.1
+    token_decided t begin end start item (frames.List rs xs ∷ fs) ss said nows.Name deep apart d says shown = absurd d.1
+    token_decided t begin end start item (frames.Sexp rs xs ∷ fs) ss said nows.Name deep apart d says shown = absurd d.1
+    token_decided t begin end start item (frames.Named rs ms x ∷ fs) ss said nows.Name deep apart d says shown = absurd d.1
+    token_decided t begin end start item fs ss said (nows.LongName v) deep apart d says shown = long_name_decided t start end item apart fs v said
+    token_decided t begin end start item fs ss said (nows.Keyed x) deep apart d says shown = keyed_decided t start end item apart fs x said
 
     -- 3. What waited.
 
-    module _ (start end : ℕ) (item : List Placed) where
+    module _ (start end : ℕ) (item : List Placed) (apart : (ends_long front && begins_as_long item) ≡ false) where
       -- a null of structs may be a local symbol table
       null_decided : (ss : Symbols) (k : Kind) → PendingFor c [] ss (helds.Null k) item → sight.alone (front ++ item) → TurnDecided (ended (under g l) (spot_at end start c) [] (annotated ss (payloads.Null k)))
       null_decided ss k d shown = ended_decided start end c [] v (λ e i j f h. null_table (front ++ item) c ss k e shown there j f)
@@ -325,6 +329,8 @@ module _ (g : Catalog) (l : Limits) (sight : Sight) where
             means =
                 subst (λ x. Means c places.Top x v) alone
                 (means places.Top d.ready.notes (d.token ∷ []) ss (payloads.Null k) d.ready.noted (one_token places.Top d.token d.said (payloads.Null k) d.says (d.stood.value (payloads.Null k) refl)));
+            deep = let flat = flat_null ss k in omega (arith, flat);
+            apart = apart;
           }
 
       version_decided : (s : Option (List ℕ)) → PendingFor c [] [] (helds.Version false s) item → sight.alone (front ++ item) → Decided reasons.Version
@@ -333,7 +339,7 @@ module _ (g : Catalog) (l : Limits) (sight : Sight) where
           let says = subst (Says places.Top d.token) x.is d.says in
           let none : d.ready.notes ≡ [] = none_noted c places.Top d.ready.notes [] d.ready.noted refl in
           other_version (front ++ (d.before ++ d.token ∷ [])) c x.word (subst sight.alone (ap (λ y. front ++ y) d.whole) shown)
-          (value_comes g l c front vs pieces d.token (Word x.word) [] [] d.before d.ready says) none x.version (λ q. never (bytes_eq x.word the_marker) x.other ((bytes_eq-Decides x.word the_marker).1 q))
+          (value_comes g l c front vs pieces d.token (Word x.word) [] [] d.before tt (begins_so (ends_long front) d.before (d.token ∷ []) (subst (λ y. (ends_long front && begins_as_long y) ≡ false) d.whole apart)) d.ready says) none x.version (λ q. never (bytes_eq x.word the_marker) x.other ((bytes_eq-Decides x.word the_marker).1 q))
 
       released_decided : (fs : List Frame) (ss : Symbols) (h : Held) → PendingFor c fs ss h item → (fs ≡ [] → sight.alone (front ++ item)) → TurnDecided (released (under g l) (spot_at end start c) fs ss h)
       released_decided [] [] (helds.Version true s) d f = within_decided l.item start end (goes (fresh system_slots)) tt
@@ -354,12 +360,12 @@ module _ (g : Catalog) (l : Limits) (sight : Sight) where
       released_decided (y ∷ fs) ss helds.Nan d f = λ i. absurd i
 
     -- What is refused of what waited is a row.
-    pub settled_decided : (start : ℕ) (item : List Placed) (fs : List Frame) (ss : Symbols) (now : Now) → NowStands c fs ss item now → ((h : Held) (end : ℕ) → now ≡ nows.Pending h end → fs ≡ [] → sight.alone (front ++ item))
+    pub settled_decided : (start : ℕ) (item : List Placed) (fs : List Frame) (ss : Symbols) (now : Now) → (ends_long front && begins_as_long item) ≡ false → NowStands c fs ss item now → ((h : Held) (end : ℕ) → now ≡ nows.Pending h end → fs ≡ [] → sight.alone (front ++ item))
         → TurnDecided (settle g l (at start c fs ss now))
-    settled_decided start item fs ss (nows.Pending h end) d f = released_decided start end item fs ss h d (f h end refl)
-    settled_decided start item fs ss (nows.Long v end) d f = flat_decided start end c fs ss (payloads.Str v) (ap (λ y. is_fields (layer_kind y)) (views.outs-Str v))
-    settled_decided start item fs ss (nows.LongName v) d f = tt
-    settled_decided start item fs ss nows.Ready d f = tt
-    settled_decided start item fs ss nows.After d f = tt
-    settled_decided start item fs ss nows.Name d f = tt
-    settled_decided start item fs ss (nows.Keyed x) d f = tt
+    settled_decided start item fs ss (nows.Pending h end) apart d f = released_decided start end item apart fs ss h d (f h end refl)
+    settled_decided start item fs ss (nows.Long v end) apart d f = flat_decided start end c fs ss (payloads.Str v) (ap (λ y. is_fields (layer_kind y)) (views.outs-Str v))
+    settled_decided start item fs ss (nows.LongName v) apart d f = tt
+    settled_decided start item fs ss nows.Ready apart d f = tt
+    settled_decided start item fs ss nows.After apart d f = tt
+    settled_decided start item fs ss nows.Name apart d f = tt
+    settled_decided start item fs ss (nows.Keyed x) apart d f = tt

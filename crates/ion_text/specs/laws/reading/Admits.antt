@@ -96,7 +96,7 @@ pub at_end_fine : (p : Place) (s : Known) (x : Lexeme) → at_end p s ≡ Ok (So
 at_end_fine p s x h = token_fine s.mode s (end_of p s.mode) x (end_fine p s.mode) h
 
 -- where nothing is open, no token is
-fresh_empty : (start : ℕ) (c : List Slot) (fs : List Frame) (ss : Symbols) (now : Now) (ts : List Placed) → is_fresh (at start c fs ss now) ≡ true → NowStands c fs ss ts now → ts ≡ []
+pub fresh_empty : (start : ℕ) (c : List Slot) (fs : List Frame) (ss : Symbols) (now : Now) (ts : List Placed) → is_fresh (at start c fs ss now) ≡ true → NowStands c fs ss ts now → ts ≡ []
 fresh_empty start c [] [] nows.Ready ts h d = d.whole ∙ (ap (λ x. x ++ d.notes) d.outer ∙ none_noted c places.Top d.notes [] d.noted refl)
 fresh_empty start c [] [] (nows.Pending k end) ts h d = absurd cc
 fresh_empty start c [] [] (nows.Long w end) ts h d = absurd cc

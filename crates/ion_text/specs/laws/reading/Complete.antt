@@ -232,7 +232,7 @@ module _ (g : Catalog) (l : Limits) where
       segments_some _ _ (joined [] v w t d h) = (t, [], refl)
       segments_some _ _ (joined (u ∷ ts) v w t d h) = (u, ts ++ t ∷ [], refl)
 
-  released_paid : (end start : ℕ) (c : List Slot) (fs : List Frame) (ss : Symbols) (h : Held) → (fs ≡ [] → ss ≡ [] → not_version h ≡ true) → released (under g l) (spot_at end start c) fs ss h ≡ paid (under g l) (spot_at end start c) fs ss (held_payload h)
+  pub released_paid : (end start : ℕ) (c : List Slot) (fs : List Frame) (ss : Symbols) (h : Held) → (fs ≡ [] → ss ≡ [] → not_version h ≡ true) → released (under g l) (spot_at end start c) fs ss h ≡ paid (under g l) (spot_at end start c) fs ss (held_payload h)
   released_paid end start c [] [] (helds.Version b s) n = absurd (let e : false ≡ true = n refl refl in cc)
   released_paid end start c [] [] (helds.Symbol s) n = refl
   released_paid end start c [] [] (helds.Null k) n = refl
@@ -525,7 +525,7 @@ module _ (g : Catalog) (l : Limits) where
   InStruct c start fs ss ts ms true = reads g l (at start c (frames.Fields ss [] ∷ fs) [] nows.Name) ts ≡ done (at start c (frames.Fields ss ms ∷ fs) [] nows.Name)
   InStruct c start fs ss ts ms false = Reached c (at start c (frames.Fields ss [] ∷ fs) [] nows.Name) ts (at start c (frames.Fields ss ms ∷ fs) [] nows.After)
 
-  struct_ends : (c : List Slot) (start : ℕ) (fs : List Frame) (ss : Symbols) (ts : List Placed) (ms : List Field) (more : Bool) (t : Placed) → InStruct c start fs ss ts ms more → Says (close_place more) t (Mark' marks.FieldsClose)
+  pub struct_ends : (c : List Slot) (start : ℕ) (fs : List Frame) (ss : Symbols) (ts : List Placed) (ms : List Field) (more : Bool) (t : Placed) → InStruct c start fs ss ts ms more → Says (close_place more) t (Mark' marks.FieldsClose)
       → reads g l (at start c (frames.Fields ss [] ∷ fs) [] nows.Name) (ts ++ t ∷ []) ≡ on_turn (ended (under g l) (spot_at t.lexeme.end start c) fs (annotated ss (payloads.Fields ms))) done
   struct_ends c start fs ss ts ms true t h i = closed_by c places.Name (at start c (frames.Fields ss [] ∷ fs) [] nows.Name) (at start c (frames.Fields ss ms ∷ fs) [] nows.Name) ts t marks.FieldsClose _ refl (ready_reached c (at start c (frames.Fields ss [] ∷ fs) [] nows.Name) (at start c (frames.Fields ss ms ∷ fs) [] nows.Name) ts refl (λ t. refl) h) i (λ e. cc) refl
   struct_ends c start fs ss ts ms false t h i = closed_by c places.FieldValue (at start c (frames.Fields ss [] ∷ fs) [] nows.Name) (at start c (frames.Fields ss ms ∷ fs) [] nows.After) ts t marks.FieldsClose _ refl h i (λ e. cc) refl

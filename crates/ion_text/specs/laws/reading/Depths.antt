@@ -54,7 +54,7 @@ GoesDeep n (late e r) = Unit {0}
 abbrev pub Flat : Symbols → Payload → Type 0
 Flat ss q = depth (annotated ss q) ≡ 0
 
-flat_null : (ss : Symbols) (k : _) → Flat ss (payloads.Null k)
+pub flat_null : (ss : Symbols) (k : _) → Flat ss (payloads.Null k)
 flat_null ss k = depth-at (annotated ss (payloads.Null k)) _ refl ∙ ap layer_depth (views.outs-Null k)
 
 flat_truth : (ss : Symbols) (b : _) → Flat ss (payloads.Truth b)

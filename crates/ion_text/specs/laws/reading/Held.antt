@@ -125,7 +125,7 @@ opened_some c (frames.Sexp ss vs ∷ fs) more o = absurd (no_middle o.front o.no
 opened_some c (frames.Fields ss ms ∷ fs) more o = absurd (no_middle o.front o.notes o.body o.open' o.whole)
 opened_some c (frames.Named ss ms s ∷ fs) more o = absurd (no_middle o.front o.notes (o.body ++ (o.name ++ o.colon ∷ [])) o.open' o.whole)
 
-no_notes : (c : List Slot) (p : Place) (ts : List Placed) (ss : Symbols) → Annotations c p ts ss → [] ≡ ts → ss ≡ []
+pub no_notes : (c : List Slot) (p : Place) (ts : List Placed) (ss : Symbols) → Annotations c p ts ss → [] ≡ ts → ss ≡ []
 no_notes c p _ _ no_annotation e = refl
 no_notes c p _ _ (one_annotation ts ss t colons said s d i j k) e = absurd (no_middle [] ts (colons ∷ []) t e)
 

@@ -103,7 +103,7 @@ both_no true = refl
 both_no false = refl
 
 -- a token that says neither is neither a segment nor quoted
-neither : (top : Bool) (start end : ℕ) (k : TokenKind) (octets : List ℕ) (c : Content) → ((w : List ℕ) → c ≡ Long w → ⊥) → ((w : List ℕ) → c ≡ Quoted w → ⊥) → IsBody k octets (Ok c) → (is_segment k || (top && is_two_quotes k start end)) ≡ false
+pub neither : (top : Bool) (start end : ℕ) (k : TokenKind) (octets : List ℕ) (c : Content) → ((w : List ℕ) → c ≡ Long w → ⊥) → ((w : List ℕ) → c ≡ Quoted w → ⊥) → IsBody k octets (Ok c) → (is_segment k || (top && is_two_quotes k start end)) ≡ false
 neither top start end kinds.LongString octets c n m b = absurd (n octets b.0)
 neither top start end kinds.QuotedSymbol octets c n m b = absurd (m octets b.0)
 neither top start end kinds.Word octets c n m b = both_no top

@@ -154,9 +154,11 @@ module _ (R : Known → List ℕ → Type 0) where
         by true h = no_operator g l r t h c.0 ops.0 k
         by false h = inside (inside_token g l r t c.1 [] a h d c.2)
 
-    alone : (letters : List ℕ) (colon : Bool) (start used : ℕ) (ts : List Placed) → Found' (in_word letters colon start used) [] ts → (ts ≡ []) ⊎ ((w : Placed) × (ts ≡ w ∷ []) × (w.lexeme.kind ≡ kinds.Word))
+    pub alone : (letters : List ℕ) (colon : Bool) (start used : ℕ) (ts : List Placed) → Found' (in_word letters colon start used) [] ts → (ts ≡ []) ⊎ ((w : Placed) × (ts ≡ w ∷ []) × (w.lexeme.kind ≡ kinds.Word) × (w.lexeme.end ≡ used))
     alone letters colon start used _ (Nothing _ _ f) = inl refl
-    alone letters colon start used _ (Last _ _ t s' e f) = inr (t, refl, kind_of t.lexeme (ap (at_end t.place) (next_is (in_word letters colon start used) s' e) ∙ f))
+    alone letters colon start used _ (Last _ _ t s' e f) =
+        let here = ap (at_end t.place) (next_is (in_word letters colon start used) s' e) ∙ f in
+        inr (t, refl, kind_of t.lexeme here, (end_spans (in_word letters colon start used) (end_of t.place modes.Word) t.lexeme here).1)
       where
         kind_of : (x : Lexeme) → at_end t.place (in_word letters colon start used) ≡ Ok (Some x) → x.kind ≡ kinds.Word
         kind_of x h = cc
@@ -167,9 +169,9 @@ module _ (R : Known → List ℕ → Type 0) where
     pub unclosed_never : (t : Placed) (ts : List Placed) (letters : List ℕ) (colon : Bool) (start used : ℕ) (r : Reading) (a : List Value) → t.lexeme.kind ≡ kinds.Operator → Found' (in_word letters colon start used) [] ts → Operators (t ∷ ts) → Going g l r (t ∷ ts) a → ⊥
     unclosed_never t ts letters colon start used r a k f ops d = by (alone letters colon start used ts f)
       where
-        by : (ts ≡ []) ⊎ ((w : Placed) × (ts ≡ w ∷ []) × (w.lexeme.kind ≡ kinds.Word)) → ⊥
+        by : (ts ≡ []) ⊎ ((w : Placed) × (ts ≡ w ∷ []) × (w.lexeme.kind ≡ kinds.Word) × (w.lexeme.end ≡ used)) → ⊥
         by (inl e) = one_operator t r a (subst (λ x. Operators (t ∷ x)) e ops) k (subst (λ x. Going g l r (t ∷ x) a) e d)
-        by (inr (w, e, j)) = never_unclosed g l t w (subst (λ x. Operators (t ∷ x)) e ops) k j (r, a, subst (λ x. Going g l r (t ∷ x) a) e d)
+        by (inr (w, e, j, n)) = never_unclosed g l t w (subst (λ x. Operators (t ∷ x)) e ops) k j (r, a, subst (λ x. Going g l r (t ∷ x) a) e d)
 
     unfoldable pub lexeme_in : Outcome → Lexeme → Lexeme
     lexeme_in (Given x s) d = x

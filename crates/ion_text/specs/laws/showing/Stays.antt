@@ -70,7 +70,7 @@ module _ (g : Catalog) (l : Limits) where
       begun_there t us = begun_behind g l c p start fs notes ss t us a ∙ starts_join c fs front (notes ++ t ∷ us) o
 
       -- one token behind them that is no segment
-      token_behind : (t : Placed) (said : Content) (us : List Placed) → Says p t said → (said ≡ Mark' marks.Colons → ⊥) → ((w : List ℕ) → said ≡ Long w → ⊥)
+      pub token_behind : (t : Placed) (said : Content) (us : List Placed) → Says p t said → (said ≡ Mark' marks.Colons → ⊥) → ((w : List ℕ) → said ≡ Long w → ⊥)
           → reads g l (fresh c) (front ++ (notes ++ t ∷ us)) ≡ reads g l (at (starts g l start fs notes) c fs ss nows.Ready) (t ∷ us)
       token_behind t said us h n k =
           noted_behind (t ∷ us) (notes_begin g l c p notes (t ∷ us) ss a (record { first = t; later = us; said = said; cut = refl; says = h; no_colons = n }))
@@ -168,7 +168,7 @@ module _ (g : Catalog) (l : Limits) where
   outer c fs front r = subst (λ n. Reached g l c (fresh c) front (at (starts g l 0 [] front) c fs [] n)) (received fs r)
 
   -- The tokens up to what has come of the innermost container are read.
-  opened_read : (c : List Slot) (fs : List Frame) (ts : List Placed) (more : Bool) → Deep l.depth fs → Opened c fs ts more → Reached g l c (fresh c) ts (at (starts g l 0 [] ts) c fs [] (target fs more))
+  pub opened_read : (c : List Slot) (fs : List Frame) (ts : List Placed) (more : Bool) → Deep l.depth fs → Opened c fs ts more → Reached g l c (fresh c) ts (at (starts g l 0 [] ts) c fs [] (target fs more))
   opened_read c [] ts more deep o = subst (λ x. Reached g l c (fresh c) x (at (starts g l 0 [] x) c [] [] nows.Ready)) (sym o) (ready_reached g l c (fresh c) (fresh c) [] refl (λ t. refl) refl)
   opened_read c (frames.List ss vs ∷ fs) ts more deep o = list_read c ss vs fs ts more deep o (outer c fs o.front o.receives (opened_read c fs o.front true deep.1 o.outer))
   opened_read c (frames.Sexp ss vs ∷ fs) ts more deep o = sexp_read c ss vs fs ts more deep o (outer c fs o.front o.receives (opened_read c fs o.front true deep.1 o.outer))
@@ -253,7 +253,7 @@ module _ (g : Catalog) (l : Limits) where
     waited = λ w e. absurd w;
   }
 
-  ready_outer : (c : List Slot) (fs : List Frame) (ss : Symbols) (ts : List Placed) → Deep l.depth fs → (d : ReadyFor c fs ss ts) → Outer c fs d.front
+  pub ready_outer : (c : List Slot) (fs : List Frame) (ss : Symbols) (ts : List Placed) → Deep l.depth fs → (d : ReadyFor c fs ss ts) → Outer c fs d.front
   ready_outer c fs ss ts deep d = outer c fs d.front d.receives (opened_read c fs d.front true deep d.outer)
 
   -- what may be a symbol waits for `::`
@@ -343,7 +343,7 @@ module _ (g : Catalog) (l : Limits) where
 
   -- in a struct, a name behind what has come
   module _ (c : List Slot) (ss : Symbols) (ms : List Field) (fs : List Frame) (before : List Placed) (deep : Deep l.depth (frames.Fields ss ms ∷ fs)) (o : Opened c (frames.Fields ss ms ∷ fs) before true) (notes : Symbols) where
-    name_there : (name : List Placed) → Begins g l places.Name name → reads g l (fresh c) (before ++ name) ≡ reads g l (at (starts g l 0 [] before) c (frames.Fields ss ms ∷ fs) [] nows.Name) name
+    pub name_there : (name : List Placed) → Begins g l places.Name name → reads g l (fresh c) (before ++ name) ≡ reads g l (at (starts g l 0 [] before) c (frames.Fields ss ms ∷ fs) [] nows.Name) name
     name_there name b = item_behind g l c places.Name (fresh c) (at (starts g l 0 [] before) c (frames.Fields ss ms ∷ fs) [] nows.Name) before name refl refl (opened_read c (frames.Fields ss ms ∷ fs) before true deep o) b (apart (ends_long before) refl)
       where
         apart : (x : Bool) → ends_long before ≡ x → (x && begins_long name) ≡ false

@@ -1,0 +1,264 @@
+-- The tokens of a row lead the reader to where its last token stands, and with that one it goes on as it does there.
+use Rattle.std.proofs.Common.{◌≡◌, ℕ, suc, ◌+◌, ◌≤◌, true, false, ◌&&◌, List, [], ◌∷◌, ◌++◌, length, refl, sym, ap, ◌∙◌, subst, arith, append_assoc, append-nil, Option}
+use Rattle.ion_model.specs.declared.value.Field.{Field}
+use Rattle.ion_symtab.specs.declared.limits.Limits.{Limits}
+use Rattle.ion_symtab.specs.declared.catalog.Catalog.{Catalog}
+use Rattle.ion_symtab.specs.Slots.{Slot}
+use Rattle.ion_tokens.specs.declared.mode.Place.{Place}
+use Rattle.ion_tokens.specs.declared.mode.Place.TheVariants as places
+use Rattle.ion_tokens.specs.declared.mode.Mark.TheVariants as marks
+use Rattle.ion_tokens.specs.Bodies.{Content, Quoted, Long, Mark'}
+use Rattle.ion_tokens.specs.Lexed.{Placed}
+use Rattle.ion_text.specs.declared.state.Frame.{Frame}
+use Rattle.ion_text.specs.declared.state.Frame.TheVariants as frames
+use Rattle.ion_text.specs.declared.state.Now.TheVariants as nows
+use Rattle.ion_text.specs.Grammar.{Says, IsName, Annotations, ends_long, begins_as_long}
+use Rattle.ion_text.specs.Deciding.{Container, InList, InSexp, InStruct, InField, place_of, TakesValue, Open, none_open, list_open, sexp_open, struct_open, named, Comes}
+use Rattle.ion_text.specs.machine.EachToken.{Symbols, at, fresh}
+use Rattle.ion_text.specs.machine.TokenLists.{adds, reads}
+use Rattle.ion_text.specs.laws.reading.Complete.{Begins, notes_begin, starts}
+use Rattle.ion_text.specs.laws.reading.Depths.{Deep}
+use Rattle.ion_text.specs.laws.reading.MarkerWords.{both_not}
+use Rattle.ion_text.specs.laws.reading.Pieces.{pieces_read, more_read}
+use Rattle.ion_text.specs.laws.reading.Sound.{Opened, Receives, ReadyFor, value_place}
+use Rattle.ion_text.specs.laws.reading.Tokens.{neither}
+use Rattle.ion_text.specs.laws.showing.Stays.{ready_outer, token_behind, name_there}
+use Rattle.ion_text.specs.laws.deciding.Openings.{containers, place_same, levels_same}
+use Rattle.ion_text.specs.laws.deciding.Fronts.{origin, Came, stands_read}
+
+-- What stands open is what the reader would hold.
+pub record Framed (l : Limits) (c : List Slot) (ks : List Container) (ts : List Placed) : Type 0 where
+  pub held : List Frame
+  pub same : containers held ≡ ks
+  pub opened : Opened c held ts true
+  pub deep : Deep l.depth held
+
+receives : (fs : List Frame) → TakesValue (containers fs) → Receives fs
+receives [] h = tt
+receives (frames.List ss vs ∷ fs) h = tt
+receives (frames.Sexp ss vs ∷ fs) h = tt
+receives (frames.Fields ss ms ∷ fs) h = absurd h
+receives (frames.Named ss ms s ∷ fs) h = tt
+
+module _ (l : Limits) (c : List Slot) where
+  -- where a value may come
+  pub place_there : (ks : List Container) (fs : List Frame) → containers fs ≡ ks → place_of ks ≡ value_place fs
+  place_there ks fs e = sym (place_same fs ∙ ap place_of e)
+
+  noted_so : (ks : List Container) (fs : List Frame) (notes : List Placed) (ss : Symbols) → containers fs ≡ ks → Annotations c (place_of ks) notes ss → Annotations c (value_place fs) notes ss
+  noted_so ks fs notes ss e a = subst (λ p. Annotations c p notes ss) (place_there ks fs e) a
+
+  says_so : (ks : List Container) (fs : List Frame) (t : Placed) (d : Content) → containers fs ≡ ks → Says (place_of ks) t d → Says (value_place fs) t d
+  says_so ks fs t d e h = subst (λ p. Says p t d) (place_there ks fs e) h
+
+  pub same_levels : (ks : List Container) (fs : List Frame) → containers fs ≡ ks → length fs ≡ length ks
+  same_levels ks fs e = sym (levels_same fs) ∙ ap length e
+
+  shallow : (ks : List Container) (fs : List Frame) (n : ℕ) → containers fs ≡ ks → n + suc (length ks) ≤ l.depth → n + suc (length fs) ≤ l.depth
+  shallow ks fs n e h = omega (arith, h, same_levels ks fs e)
+
+  named_frames : (ks : List Container) (ts ns : List Placed) (s : Option (List ℕ)) (colon : Placed) (n : IsName c ns s) (k : Says places.Name colon (Mark' marks.Colon)) (fs : List Frame) → containers fs ≡ InStruct ∷ ks → Opened c fs ts true → Deep l.depth fs → Framed l c (InField ∷ ks) (ts ++ (ns ++ colon ∷ []))
+  named_frames ks ts ns s colon n k (frames.Fields ss ms ∷ fs) e o d =
+      let rest : containers fs ≡ ks = cc in
+      let name : List Placed = ns ++ colon ∷ [] in
+      record {
+        held = frames.Named ss ms s ∷ fs;
+        same = ap (λ x. InField ∷ x) rest;
+        opened = record {
+          front = o.front;
+          notes = o.notes;
+          body = o.body;
+          name = ns;
+          open' = o.open';
+          colon = colon;
+          whole = ap (λ x. x ++ name) o.whole ∙ (append_assoc o.front (o.notes ++ o.open' ∷ o.body) name ∙ ap (λ x. o.front ++ x) (append_assoc o.notes (o.open' ∷ o.body) name));
+          outer = o.outer;
+          receives = o.receives;
+          noted = o.noted;
+          opens = o.opens;
+          items = o.items;
+          named = n;
+          colons = k;
+        };
+        deep = d;
+      }
+  named_frames ks ts ns s colon n k [] e o d = absurd cc
+  named_frames ks ts ns s colon n k (frames.List ss vs ∷ fs) e o d = absurd cc
+  named_frames ks ts ns s colon n k (frames.Sexp ss vs ∷ fs) e o d = absurd cc
+  named_frames ks ts ns s colon n k (frames.Named ss ms x ∷ fs) e o d = absurd cc
+
+  pub framed : (ks : List Container) (ts : List Placed) → Open l c ks ts → Framed l c ks ts
+  framed _ _ none_open = record { held = []; same = refl; opened = refl; deep = tt }
+  framed _ _ (list_open ks ts notes us ss t vs o takes a says items deep) =
+      let f = framed ks ts o in
+      record {
+        held = frames.List ss vs ∷ f.held;
+        same = ap (λ x. InList ∷ x) f.same;
+        opened = record {
+          front = ts;
+          notes = notes;
+          body = us;
+          open' = t;
+          whole = refl;
+          outer = f.opened;
+          receives = receives f.held (subst TakesValue (sym f.same) takes);
+          noted = noted_so ks f.held notes ss f.same a;
+          opens = says_so ks f.held t (Mark' marks.ListOpen) f.same says;
+          items = items;
+        };
+        deep = (shallow ks f.held _ f.same deep, f.deep);
+      }
+  framed _ _ (sexp_open ks ts notes us ss t vs o takes a says items deep) =
+      let f = framed ks ts o in
+      record {
+        held = frames.Sexp ss vs ∷ f.held;
+        same = ap (λ x. InSexp ∷ x) f.same;
+        opened = record {
+          front = ts;
+          notes = notes;
+          body = us;
+          open' = t;
+          whole = refl;
+          outer = f.opened;
+          receives = receives f.held (subst TakesValue (sym f.same) takes);
+          noted = noted_so ks f.held notes ss f.same a;
+          opens = says_so ks f.held t (Mark' marks.SexpOpen) f.same says;
+          items = items;
+        };
+        deep = (shallow ks f.held _ f.same deep, f.deep);
+      }
+  framed _ _ (struct_open ks ts notes us ss t ms o takes a says items deep) =
+      let f = framed ks ts o in
+      record {
+        held = frames.Fields ss ms ∷ f.held;
+        same = ap (λ x. InStruct ∷ x) f.same;
+        opened = record {
+          front = ts;
+          notes = notes;
+          body = us;
+          open' = t;
+          whole = refl;
+          outer = f.opened;
+          receives = receives f.held (subst TakesValue (sym f.same) takes);
+          noted = noted_so ks f.held notes ss f.same a;
+          opens = says_so ks f.held t (Mark' marks.FieldsOpen) f.same says;
+          items = items;
+        };
+        deep = (shallow ks f.held _ f.same deep, f.deep);
+      }
+  framed _ _ (named ks ts ns s colon o n k) =
+      let f = framed (InStruct ∷ ks) ts o in
+      named_frames ks ts ns s colon n k f.held f.same f.opened f.deep
+
+-- What a token says that neither is a quoted symbol or a segment nor `::`: a long string before it doesn't go on with it, nor does a word.
+pub record Apart (d : Content) : Type 0 where
+  pub long : (w : List ℕ) → d ≡ Long w → ⊥
+  pub quoted : (w : List ℕ) → d ≡ Quoted w → ⊥
+  pub colons : d ≡ Mark' marks.Colons → ⊥
+
+module _ (g : Catalog) (l : Limits) where
+  -- the first tokens of an open item
+  item_begins : (c : List Slot) (fs : List Frame) (ts us front notes body : List Placed) (ss : Symbols) (t : Placed) (d : Content) → ts ≡ front ++ (notes ++ t ∷ body) → Annotations c (value_place fs) notes ss → Says (value_place fs) t d → (d ≡ Mark' marks.Colons → ⊥)
+      → ((x : List Placed) → Begins g l (value_place fs) x → Begins g l places.Top (front ++ x)) → Begins g l places.Top (ts ++ us)
+  item_begins c fs ts us front notes body ss t d cut a says n f =
+      let whole : ts ++ us ≡ front ++ (notes ++ t ∷ (body ++ us)) = ap (λ x. x ++ us) cut ∙ (append_assoc front (notes ++ t ∷ body) us ∙ ap (λ x. front ++ x) (append_assoc notes (t ∷ body) us)) in
+      subst (Begins g l places.Top) (sym whole)
+      (f (notes ++ t ∷ (body ++ us)) (notes_begin g l c (value_place fs) notes (t ∷ (body ++ us)) ss a (record { first = t; later = body ++ us; said = d; cut = refl; says = says; no_colons = n })))
+
+  opened_begins : (c : List Slot) (fs : List Frame) (ts us : List Placed) → Opened c fs ts true → Begins g l (value_place fs) us → Begins g l places.Top (ts ++ us)
+  opened_begins c [] ts us o b = subst (λ x. Begins g l places.Top (x ++ us)) (sym o) b
+  opened_begins c (frames.List ss vs ∷ fs) ts us o b = item_begins c fs ts us o.front o.notes o.body ss o.open' (Mark' marks.ListOpen) o.whole o.noted o.opens (λ e. cc) (λ x d. opened_begins c fs o.front x o.outer d)
+  opened_begins c (frames.Sexp ss vs ∷ fs) ts us o b = item_begins c fs ts us o.front o.notes o.body ss o.open' (Mark' marks.SexpOpen) o.whole o.noted o.opens (λ e. cc) (λ x d. opened_begins c fs o.front x o.outer d)
+  opened_begins c (frames.Fields ss ms ∷ fs) ts us o b = item_begins c fs ts us o.front o.notes o.body ss o.open' (Mark' marks.FieldsOpen) o.whole o.noted o.opens (λ e. cc) (λ x d. opened_begins c fs o.front x o.outer d)
+  opened_begins c (frames.Named ss ms s ∷ fs) ts us o b = item_begins c fs ts us o.front o.notes (o.body ++ (o.name ++ o.colon ∷ [])) ss o.open' (Mark' marks.FieldsOpen) o.whole o.noted o.opens (λ e. cc) (λ x d. opened_begins c fs o.front x o.outer d)
+
+  -- behind a long string none that isn't open stands
+  stays_apart : (front item : List Placed) (t : Placed) (d : Content) (more : List Placed) (p : Place) → (ends_long front && begins_as_long item) ≡ false → Says p t d → Apart d → (ends_long front && begins_as_long (item ++ t ∷ more)) ≡ false
+  stays_apart front [] t d more p h says a = both_not (ends_long front) (begins_as_long (t ∷ more)) (neither true t.lexeme.start t.lexeme.end t.lexeme.kind t.lexeme.octets d a.long a.quoted says.body)
+  stays_apart front (x ∷ item) t d more p h says a = h
+
+  module _ (c : List Slot) (ks : List Container) (said : Content) (ts : List Placed) (h : Comes g l c ks said ts) where
+    abbrev pub item : List Placed
+    item = h.item ++ h.notes
+
+    abbrev pub before : List Placed
+    before = h.front ++ item
+
+    pub cut : ts ≡ before ++ h.token ∷ []
+    cut = h.parts ∙ sym (append_assoc h.front item (h.token ∷ []))
+
+    pub f : Framed l c ks h.item
+    f = framed l c ks h.item h.open'
+
+    -- where a value may come
+    module _ (takes : TakesValue ks) where
+      pub here : place_of ks ≡ value_place f.held
+      here = place_there l c ks f.held f.same
+
+      noted : Annotations c (value_place f.held) h.notes h.symbols
+      noted = noted_so l c ks f.held h.notes h.symbols f.same h.noted
+
+      ready : ReadyFor c f.held h.symbols item
+      ready = record { front = h.item; notes = h.notes; whole = refl; outer = f.opened; receives = receives f.held (subst TakesValue (sym f.same) takes); noted = noted }
+
+      pub came : Came g l before (place_of ks)
+      came = subst (Came g l before) (sym here) (stands_read g l c h.front h.values f.held h.symbols nows.Ready item h.pieces f.deep ready h.apart)
+
+      -- A token that comes there is read there.
+      pub go_on : (t : Placed) (d : Content) (more : List Placed) → Says (place_of ks) t d → Apart d → (s : ℕ) × (reads g l (origin g l) (before ++ t ∷ more) ≡ adds h.values (reads g l (at s c f.held h.symbols nows.Ready) (t ∷ more)))
+      unfolding ready
+      go_on t d more says a =
+          let says' = says_so l c ks f.held t d f.same says in
+          let first = opened_begins c f.held h.item (h.notes ++ t ∷ more) f.opened (notes_begin g l c (value_place f.held) h.notes (t ∷ more) h.symbols noted (record { first = t; later = more; said = d; cut = refl; says = says'; no_colons = a.colons })) in
+          let join : h.item ++ (h.notes ++ t ∷ more) ≡ item ++ t ∷ more = sym (append_assoc h.item h.notes (t ∷ more)) in (
+            starts g l (starts g l 0 [] h.item) f.held h.notes,
+            ap (reads g l (origin g l)) (append_assoc h.front item (t ∷ more))
+                ∙ (more_read g l h.front (item ++ t ∷ more) h.values c (pieces_read g l h.front h.values c h.pieces) (subst (Begins g l places.Top) join first) (stays_apart h.front item t d more (place_of ks) h.apart says a)
+                ∙ ap (adds h.values)
+                (ap (reads g l (fresh c)) (sym join)
+                ∙ token_behind g l c f.held h.item f.opened (ready_outer g l c f.held h.symbols item f.deep ready) h.notes h.symbols noted t d more says' a.colons a.long)),
+          )
+
+  -- where a name may come
+  pub record Struct (c : List Slot) (ts : List Placed) : Type 0 where
+    pub notes : Symbols
+    pub fields : List Field
+    pub outer : List Frame
+    pub opened : Opened c (frames.Fields notes fields ∷ outer) ts true
+    pub deep : Deep l.depth (frames.Fields notes fields ∷ outer)
+
+  struct_of : (c : List Slot) (ks : List Container) (ts : List Placed) (fs : List Frame) → containers fs ≡ InStruct ∷ ks → Opened c fs ts true → Deep l.depth fs → Struct c ts
+  struct_of c ks ts (frames.Fields ss ms ∷ fs) e o d = record { notes = ss; fields = ms; outer = fs; opened = o; deep = d }
+  struct_of c ks ts [] e o d = absurd cc
+  struct_of c ks ts (frames.List ss vs ∷ fs) e o d = absurd cc
+  struct_of c ks ts (frames.Sexp ss vs ∷ fs) e o d = absurd cc
+  struct_of c ks ts (frames.Named ss ms x ∷ fs) e o d = absurd cc
+
+  module _ (c : List Slot) (ks : List Container) (said : Content) (ts : List Placed) (h : Comes g l c (InStruct ∷ ks) said ts) where
+    pub struct : Struct c h.item
+    struct = let f = framed l c (InStruct ∷ ks) h.item h.open' in struct_of c ks h.item f.held f.same f.opened f.deep
+
+    bare : h.item ++ h.notes ≡ h.item
+    bare = ap (λ x. h.item ++ x) h.may ∙ append-nil h.item
+
+    abbrev pub up_to : List Placed
+    up_to = h.front ++ h.item
+
+    pub cut_name : ts ≡ up_to ++ h.token ∷ []
+    cut_name = h.parts ∙ (ap (λ x. h.front ++ (x ++ h.token ∷ [])) bare ∙ sym (append_assoc h.front h.item (h.token ∷ [])))
+
+    apart : (ends_long h.front && begins_as_long h.item) ≡ false
+    apart = subst (λ x. (ends_long h.front && begins_as_long x) ≡ false) bare h.apart
+
+    pub came_name : Came g l up_to places.Name
+    came_name = stands_read g l c h.front h.values (frames.Fields struct.notes struct.fields ∷ struct.outer) [] nows.Name h.item h.pieces struct.deep (struct.opened, tt) apart
+
+    pub go_on_name : (t : Placed) (d : Content) → Says places.Name t d → Apart d → (s : ℕ) × (reads g l (origin g l) (up_to ++ t ∷ []) ≡ adds h.values (reads g l (at s c (frames.Fields struct.notes struct.fields ∷ struct.outer) [] nows.Name) (t ∷ [])))
+    go_on_name t d says a =
+        let b : Begins g l places.Name (t ∷ []) = record { first = t; later = []; said = d; cut = refl; says = says; no_colons = a.colons } in
+        let first = opened_begins c (frames.Fields struct.notes struct.fields ∷ struct.outer) h.item (t ∷ []) struct.opened b in (
+          starts g l 0 [] h.item,
+          ap (reads g l (origin g l)) (append_assoc h.front h.item (t ∷ []))
+              ∙ (more_read g l h.front (h.item ++ t ∷ []) h.values c (pieces_read g l h.front h.values c h.pieces) first (stays_apart h.front h.item t d [] places.Name apart says a)
+              ∙ ap (adds h.values) (name_there g l c struct.notes struct.fields struct.outer h.item struct.deep struct.opened [] (t ∷ []) b)),
+        )

@@ -1,0 +1,375 @@
+-- Where a row of the table stands whose last token is refused, octets are refused.
+use Rattle.std.proofs.Common.{◌≡◌, ℕ, ◌+◌, ◌≤◌, nat_lt, Bool, true, false, ◌&&◌, ◌||◌, List, [], ◌∷◌, ◌++◌, length, refl, sym, ap, ◌∙◌, subst, arith, append_assoc, length-append, Result, Ok, Err, Option, Some, if◌then◌else◌, ◌⊎◌, inl, inr, codes}
+use Rattle.std.proofs.lemmas.Bool.{cond-true, cond-false}
+use Rattle.std.proofs.lemmas.Bool.Decides.{nat_tests}
+use Rattle.std.specs.Str.{bytes_eq}
+use Rattle.ion_model.specs.declared.value.Value.{Value}
+use Rattle.ion_model.specs.declared.value.Field.{Field}
+use Rattle.ion_model.specs.declared.value.Payload.{Payload}
+use Rattle.ion_model.specs.declared.value.Payload.TheVariants as payloads
+use Rattle.ion_model.specs.declared.value.Payload.TheOpen.{Payload-F}
+use Rattle.ion_model.specs.declared.value.Payload.TheViews as views
+use Rattle.ion_model.specs.Measures.{Layer, depth, annotated}
+use Rattle.ion_model.specs.Kinds.{is_table}
+use Rattle.ion_atoms.specs.declared.kind.Kind.TheVariants as values
+use Rattle.ion_atoms.specs.declared.refusal.Reason.{Reason}
+use Rattle.ion_atoms.specs.declared.refusal.Reason.TheVariants as reasons
+use Rattle.ion_symtab.specs.declared.limits.Limits.{Limits}
+use Rattle.ion_symtab.specs.declared.catalog.Catalog.{Catalog}
+use Rattle.ion_symtab.specs.Slots.{Slot, resolve}
+use Rattle.ion_symtab.specs.Next.{next}
+use Rattle.ion_tokens.specs.declared.mode.Mark.{Mark}
+use Rattle.ion_tokens.specs.declared.mode.Mark.TheVariants as marks
+use Rattle.ion_tokens.specs.declared.mode.Place.{Place}
+use Rattle.ion_tokens.specs.declared.mode.Place.TheVariants as places
+use Rattle.ion_tokens.specs.declared.mode.TokenKind.{TokenKind}
+use Rattle.ion_tokens.specs.declared.mode.TokenKind.TheVariants as kinds
+use Rattle.ion_tokens.specs.machine.Table.{end_of}
+use Rattle.ion_tokens.specs.machine.Bounds.{is_idle}
+use Rattle.ion_tokens.specs.machine.Ahead.{is_closing}
+use Rattle.ion_tokens.specs.machine.Scanning.{Known, at_end}
+use Rattle.ion_tokens.specs.Bodies.{Content, Word, Id, TypedNull, Mark'}
+use Rattle.ion_tokens.specs.Lexed.{Placed}
+use Rattle.ion_text.specs.declared.state.Held.{Held}
+use Rattle.ion_text.specs.declared.state.Held.TheVariants as helds
+use Rattle.ion_text.specs.declared.state.Frame.{Frame}
+use Rattle.ion_text.specs.declared.state.Frame.TheVariants as frames
+use Rattle.ion_text.specs.declared.state.Now.TheVariants as nows
+use Rattle.ion_text.specs.Grammar.{Says, Annotations, Plain, one_token, long_string, is_list, is_sexp, is_struct, Means, means, Members, IsScalar, is_null, is_typed_null, is_true, is_false, is_int, is_decimal, is_timestamp, is_symbol, is_operator, is_short, is_clob, is_blob, is_keyword, is_version, the_marker, close_place, ends_long, begins_as_long}
+use Rattle.ion_text.specs.Deciding.{Container, InList, InSexp, InStruct, InField, place_of, TakesValue, Comes, Ends, Are, IsKeyword}
+use Rattle.ion_text.specs.machine.EachToken.{under, spot_at, Reading, Turn, goes, refuses, late, Symbols, at, fresh, place, turn, ended, turned, held_word, held_symbol, begun_at, on_ready, resolved, noted}
+use Rattle.ion_text.specs.machine.Run.{token_of}
+use Rattle.ion_text.specs.machine.TokenLists.{stopped, adds, done, on_turn, reads, first_token}
+use Rattle.ion_text.specs.laws.reading.Admits.{at_end_fine}
+use Rattle.ion_text.specs.laws.reading.Complete.{depth-struct, starts, notes_read, read_behind, opened_struct, members_read, struct_ends, means_begins}
+use Rattle.ion_text.specs.laws.reading.Depths.{Deep}
+use Rattle.ion_text.specs.laws.reading.Going.{mark_kind}
+use Rattle.ion_text.specs.laws.reading.Meets.{end_spans}
+use Rattle.ion_text.specs.laws.reading.Pieces.{pieces_read, more_read}
+use Rattle.ion_text.specs.laws.reading.Places.{pending_at}
+use Rattle.ion_text.specs.laws.reading.Segments.{never}
+use Rattle.ion_text.specs.laws.reading.Sound.{Opened}
+use Rattle.ion_text.specs.laws.showing.Cuts.{lexed_front}
+use Rattle.ion_text.specs.laws.deciding.AtEnd.{last_ends}
+use Rattle.ion_text.specs.laws.deciding.Openings.{begins_so}
+use Rattle.ion_text.specs.laws.deciding.Shows.{IsBare, BareSaid, said_bare}
+use Rattle.ion_text.specs.laws.deciding.Fronts.{origin, Came, HasEnded, stands_read}
+use Rattle.ion_text.specs.laws.deciding.Comings.{Apart, same_levels, before, cut, f, here, came, go_on, struct, up_to, cut_name, came_name, go_on_name}
+
+-- 1. Tokens that have ended.
+
+-- where octets are left behind the last token, it has ended
+pub ended_by_rest : (g : Catalog) (l : Limits) (u : List ℕ) (ts : List Placed) (t : Placed) (o : ℕ) (rest : List ℕ) → (t.lexeme.kind ≡ kinds.Operator → ⊥) → Are u (ts ++ t ∷ []) (rest ++ o ∷ []) → HasEnded g l u t
+ended_by_rest g l u ts t o rest plain (colon, end, lexes) = record {
+  plain = plain;
+  word = λ k e. absurd (omega (arith, e, size));
+  closed = λ p s used e. let x = (end_spans s (end_of p s.mode) t.lexeme e).1 in absurd (omega (arith, x, used, size));
+}
+  where
+    size : t.lexeme.end + (length rest + 1) ≡ length u
+    size =
+        let x = lexed_front (ts ++ t ∷ []) false 0 u colon end (rest ++ o ∷ []) lexes in
+        omega (arith, last_ends ts t false 0 u colon end (rest ++ o ∷ []) lexes, x.2, ap length x.1, length-append x.0 (rest ++ o ∷ []), length-append rest (o ∷ []))
+
+-- what says a word or opens a struct is no operator
+pub bare_plain : (k : TokenKind) → IsBare k → k ≡ kinds.Operator → ⊥
+bare_plain kinds.Word b e = cc
+bare_plain kinds.KindName b e = cc
+bare_plain (kinds.Mark m) b e = cc
+bare_plain kinds.Number b e = absurd b
+bare_plain kinds.Operator b e = absurd b
+bare_plain kinds.QuotedSymbol b e = absurd b
+bare_plain kinds.ShortString b e = absurd b
+bare_plain kinds.LongString b e = absurd b
+bare_plain kinds.Clob b e = absurd b
+bare_plain kinds.Blob b e = absurd b
+
+pub bare_ended : (g : Catalog) (l : Limits) (u : List ℕ) (ts : List Placed) (t : Placed) (p : Place) (d : Content) (o : ℕ) (rest : List ℕ) → Says p t d → BareSaid d → Are u (ts ++ t ∷ []) (rest ++ o ∷ []) → HasEnded g l u t
+bare_ended g l u ts t p d o rest says b are = ended_by_rest g l u ts t o rest (bare_plain t.lexeme.kind (said_bare t.lexeme.kind t.lexeme.octets d says.body b)) are
+
+-- a mark that the end doesn't end has ended with its last octet
+pub mark_ended : (g : Catalog) (l : Limits) (u : List ℕ) (p : Place) (t : Placed) (m : Mark) → Says p t (Mark' m) → is_closing (kinds.Mark m) ≡ true → (m ≡ marks.Colon → ⊥) → HasEnded g l u t
+mark_ended g l u p t m says closing n = record {
+  plain = λ e. let k : kinds.Mark m ≡ kinds.Operator = sym kind ∙ e in absurd cc;
+  word = λ e i. let k : kinds.Mark m ≡ kinds.Word = sym kind ∙ e in absurd cc;
+  closed = λ q s used e. go q s e (is_idle s.mode) refl;
+}
+  where
+    kind : t.lexeme.kind ≡ kinds.Mark m
+    kind = mark_kind t.lexeme.kind t.lexeme.octets m says.body
+
+    by : (t.lexeme.kind ≡ kinds.Mark marks.Colon) ⊎ (t.lexeme.kind ≡ kinds.Operator) → ⊥
+    by (inl y) = n (let q : kinds.Mark m ≡ kinds.Mark marks.Colon = sym kind ∙ y in let q' : m ≡ marks.Colon = cc in q')
+    by (inr y) = absurd (let q : kinds.Mark m ≡ kinds.Operator = sym kind ∙ y in cc)
+
+    go : (q : Place) (s : Known) → at_end q s ≡ Ok (Some t.lexeme) → (b : Bool) → is_idle s.mode ≡ b → ⊥
+    go q s e false h = never (is_closing t.lexeme.kind) ((at_end_fine q s t.lexeme e).2 h) (ap is_closing kind ∙ closing)
+    go q s e true h = by ((at_end_fine q s t.lexeme e).4 h)
+
+-- 2. Contents that end what waits.
+
+pub word_apart : (w : List ℕ) → Apart (Word w)
+word_apart w = record { long = λ v e. cc; quoted = λ v e. cc; colons = λ e. cc }
+
+id_apart : (id : ℕ) → Apart (Id id)
+id_apart id = record { long = λ v e. cc; quoted = λ v e. cc; colons = λ e. cc }
+
+pub null_apart : (k : _) → Apart (TypedNull k)
+null_apart k = record { long = λ v e. cc; quoted = λ v e. cc; colons = λ e. cc }
+
+mark_apart : (m : Mark) → (m ≡ marks.Colons → ⊥) → Apart (Mark' m)
+mark_apart m n = record { long = λ v e. cc; quoted = λ v e. cc; colons = λ e. n (let h : m ≡ marks.Colons = cc in h) }
+
+-- a mark that opens a container
+abbrev pub OpensOne : Mark → Type 0
+OpensOne marks.ListOpen = Unit {0}
+OpensOne marks.SexpOpen = Unit {0}
+OpensOne marks.FieldsOpen = Unit {0}
+OpensOne _ = ⊥
+
+opens_apart : (m : Mark) → OpensOne m → m ≡ marks.Colons → ⊥
+opens_apart m o e = subst OpensOne e o
+
+resolved_fails : (r : Result (Option (List ℕ)) Reason) (f : Option (List ℕ) → Turn) (e : Reason) → r ≡ Err e → resolved r f ≡ refuses e
+resolved_fails r f e h = ap (λ x. resolved x f) h
+
+too_many : (a b depth : ℕ) → depth ≤ b → a ≡ b → nat_lt a depth ≡ false
+too_many a b depth h e = grind (arith, nat_tests)
+
+abbrev pub has_fields : Layer → Bool
+has_fields (Payload-F.Fields fs) = true
+has_fields _ = false
+
+abbrev fields_in : Layer → List Field
+fields_in (Payload-F.Fields fs) = fs
+fields_in _ = []
+
+-- a keyword is held as no symbol
+keyword_held : (w : List ℕ) → is_keyword w ≡ true → held_symbol (held_word w) ≡ Err reasons.KeywordAsName
+keyword_held w h = go (bytes_eq w (codes "null")) (bytes_eq w (codes "true")) (bytes_eq w (codes "false")) (bytes_eq w (codes "nan")) h
+  where
+    go : (a b c d : Bool) → ((a || b) || (c || d)) ≡ true
+        → held_symbol (if a then helds.Null values.Null else (if b then helds.Truth true else (if c then helds.Truth false else (if d then helds.Nan else (if is_version w then helds.Version (bytes_eq w the_marker) (Some w) else helds.Symbol (Some w)))))) ≡ Err reasons.KeywordAsName
+    go true b c d h = refl
+    go false true c d h = refl
+    go false false true d h = refl
+    go false false false true h = refl
+    go false false false false h = absurd cc
+
+-- behind others that are read the last of the tokens is refused
+pub record Stops (g : Catalog) (l : Limits) (ts : List Placed) (t : Placed) : Type 0 where
+  pub front : List Placed
+  pub is : ts ≡ front ++ t ∷ []
+  pub came : Came g l front t.place
+  pub stops : reads g l (origin g l) ts ≡ stopped
+
+module _ (g : Catalog) (l : Limits) where
+  -- 3. A token where a value may come.
+
+  module _ (c : List Slot) (ks : List Container) (said : Content) (ts : List Placed) (h : Comes g l c ks said ts) (takes : TakesValue ks) where
+    abbrev held : List Frame
+    held = (f g l c ks said ts h).held
+
+    -- which is refused there
+    value_stops : Apart said → ((s : ℕ) → on_turn (turn g l (at s c held h.symbols nows.Ready) (token_of h.token.lexeme said)) done ≡ stopped) → Stops g l ts h.token
+    value_stops a refused =
+        let front = before g l c ks said ts h in
+        let is = cut g l c ks said ts h in
+        let x = go_on g l c ks said ts h takes h.token said [] h.says a in
+        record {
+          front = front;
+          is = is;
+          came = subst (Came g l front) (sym h.says.place) (came g l c ks said ts h takes);
+          stops = ap (reads g l (origin g l)) is ∙ (x.1 ∙ ap (adds h.values) (first_token g l (place_of ks) (at x.0 c held h.symbols nows.Ready) h.token said [] h.says (here g l c ks said ts h takes) (inr refl) ∙ refused x.0));
+        }
+
+    -- a container that would be too deep
+    deep_stops : (t : Turn) → nat_lt (length held) l.depth ≡ false → (deep : Turn) → on_turn deep done ≡ stopped → on_turn (if nat_lt (length held) l.depth then t else deep) done ≡ stopped
+    deep_stops t e deep h = ap (λ x. on_turn x done) (cond-false _ _ _ e) ∙ h
+
+    levels : l.depth ≤ length ks → nat_lt (length held) l.depth ≡ false
+    levels deep = too_many (length held) (length ks) l.depth deep (same_levels l c ks held (f g l c ks said ts h).same)
+
+    pub open_stops : (m : Mark) → said ≡ Mark' m → OpensOne m → l.depth ≤ length ks → Stops g l ts h.token
+    open_stops m e opens deep =
+        value_stops (subst Apart (sym e) (mark_apart m (opens_apart m opens)))
+        (λ s. ap (λ d. on_turn (turn g l (at s c held h.symbols nows.Ready) (token_of h.token.lexeme d)) done) e ∙ by m opens s)
+      where
+        by : (m : Mark) → OpensOne m → (s : ℕ) → on_turn (turn g l (at s c held h.symbols nows.Ready) (token_of h.token.lexeme (Mark' m))) done ≡ stopped
+        by marks.ListOpen o s = deep_stops _ (levels deep) (refuses reasons.Depth) refl
+        by marks.SexpOpen o s = deep_stops _ (levels deep) (refuses reasons.Depth) refl
+        by marks.FieldsOpen o s = deep_stops _ (levels deep) (late reasons.Depth _) refl
+        by _ o s = absurd o
+
+    -- one that waits for `::`
+    module _ (word : Held) (waits : (start end : ℕ) → on_ready (under g l) (spot_at end start c) held h.symbols said ≡ goes (at start c held h.symbols (nows.Pending word end))) (apart : Apart said) where
+      abbrev pub front : List Placed
+      front = before g l c ks said ts h
+
+      abbrev pub pending : ℕ → Reading
+      pending s = at (begun_at s h.token.lexeme.start held h.symbols) c held h.symbols (nows.Pending word h.token.lexeme.end)
+
+      pub read_to : (more : List Placed) → (s : ℕ) × (reads g l (origin g l) (front ++ h.token ∷ more) ≡ adds h.values (reads g l (pending s) more))
+      read_to more =
+          let x = go_on g l c ks said ts h takes h.token said more h.says apart in (
+            x.0,
+            x.1
+                ∙ ap (adds h.values)
+                (first_token g l (place_of ks) (at x.0 c held h.symbols nows.Ready) h.token said more h.says (here g l c ks said ts h takes) (inr refl)
+                ∙ ap (λ y. on_turn y (λ k. reads g l k more)) (waits (begun_at x.0 h.token.lexeme.start held h.symbols) h.token.lexeme.end)),
+          )
+
+      at_pending : (s : ℕ) → place_of ks ≡ place (pending s)
+      at_pending s = here g l c ks said ts h takes ∙ sym (pending_at held word h.token.lexeme.end)
+
+      came_pending : Came g l (front ++ h.token ∷ []) (place_of ks)
+      came_pending = let x = read_to [] in record { values = h.values ++ []; now = pending x.0; read = x.1; here = sym (at_pending x.0) }
+
+      -- an annotation that is a keyword
+      note_stops : (colons : Placed) → Says (place_of ks) colons (Mark' marks.Colons) → held_symbol word ≡ Err reasons.KeywordAsName → Stops g l (ts ++ colons ∷ []) colons
+      note_stops colons says none =
+          let x = read_to (colons ∷ []) in
+          let whole : ts ++ colons ∷ [] ≡ (front ++ h.token ∷ []) ++ colons ∷ [] = ap (λ y. y ++ colons ∷ []) (cut g l c ks said ts h) in
+          record {
+            front = front ++ h.token ∷ [];
+            is = whole;
+            came = subst (Came g l (front ++ h.token ∷ [])) (sym says.place) came_pending;
+            stops =
+                ap (reads g l (origin g l)) (whole ∙ append_assoc front (h.token ∷ []) (colons ∷ []))
+                ∙ (x.1 ∙ ap (adds h.values)
+                (first_token g l (place_of ks) (pending x.0) colons (Mark' marks.Colons) [] says (at_pending x.0) (inl refl)
+                ∙ ap (λ y. on_turn (noted (begun_at x.0 h.token.lexeme.start held h.symbols) c held h.symbols y) done) none));
+          }
+
+  -- 4. A token where a name may come.
+
+  module _ (c : List Slot) (ks : List Container) (said : Content) (ts : List Placed) (h : Comes g l c (InStruct ∷ ks) said ts) where
+    abbrev inside : List Frame
+    inside = let s = struct g l c ks said ts h in frames.Fields s.notes s.fields ∷ s.outer
+
+    name_stops : Apart said → ((s : ℕ) → on_turn (turn g l (at s c inside [] nows.Name) (token_of h.token.lexeme said)) done ≡ stopped) → Stops g l ts h.token
+    name_stops a refused =
+        let front = up_to g l c ks said ts h in
+        let is = cut_name g l c ks said ts h in
+        let x = go_on_name g l c ks said ts h h.token said h.says a in
+        record {
+          front = front;
+          is = is;
+          came = subst (Came g l front) (sym h.says.place) (came_name g l c ks said ts h);
+          stops = ap (reads g l (origin g l)) is ∙ (x.1 ∙ ap (adds h.values) (first_token g l places.Name (at x.0 c inside [] nows.Name) h.token said [] h.says refl (inr refl) ∙ refused x.0));
+        }
+
+  -- 5. The rows of one token.
+
+  id_value : (ts : List Placed) (c : List Slot) (ks : List Container) (id : ℕ) (e : Reason) → TakesValue ks → (h : Comes g l c ks (Id id) ts) → resolve c id ≡ Err e → Stops g l ts h.token
+  id_value ts c ks id e takes h fails = value_stops c ks (Id id) ts h takes (id_apart id) (λ s. ap (λ x. on_turn x done) (resolved_fails (resolve c id) _ e fails))
+
+  pub id_stops : (ts : List Placed) (c : List Slot) (ks : List Container) (id : ℕ) (e : Reason) → (h : Comes g l c ks (Id id) ts) → resolve c id ≡ Err e → Stops g l ts h.token
+  id_stops ts c (InStruct ∷ ks) id e h fails = name_stops c ks (Id id) ts h (id_apart id) (λ s. ap (λ x. on_turn x done) (resolved_fails (resolve c id) _ e fails))
+  id_stops ts c [] id e h fails = id_value ts c [] id e tt h fails
+  id_stops ts c (InList ∷ ks) id e h fails = id_value ts c (InList ∷ ks) id e tt h fails
+  id_stops ts c (InSexp ∷ ks) id e h fails = id_value ts c (InSexp ∷ ks) id e tt h fails
+  id_stops ts c (InField ∷ ks) id e h fails = id_value ts c (InField ∷ ks) id e tt h fails
+
+  pub keyword_stops : (ts : List Placed) (c : List Slot) (ks : List Container) (said : Content) → (h : Comes g l c (InStruct ∷ ks) said ts) → IsKeyword said → Stops g l ts h.token
+  keyword_stops ts c ks (Word w) h k = name_stops c ks (Word w) ts h (word_apart w) (λ s. ap (λ x. on_turn x done) (cond-true _ _ _ k))
+  keyword_stops ts c ks (TypedNull k) h i = name_stops c ks (TypedNull k) ts h (null_apart k) (λ s. refl)
+  keyword_stops ts c ks _ h k = absurd k
+
+  pub keyword_note_stops : (ts : List Placed) (colons : Placed) (c : List Slot) (ks : List Container) (said : Content) → Comes g l c ks said ts → TakesValue ks → IsKeyword said → Says (place_of ks) colons (Mark' marks.Colons) → Stops g l (ts ++ colons ∷ []) colons
+  keyword_note_stops ts colons c ks (Word w) h takes k says = note_stops c ks (Word w) ts h takes (held_word w) (λ start end. refl) (word_apart w) colons says (keyword_held w k)
+  keyword_note_stops ts colons c ks (TypedNull k) h takes i says = note_stops c ks (TypedNull k) ts h takes (helds.Null k) (λ start end. refl) (null_apart k) colons says refl
+  keyword_note_stops ts colons c ks _ h takes k says = absurd k
+
+  -- 6. A local symbol table.
+
+  -- the fields of a value
+  payload_same : (ss rs : Symbols) (q r : Payload) → annotated ss q ≡ annotated rs r → (ss ≡ rs) × (q ≡ r)
+  payload_same ss rs q r e = (ap (λ (v : Value). v.annotations) e, ap (λ (v : Value). v.payload) e)
+
+  -- the tokens end with the close of a struct, at which they are refused
+  pub record TableStops (ts : List Placed) : Type 0 where
+    pub close : Placed
+    pub more : Bool
+    pub closes : Says (close_place more) close (Mark' marks.FieldsClose)
+    pub at_close : Stops g l ts close
+
+  pub table_stops : (ts : List Placed) (c : List Slot) (ss : Symbols) (ms : List Field) (e : Reason) → Ends g l c (annotated ss (payloads.Fields ms)) ts → is_table (annotated ss (payloads.Fields ms)) ≡ true
+      → next c (annotated ss (payloads.Fields ms)) g ≡ Err e → TableStops ts
+  table_stops ts c ss ms e h table fails = value places.Top h.item (annotated ss (payloads.Fields ms)) h.means refl refl refl
+    where
+      -- what has no fields isn't such a value
+      other : (q : Payload) → q ≡ payloads.Fields ms → has_fields (views.out-Payload q) ≡ false → ⊥
+      other q e n = never (has_fields (views.out-Payload q)) n (ap (λ x. has_fields (views.out-Payload x)) e ∙ ap has_fields (views.outs-Fields ms))
+
+      struct' : (notes body : List Placed) (rs : Symbols) (open' close : Placed) (more : Bool) → rs ≡ ss → Annotations c places.Top notes rs → Says places.Top open' (Mark' marks.FieldsOpen) → Members c body ms more → Says (close_place more) close (Mark' marks.FieldsClose)
+          → h.item ≡ notes ++ open' ∷ (body ++ close ∷ []) → TableStops ts
+      struct' notes body rs open' close more same a opens members closes cut = record { close = close; more = more; closes = closes; at_close = record { front = front; is = whole; came = subst (Came g l front) (sym closes.place) (came' more members closes); stops = stops } }
+        where
+          inner : List Placed
+          inner = notes ++ open' ∷ body
+
+          front : List Placed
+          front = h.front ++ inner
+
+          item_is : h.item ≡ inner ++ close ∷ []
+          item_is = cut ∙ sym (append_assoc notes (open' ∷ body) (close ∷ []))
+
+          whole : ts ≡ front ++ close ∷ []
+          whole = h.parts ∙ (ap (λ x. h.front ++ x) item_is ∙ sym (append_assoc h.front inner (close ∷ [])))
+
+          deep : Deep l.depth (frames.Fields rs ms ∷ [])
+          deep = let k = h.deep in (omega (arith, k, depth-struct ss ms), tt)
+
+          opened : (more : Bool) → Members c body ms more → Opened c (frames.Fields rs ms ∷ []) inner more
+          opened more members = record { front = []; notes = notes; body = body; open' = open'; whole = refl; outer = refl; receives = tt; noted = a; opens = opens; items = members }
+
+          apart : (ends_long h.front && begins_as_long inner) ≡ false
+          apart = begins_so (ends_long h.front) inner (close ∷ []) (subst (λ x. (ends_long h.front && begins_as_long x) ≡ false) item_is h.apart)
+
+          came' : (more : Bool) → Members c body ms more → Says (close_place more) close (Mark' marks.FieldsClose) → Came g l front (close_place more)
+          came' true members closes = stands_read g l c h.front h.values (frames.Fields rs ms ∷ []) [] nows.Name inner h.pieces deep (opened true members, tt) apart
+          came' false members closes = stands_read g l c h.front h.values (frames.Fields rs ms ∷ []) [] nows.After inner h.pieces deep (opened false members, refl, tt) apart
+
+          s : ℕ
+          s = begun_at (starts g l 0 [] notes) open'.lexeme.start [] rs
+
+          stops : reads g l (origin g l) ts ≡ stopped
+          stops =
+              ap (reads g l (origin g l)) h.parts
+              ∙ (more_read g l h.front h.item h.values c (pieces_read g l h.front h.values c h.pieces) (means_begins g l c places.Top h.item (annotated ss (payloads.Fields ms)) h.means) h.apart
+              ∙ ap (adds h.values)
+              (ap (reads g l (fresh c)) cut
+              ∙ (read_behind g l (fresh c) (at (starts g l 0 [] notes) c [] rs nows.Ready) notes (open' ∷ (body ++ close ∷ [])) (notes_read g l c places.Top 0 [] notes rs refl a)
+              ∙ (opened_struct g l c places.Top (starts g l 0 [] notes) s [] rs open' (body ++ close ∷ []) refl (omega (arith, deep.0)) opens refl
+              ∙ (struct_ends g l c s [] rs body ms more close (members_read g l c s [] rs body ms more members deep.0) closes
+              ∙ ap (λ x. on_turn x done)
+              (subst (λ y. ended (under g l) (spot_at close.lexeme.end s c) [] (annotated y (payloads.Fields ms)) ≡ refuses e) (sym same) (cond-true _ _ _ table ∙ ap (turned l.item s close.lexeme.end) fails)))))))
+
+      plain : (p : Place) (notes us : List Placed) (rs : Symbols) (q : Payload) → p ≡ places.Top → rs ≡ ss → Annotations c p notes rs → Plain c p us q → q ≡ payloads.Fields ms → h.item ≡ notes ++ us → TableStops ts
+      plain p notes _ rs _ top same a (is_struct p' open' close body fs more opens members closes) is cut =
+          let k : fs ≡ ms = sym (ap fields_in (views.outs-Fields fs)) ∙ (ap (λ x. fields_in (views.out-Payload x)) is ∙ ap fields_in (views.outs-Fields ms)) in
+          struct' notes body rs open' close more same (subst (λ x. Annotations c x notes rs) top a) (subst (λ x. Says x open' (Mark' marks.FieldsOpen)) top opens) (subst (λ x. Members c body x more) k members) closes cut
+      plain p notes _ rs _ top same a (one_token p' t said q says scalar) is cut = absurd (no_fields said q scalar is)
+        where
+          no_fields : (said : Content) (q : Payload) → IsScalar c said q → q ≡ payloads.Fields ms → ⊥
+          no_fields _ _ is_null e = other _ e (ap has_fields (views.outs-Null values.Null))
+          no_fields _ _ (is_typed_null k) e = other _ e (ap has_fields (views.outs-Null k))
+          no_fields _ _ is_true e = other _ e (ap has_fields (views.outs-Truth true))
+          no_fields _ _ is_false e = other _ e (ap has_fields (views.outs-Truth false))
+          no_fields _ _ (is_int z) e = other _ e (ap has_fields (views.outs-Int z))
+          no_fields _ _ (is_decimal z) e = other _ e (ap has_fields (views.outs-Decimal z))
+          no_fields _ _ (is_timestamp z) e = other _ e (ap has_fields (views.outs-Timestamp z))
+          no_fields _ _ (is_symbol said s d) e = other _ e (ap has_fields (views.outs-Symbol s))
+          no_fields _ _ (is_operator w) e = other _ e (ap has_fields (views.outs-Symbol (Some w)))
+          no_fields _ _ (is_short w) e = other _ e (ap has_fields (views.outs-Str w))
+          no_fields _ _ (is_clob w) e = other _ e (ap has_fields (views.outs-Clob w))
+          no_fields _ _ (is_blob w) e = other _ e (ap has_fields (views.outs-Blob w))
+      plain p notes us rs _ top same a (long_string p' _ w d) is cut = absurd (other _ is (ap has_fields (views.outs-Str w)))
+      plain p notes _ rs _ top same a (is_list p' open' close body xs more opens items closes) is cut = absurd (other _ is (ap has_fields (views.outs-List xs)))
+      plain p notes _ rs _ top same a (is_sexp p' open' close body xs opens items closes) is cut = absurd (other _ is (ap has_fields (views.outs-Sexp xs)))
+
+      value : (p : Place) (us : List Placed) (v : Value) → Means c p us v → p ≡ places.Top → v ≡ annotated ss (payloads.Fields ms) → us ≡ h.item → TableStops ts
+      value p _ _ (means p' notes us rs q a d) top is cut =
+          let k = payload_same rs ss q (payloads.Fields ms) is in
+          plain p notes us rs q top k.0 a d k.1 (sym cut)

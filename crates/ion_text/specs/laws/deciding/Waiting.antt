@@ -1,0 +1,288 @@
+-- Where a row of the table stands whose last token waited for `::` and is refused since none follows, octets are refused.
+use Rattle.std.proofs.Common.{◌≡◌, ◌≢◌, ℕ, Bool, true, false, ◌&&◌, List, [], ◌∷◌, ◌++◌, refl, sym, ap, ◌∙◌, subst, append_assoc, append-nil, Ok, Err, Some, if◌then◌else◌, ◌⊎◌, inl, inr, codes}
+use Rattle.std.proofs.lemmas.Bool.{cond-true}
+use Rattle.std.specs.Str.{bytes_eq}
+use Rattle.std.proofs.lemmas.Slice.Eq.{bytes_eq-Decides}
+use Rattle.ion_model.specs.declared.value.Value.{Value}
+use Rattle.ion_model.specs.declared.value.Payload.{Payload}
+use Rattle.ion_model.specs.declared.value.Payload.TheOpen.{Payload-F}
+use Rattle.ion_model.specs.declared.value.Payload.TheViews as views
+use Rattle.ion_model.specs.declared.value.Payload.TheVariants as payloads
+use Rattle.ion_model.specs.Measures.{Layer, annotated}
+use Rattle.ion_model.specs.Kinds.{is_table}
+use Rattle.ion_atoms.specs.declared.kind.Kind.{Kind}
+use Rattle.ion_atoms.specs.declared.kind.Kind.TheVariants as values
+use Rattle.ion_atoms.specs.declared.refusal.Reason.{Reason}
+use Rattle.ion_symtab.specs.declared.limits.Limits.{Limits}
+use Rattle.ion_symtab.specs.declared.catalog.Catalog.{Catalog}
+use Rattle.ion_symtab.specs.Slots.{Slot}
+use Rattle.ion_symtab.specs.Next.{next}
+use Rattle.ion_tokens.specs.declared.mode.Mark.TheVariants as marks
+use Rattle.ion_tokens.specs.declared.mode.Place.{Place}
+use Rattle.ion_tokens.specs.declared.mode.Place.TheVariants as places
+use Rattle.ion_tokens.specs.declared.mode.TokenKind.TheVariants as kinds
+use Rattle.ion_tokens.specs.machine.Bounds.{is_idle}
+use Rattle.ion_tokens.specs.Bodies.{Content, Word, TypedNull, IsBody}
+use Rattle.ion_tokens.specs.Lexed.{Placed, LexesTo, colon_behind}
+use Rattle.ion_tokens.specs.machine.Said.{said}
+use Rattle.ion_text.specs.declared.state.Held.{Held}
+use Rattle.ion_text.specs.declared.state.Held.TheVariants as helds
+use Rattle.ion_text.specs.declared.state.Frame.{Frame}
+use Rattle.ion_text.specs.declared.state.Now.TheVariants as nows
+use Rattle.ion_text.specs.Grammar.{Says, Annotations, Plain, one_token, long_string, is_list, is_sexp, is_struct, Means, means, IsScalar, is_null, is_typed_null, is_true, is_false, is_int, is_decimal, is_timestamp, is_symbol, is_operator, is_short, is_clob, is_blob, BlankThen, is_version, the_marker, ends_long, begins_as_long, end_of}
+use Rattle.ion_text.specs.Deciding.{Comes, Ends, Are, NoColons, none_open}
+use Rattle.ion_text.specs.machine.EachToken.{under, spot_at, Reading, goes, Symbols, at, fresh, place, place_in, settle, ended, turned, held_word, begun_at, on_ready}
+use Rattle.ion_text.specs.machine.Run.{State, is_fresh, token_of}
+use Rattle.ion_text.specs.machine.Passed.{said_body}
+use Rattle.ion_text.specs.machine.TokenLists.{Walk, walked, stopped, done, on_turn, continues, reads}
+use Rattle.ion_text.specs.laws.reading.Complete.{starts, pending_goes, released_paid}
+use Rattle.ion_text.specs.laws.reading.Going.{mark_kind}
+use Rattle.ion_text.specs.laws.reading.Held.{no_notes}
+use Rattle.ion_text.specs.laws.reading.Pieces.{pieces_read, walked_now}
+use Rattle.ion_text.specs.laws.reading.Segments.{never}
+use Rattle.ion_text.specs.laws.reading.Sound.{NowStands, EndsAt, symbol_said}
+use Rattle.ion_text.specs.laws.reading.Spans.{IsWaiting}
+use Rattle.ion_text.specs.laws.reading.Steps.{Stood}
+use Rattle.ion_text.specs.laws.showing.Compare.{lexes_once}
+use Rattle.ion_text.specs.laws.showing.Cuts.{parted}
+use Rattle.ion_text.specs.laws.showing.Froms.{Waits}
+use Rattle.ion_text.specs.laws.showing.Opened.{blank_token, colons_token, symbol_colon}
+use Rattle.ion_text.specs.laws.showing.Once.{begins_lexed}
+use Rattle.ion_text.specs.laws.showing.Stays.{Arrived}
+use Rattle.ion_text.specs.laws.showing.Walks.{walking_said, settled_reads, behind_read}
+use Rattle.ion_text.specs.laws.deciding.Openings.{containers, begins_so}
+use Rattle.ion_text.specs.laws.deciding.Shows.{BareSaid, said_bare, awaits_colons, flag, k}
+use Rattle.ion_text.specs.laws.deciding.Fronts.{origin, InPlace, Came, last_in_place, stood_read, item_arrived, item_read, all_told}
+use Rattle.ion_text.specs.laws.deciding.Comings.{Apart, before, cut, came, f}
+use Rattle.ion_text.specs.laws.deciding.Tokens.{bare_plain, ended_by_rest, word_apart, null_apart, read_to}
+
+-- a word of the form of a marker is held as one
+version_held : (w : List ℕ) → is_version w ≡ true → w ≢ the_marker → held_word w ≡ helds.Version false (Some w)
+version_held w v n =
+    go (bytes_eq w (codes "null")) (bytes_eq w (codes "true")) (bytes_eq w (codes "false")) (bytes_eq w (codes "nan")) (bytes_eq w the_marker) (not_word (codes "null") refl) (not_word (codes "true") refl) (not_word (codes "false") refl) (not_word (codes "nan") refl)
+    (λ e. n ((bytes_eq-Decides w the_marker).0 e))
+  where
+    not_word : (k : List ℕ) → is_version k ≡ false → bytes_eq w k ≡ true → ⊥
+    not_word k f e = never (is_version w) (ap is_version ((bytes_eq-Decides w k).0 e) ∙ f) v
+
+    go : (a b c d e : Bool) → (a ≡ true → ⊥) → (b ≡ true → ⊥) → (c ≡ true → ⊥) → (d ≡ true → ⊥) → (e ≡ true → ⊥)
+        → (if a then helds.Null values.Null else (if b then helds.Truth true else (if c then helds.Truth false else (if d then helds.Nan else (if is_version w then helds.Version e (Some w) else helds.Symbol (Some w)))))) ≡ helds.Version false (Some w)
+    go true b c d e i j k m n = absurd (i refl)
+    go false true c d e i j k m n = absurd (j refl)
+    go false false true d e i j k m n = absurd (k refl)
+    go false false false true e i j k m n = absurd (m refl)
+    go false false false false true i j k m n = absurd (n refl)
+    go false false false false false i j k m n = cond-true _ _ _ v
+
+-- an item without tokens
+no_frames : (fs : List Frame) → containers fs ≡ [] → fs ≡ []
+no_frames [] e = refl
+no_frames (f ∷ fs) e = absurd cc
+
+-- The last of the tokens, behind others that are read, waits for `::`, and is refused if none follows.
+pub record Pends (g : Catalog) (l : Limits) (ts : List Placed) : Type 0 where
+  pub front : List Placed
+  pub token : Placed
+  pub is : ts ≡ front ++ token ∷ []
+  pub came : Came g l front token.place
+  pub colon : colon_behind token ≡ true
+  pub plain : token.lexeme.kind ≡ kinds.Operator → ⊥
+  pub start : ℕ
+  pub end : ℕ
+  pub context : List Slot
+  pub notes : Symbols
+  pub held : Held
+  pub values : List Value
+  pub read : reads g l (origin g l) ts ≡ walked values (at start context [] notes (nows.Pending held end))
+  pub refused : (f : Reading → Walk) → on_turn (settle g l (at start context [] notes (nows.Pending held end))) f ≡ stopped
+
+-- `::` behind tokens
+pub colons_shown : (u : List ℕ) (ws : List Placed) (x : Placed) (ys : List Placed) (colon after : Bool) (end k : ℕ) (rest left : List ℕ) → LexesTo false 0 u ws colon end rest → LexesTo false 0 u (ws ++ x ∷ ys) after k left → x.lexeme.kind ≡ kinds.Mark marks.Colons → BlankThen (codes "::") rest
+colons_shown u ws x ys colon after end k rest left here lexes kind =
+    let d = parted ws (x ∷ ys) false 0 u after k left lexes in
+    let one = lexes_once ws false 0 u d.flag colon d.mid end d.left rest d.first here in
+    let b = d.second.1 in
+    blank_token (codes "::") [] d.left rest d.second.0 d.flag d.mid x b (colons_token x.place d.flag b.token d.second.0 x.lexeme.kind x.lexeme.octets b.is kind).0 one.2
+
+module _ (g : Catalog) (l : Limits) (ws : List Placed) (p : Pends g l ws) where
+  abbrev pub pend : Reading
+  pend = at p.start p.context [] p.notes (nows.Pending p.held p.end)
+
+  pub pends_in_place : InPlace g l ws
+  pends_in_place = subst (InPlace g l) (sym p.is) (last_in_place g l p.front p.token p.came)
+
+  -- What comes next of tokens that are read is `::`.
+  pub colons_next : (x : Placed) (ys : List Placed) (zs : List Value) (n : Reading) → reads g l (origin g l) (ws ++ x ∷ ys) ≡ walked zs n → x.lexeme.kind ≡ kinds.Mark marks.Colons
+  colons_next x ys zs n e = go (continues pend (token_of x.lexeme q.1)) refl
+    where
+      rest : (zs : List Value) × (reads g l pend (x ∷ ys) ≡ walked zs n)
+      rest = behind_read g l ws (x ∷ ys) (origin g l) pend n p.values zs p.read e
+
+      q : (x.place ≡ place pend) × (d : Content) × (said x.lexeme.kind x.lexeme.octets ≡ Ok d)
+      q = walking_said g l pend x ys (record { vs = rest.0; n = n; read = rest.1 })
+
+      go : (y : Bool) → continues pend (token_of x.lexeme q.1) ≡ y → x.lexeme.kind ≡ kinds.Mark marks.Colons
+      go true f =
+          let colons = pending_goes g l p.start p.context [] p.notes p.held p.end (token_of x.lexeme q.1) f in
+          mark_kind x.lexeme.kind x.lexeme.octets marks.Colons (subst (λ y. IsBody x.lexeme.kind x.lexeme.octets (Ok y)) colons (said_body x.lexeme.kind x.lexeme.octets q.1 q.2))
+      go false f = absurd (let never : walked rest.0 n ≡ stopped = sym rest.1 ∙ (settled_reads g l pend x ys q.1 q.0 q.2 f ∙ p.refused (λ k. reads g l k (x ∷ ys))) in cc)
+
+module _ (g : Catalog) (l : Limits) (u : List ℕ) (vs : List Value) (m : State) (b : Stood g l u vs m) (wait : Waits g l m.scan m.reading.now) where
+  abbrev r : Reading
+  r = m.reading
+
+  abbrev told : List Placed
+  told = b.front ++ b.item
+
+  module _ (ws : List Placed) (p : Pends g l ws) (none : NoColons u ws) where
+    all : (ms : List Placed) × (told ≡ ws ++ ms)
+    all =
+        all_told g l u vs m b ws p.front p.token p.is (begins_lexed ws false 0 u none.are.0 none.are.1 (none.rest ++ none.o ∷ []) none.are.2) (pends_in_place g l ws p)
+        (ended_by_rest g l u p.front p.token none.o none.rest p.plain (subst (λ y. Are u y (none.rest ++ none.o ∷ [])) p.is none.are))
+
+    -- the octets go on with no token
+    more_never : (x : Placed) (ys : List Placed) → told ≡ ws ++ x ∷ ys → ⊥
+    more_never x ys e =
+        let w = stood_read g l u vs m b in
+        let k = k (place r) m.scan u told [] b.scanned 0 (0 ∷ [], refl) in
+        let lexes : LexesTo false 0 u told k.colon k.end k.since = subst (λ y. LexesTo false 0 y told k.colon k.end k.since) (append-nil u) (subst (LexesTo false 0 (u ++ []) told k.colon k.end) (append-nil k.since) (k.lexes [] ([], refl))) in
+        none.after [] (colons_shown u ws x ys none.are.0 k.colon none.are.1 k.end (none.rest ++ none.o ∷ []) k.since none.are.2 (subst (λ y. LexesTo false 0 u y k.colon k.end k.since) e lexes)
+        (colons_next g l ws p x ys w.values w.now (ap (reads g l (origin g l)) (sym e) ∙ w.read)))
+
+    -- where they waited, `::` may follow
+    waits_never : told ≡ ws → r.frames ≡ [] → r.now ≡ nows.Pending p.held p.end → ⊥
+    waits_never e top now =
+        let idle : is_idle m.scan.mode ≡ true = subst (Waits g l m.scan) now wait in
+        let here : place r ≡ places.Top = ap (λ x. place_in x r.now) top in
+        let a = awaits_colons (place r) m.scan u told [] b.scanned 0 (0 ∷ [], refl) here (flag (place r) m.scan u told [] b.scanned 0 (0 ∷ [], refl) p.front p.token (e ∙ p.is) p.colon) idle refl in
+        let one = lexes_once ws false 0 u a.are.0 none.are.0 a.are.1 none.are.1 a.rest (none.rest ++ none.o ∷ []) (subst (λ y. LexesTo false 0 u y a.are.0 a.are.1 a.rest) e a.are.2) none.are.2 in
+        none.after a.before.0 (subst (BlankThen (codes "::")) (ap (λ y. y ++ a.before.0) one.2 ∙ append_assoc none.rest (none.o ∷ []) a.before.0) a.before.1)
+
+    item_never : (x : Placed) (ys : List Placed) → NowStands r.context r.frames r.notes (x ∷ ys) r.now → (ends_long b.front && begins_as_long (x ∷ ys)) ≡ false → EndsAt r.now (end_of 0 (x ∷ ys)) → told ≡ ws → told ≡ b.front ++ x ∷ ys → ⊥
+    item_never x ys d apart ends e f = by a.is
+      where
+        a : Arrived g l r.context r.frames r.notes r.now (x ∷ ys)
+        a = item_arrived g l r.context r.frames r.notes r.now x ys b.deep d
+
+        same : a.r ≡ pend g l ws p
+        same = (walked_now g l (vs ++ []) p.values a.r (pend g l ws p) (sym (item_read g l r.context b.front vs r.frames r.notes r.now x ys b.pieces d apart a) ∙ (ap (reads g l (origin g l)) (sym f ∙ e) ∙ p.read))).1
+
+        by : ((n : Reading) × (settle g l a.r ≡ goes n) × (is_fresh n ≡ false) × (n.start ≡ starts g l 0 [] (x ∷ ys))) ⊎ (IsWaiting g l r.now × IsWaiting g l a.r.now × (a.r.start ≡ starts g l 0 [] (x ∷ ys))) → ⊥
+        by (inl (n, settles, fresh, at')) =
+            let k : walked [] n ≡ stopped = sym (ap (λ y. on_turn y done) settles) ∙ (ap (λ y. on_turn (settle g l y) done) same ∙ p.refused done) in
+            cc
+        by (inr (w, w', at')) =
+            let there = sym (a.waited w ends) ∙ same in
+            waits_never e (ap (λ (y : Reading). y.frames) there) (ap (λ (y : Reading). y.now) there)
+
+    all_never : told ≡ ws → (item : List Placed) → b.item ≡ item → ⊥
+    all_never e [] f =
+        let d = pieces_read g l b.front vs r.context b.pieces in
+        let same = walked_now g l d.given p.values d.now (pend g l ws p) (sym d.read ∙ (ap (reads g l (origin g l)) (sym (sym e ∙ (ap (λ y. b.front ++ y) f ∙ append-nil b.front))) ∙ p.read)) in
+        let n : walked d.later (fresh r.context) ≡ stopped = sym d.settles ∙ (ap (λ y. on_turn (settle g l y) done) same.1 ∙ p.refused done) in
+        cc
+    all_never e (x ∷ ys) f =
+        item_never x ys (subst (λ y. NowStands r.context r.frames r.notes y r.now) f b.stands) (subst (λ y. (ends_long b.front && begins_as_long y) ≡ false) f b.first) (subst (λ y. EndsAt r.now (end_of 0 y)) f b.ends) e (ap (λ y. b.front ++ y) f)
+
+    -- Where the octets show that no `::` follows, they are refused.
+    pub pends_refused : ⊥
+    pends_refused = go all.0 all.1
+      where
+        go : (ms : List Placed) → told ≡ ws ++ ms → ⊥
+        go [] e = all_never (e ∙ append-nil ws) b.item refl
+        go (x ∷ ys) e = more_never x ys e
+
+module _ (g : Catalog) (l : Limits) where
+  -- a token that is held
+  module _ (c : List Slot) (said : Content) (ts : List Placed) (h : Comes g l c [] said ts) (bare : BareSaid said) (symbol : symbol_said said ≡ true) (apart : Apart said) (word : Held)
+      (waits : (start end : ℕ) → on_ready (under g l) (spot_at end start c) (f g l c [] said ts h).held h.symbols said ≡ goes (at start c (f g l c [] said ts h).held h.symbols (nows.Pending word end)))
+      (refused : (start end : ℕ) (k : Reading → Walk) → on_turn (settle g l (at start c [] h.symbols (nows.Pending word end))) k ≡ stopped) where
+    held_pends : Pends g l ts
+    held_pends =
+        let front = before g l c [] said ts h in
+        let is = cut g l c [] said ts h in
+        let held = (f g l c [] said ts h).held in
+        let x = read_to g l c [] said ts h tt word waits apart [] in
+        let start = begun_at x.0 h.token.lexeme.start held h.symbols in
+        let end = h.token.lexeme.end in
+        record {
+          front = front;
+          token = h.token;
+          is = is;
+          came = subst (Came g l front) (sym h.says.place) (came g l c [] said ts h tt);
+          colon = symbol_colon h.token.place h.token.lexeme.kind h.token.lexeme.octets said h.says.body symbol;
+          plain = bare_plain h.token.lexeme.kind (said_bare h.token.lexeme.kind h.token.lexeme.octets said h.says.body bare);
+          start = start;
+          end = end;
+          context = c;
+          notes = h.symbols;
+          held = word;
+          values = h.values ++ [];
+          read = ap (reads g l (origin g l)) is ∙ (x.1 ∙ ap (λ fs. walked (h.values ++ []) (at start c fs h.symbols (nows.Pending word end))) (no_frames held (f g l c [] said ts h).same));
+          refused = refused start end;
+        }
+
+  pub version_pends : (ts : List Placed) (c : List Slot) (w : List ℕ) → (h : Comes g l c [] (Word w) ts) → h.notes ≡ [] → is_version w ≡ true → w ≢ the_marker → Pends g l ts
+  version_pends ts c w h bare version other =
+      held_pends c (Word w) ts h tt refl (word_apart w) (held_word w) (λ start end. refl)
+      (λ start end k. ap (λ ss. on_turn (settle g l (at start c [] ss (nows.Pending (held_word w) end))) k) (no_notes c places.Top h.notes h.symbols h.noted (sym bare)) ∙ ap (λ x. on_turn (settle g l (at start c [] [] (nows.Pending x end))) k) (version_held w version other))
+
+  abbrev has_null : Layer → Bool
+  has_null (Payload-F.Null k) = true
+  has_null _ = false
+
+  pub null_pends : (ts : List Placed) (c : List Slot) (ss : Symbols) (k : Kind) (e : Reason) → Ends g l c (annotated ss (payloads.Null k)) ts → is_table (annotated ss (payloads.Null k)) ≡ true → next c (annotated ss (payloads.Null k)) g ≡ Err e → Pends g l ts
+  null_pends ts c ss k e h table fails = value places.Top h.item (annotated ss (payloads.Null k)) h.means refl refl refl
+    where
+      v : Value
+      v = annotated ss (payloads.Null k)
+
+      other : (q : Payload) → q ≡ payloads.Null k → has_null (views.out-Payload q) ≡ false → ⊥
+      other q e n = never (has_null (views.out-Payload q)) n (ap (λ x. has_null (views.out-Payload x)) e ∙ ap has_null (views.outs-Null k))
+
+      refused : (rs : Symbols) (kind : Kind) → annotated rs (payloads.Null kind) ≡ v → (start end : ℕ) (f : Reading → Walk) → on_turn (settle g l (at start c [] rs (nows.Pending (helds.Null kind) end))) f ≡ stopped
+      refused rs kind is start end f =
+          ap (λ x. on_turn x f)
+          (released_paid g l end start c [] rs (helds.Null kind) (λ i j. refl)
+          ∙ (ap (λ x. ended (under g l) (spot_at end start c) [] x) is ∙ (cond-true _ _ _ table ∙ ap (turned l.item start end) fails)))
+
+      comes : (notes : List Placed) (t : Placed) (said : Content) (rs : Symbols) → Annotations c places.Top notes rs → Says places.Top t said → h.item ≡ notes ++ t ∷ [] → Comes g l c [] said ts
+      comes notes t said rs a says whole = record {
+        front = h.front;
+        item = [];
+        notes = notes;
+        token = t;
+        values = h.values;
+        symbols = rs;
+        parts = h.parts ∙ ap (λ x. h.front ++ x) whole;
+        pieces = h.pieces;
+        open' = none_open;
+        noted = a;
+        may = tt;
+        apart = begins_so (ends_long h.front) notes (t ∷ []) (subst (λ x. (ends_long h.front && begins_as_long x) ≡ false) whole h.apart);
+        says = says;
+      }
+
+      scalar : (notes : List Placed) (t : Placed) (said : Content) (rs : Symbols) (q : Payload) → Annotations c places.Top notes rs → Says places.Top t said → IsScalar c said q → q ≡ payloads.Null k → annotated rs q ≡ v → h.item ≡ notes ++ t ∷ [] → Pends g l ts
+      scalar notes t _ rs _ a says is_null e is whole = held_pends c (Word (codes "null")) ts (comes notes t (Word (codes "null")) rs a says whole) tt refl (word_apart (codes "null")) (helds.Null values.Null) (λ start end. refl) (refused rs values.Null is)
+      scalar notes t _ rs _ a says (is_typed_null kind) e is whole = held_pends c (TypedNull kind) ts (comes notes t (TypedNull kind) rs a says whole) tt refl (null_apart kind) (helds.Null kind) (λ start end. refl) (refused rs kind is)
+      scalar notes t _ rs _ a says is_true e is whole = absurd (other _ e (ap has_null (views.outs-Truth true)))
+      scalar notes t _ rs _ a says is_false e is whole = absurd (other _ e (ap has_null (views.outs-Truth false)))
+      scalar notes t _ rs _ a says (is_int z) e is whole = absurd (other _ e (ap has_null (views.outs-Int z)))
+      scalar notes t _ rs _ a says (is_decimal z) e is whole = absurd (other _ e (ap has_null (views.outs-Decimal z)))
+      scalar notes t _ rs _ a says (is_timestamp z) e is whole = absurd (other _ e (ap has_null (views.outs-Timestamp z)))
+      scalar notes t _ rs _ a says (is_symbol said s d) e is whole = absurd (other _ e (ap has_null (views.outs-Symbol s)))
+      scalar notes t _ rs _ a says (is_operator w) e is whole = absurd (other _ e (ap has_null (views.outs-Symbol (Some w))))
+      scalar notes t _ rs _ a says (is_short w) e is whole = absurd (other _ e (ap has_null (views.outs-Str w)))
+      scalar notes t _ rs _ a says (is_clob w) e is whole = absurd (other _ e (ap has_null (views.outs-Clob w)))
+      scalar notes t _ rs _ a says (is_blob w) e is whole = absurd (other _ e (ap has_null (views.outs-Blob w)))
+
+      plain : (p : Place) (notes us : List Placed) (rs : Symbols) (q : Payload) → p ≡ places.Top → Annotations c p notes rs → Plain c p us q → q ≡ payloads.Null k → annotated rs q ≡ v → h.item ≡ notes ++ us → Pends g l ts
+      plain p notes _ rs _ top a (one_token p' t said q says s) e is whole = scalar notes t said rs q (subst (λ x. Annotations c x notes rs) top a) (subst (λ x. Says x t said) top says) s e is whole
+      plain p notes us rs _ top a (long_string p' _ w d) e is whole = absurd (other _ e (ap has_null (views.outs-Str w)))
+      plain p notes _ rs _ top a (is_list p' open' close body xs more opens items closes) e is whole = absurd (other _ e (ap has_null (views.outs-List xs)))
+      plain p notes _ rs _ top a (is_sexp p' open' close body xs opens items closes) e is whole = absurd (other _ e (ap has_null (views.outs-Sexp xs)))
+      plain p notes _ rs _ top a (is_struct p' open' close body fs more opens items closes) e is whole = absurd (other _ e (ap has_null (views.outs-Fields fs)))
+
+      value : (p : Place) (us : List Placed) (w : Value) → Means c p us w → p ≡ places.Top → w ≡ v → us ≡ h.item → Pends g l ts
+      value p _ _ (means p' notes us rs q a d) top is whole = plain p notes us rs q top a d (ap (λ (x : Value). x.payload) is) is (sym whole)
