@@ -25,3 +25,4 @@ pub mod Tops
 pub mod Elsewhere
 pub mod Alikes
 pub mod Calls
+pub mod QuotedRuns

@@ -38,7 +38,7 @@ pub const OF_CLOB: Quotes = Quotes {
 };
 
 /// The digit `0` to `9` or `a` to `f`.
-fn hexadecimal_of(digit: u8) -> u8
+pub fn hexadecimal_of(digit: u8) -> u8
     requires { digit < 16 }
     ensures { result ≡ hexadecimal_of digit }
 {
@@ -50,7 +50,7 @@ fn hexadecimal_of(digit: u8) -> u8
 }
 
 /// The letter behind a backslash that stands for an octet, if there is one.
-fn letter_for(delimiter: u8, octet: u8) -> Option<u8>
+pub fn letter_for(delimiter: u8, octet: u8) -> Option<u8>
     ensures { result ≡ letter_for delimiter octet }
 {
     if octet == b'\\' || octet == delimiter {
@@ -74,7 +74,7 @@ fn stands_raw(ascii: bool, octet: u8) -> bool
 }
 
 /// Whether an octet stands for itself.
-fn is_raw(quotes: Quotes, octet: u8) -> bool
+pub fn is_raw(quotes: Quotes, octet: u8) -> bool
     ensures { result ≡ is_raw quotes octet }
 {
     octet != b'\\' && (octet != quotes.delimiter && stands_raw(quotes.ascii, octet))

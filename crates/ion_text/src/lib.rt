@@ -1,6 +1,7 @@
 //! Documents of Ion text (Ion 1.0, "Ion Text Encoding"): their reader and their writer.
 #![tactic(auto)]
 
+mod display;
 mod escape;
 pub mod laws;
 mod reader;
@@ -11,6 +12,7 @@ mod state;
 mod words;
 mod writer;
 
+pub use display::{SymbolText, spelling_of};
 pub use reader::TextReader;
 pub use scalar::symbol_text;
 pub use spelled::text_of;

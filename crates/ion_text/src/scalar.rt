@@ -47,7 +47,7 @@ fn is_identifier(text: &[u8]) -> bool
 }
 
 /// Whether a symbol of this text stands without quotes.
-fn is_unquoted(text: &str) -> bool
+pub fn is_unquoted(text: &str) -> bool
     ensures { result ≡ is_unquoted text.now }
 {
     is_identifier(text.as_bytes()) && !is_keyword(text)

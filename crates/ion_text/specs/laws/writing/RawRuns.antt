@@ -34,7 +34,7 @@ raw_letter quotes o h = let a = and_parts _ _ h in let b = and_parts _ _ a.1 in 
   by : not (o == 92) ≡ true → not (o == quotes.delimiter) ≡ true → nat_le 32 o ≡ true → letter_for quotes.delimiter o ≡ None
   by x y z = grind (arith, nat_tests)
 
-raw_escape : (quotes : Quotes) (o : ℕ) → is_raw quotes o ≡ true → escape quotes o ≡ o ∷ []
+pub raw_escape : (quotes : Quotes) (o : ℕ) → is_raw quotes o ≡ true → escape quotes o ≡ o ∷ []
 raw_escape quotes o h =
     let b = and_parts _ _ (and_parts _ _ h).1 in
     ap (escape_by quotes.ascii o) (raw_letter quotes o h) ∙ ap (λ x. cond x (o ∷ []) (hexadecimal_escape o)) b.1
