@@ -1,13 +1,15 @@
 //! What the program is asked for, and why words ask for nothing.
-ghost use Rattle.std.specs.Prelude.{◌≡◌, ◌↔◌};
+ghost use Rattle.std.specs.Prelude.{◌≡◌, ◌↔◌, Some};
 ghost use Rattle.clap.specs.Words.{kind_of};
 ghost use Rattle.clap.specs.declared.error.ErrorKind.TheVariants.{OutOfMemory};
 ghost use Rattle.ion_words.specs.declared.request.WordsError.TheVariants.{Memory};
+ghost use Rattle.ion_words.specs.Errors.{error_name};
 
 use clap::Error;
 use clap::error::ErrorKind;
 use ion_symtab::Limits;
 use std::alloc::AllocError;
+use std::fmt::{self, Display, Formatter};
 
 /// An encoding of Ion 1.0 that a document is converted to.
 #[derive(Clone, Copy, Debug, PartialEq, Eq)]
@@ -42,7 +44,7 @@ pub struct Request<'a> {
     pub limits: Limits,
 }
 
-/// Why the words ask for nothing.
+/// Why the words ask for nothing. Its message is the variant's name.
 #[derive(Clone, Copy, Debug, PartialEq, Eq)]
 pub enum WordsError {
     /// They are no words of the program, or a call for help.
@@ -50,6 +52,19 @@ pub enum WordsError {
     /// A growth was refused.
     Memory,
 }
+
+impl Display for WordsError {
+    ghost output = { λ error. Some (error_name error) };
+
+    fn fmt<W: fmt::Write>(&self, f: &mut Formatter<W>) -> fmt::Result {
+        f.write_str(match self {
+            WordsError::Usage => "Usage",
+            WordsError::Memory => "Memory",
+        })
+    }
+}
+
+impl std::error::Error for WordsError {}
 
 impl From<AllocError> for WordsError {
     ghost from_gives = { λ _ e. e ≡ Memory };

@@ -1,0 +1,8 @@
+-- What is written of words that ask for nothing.
+use Rattle.std.specs.Prelude.{ℕ, List, codes}
+use Rattle.ion_words.specs.declared.request.WordsError.{WordsError}
+use Rattle.ion_words.specs.declared.request.WordsError.TheVariants as errors
+
+abbrev pub error_name : WordsError → List ℕ
+error_name errors.Usage = codes "Usage"
+error_name errors.Memory = codes "Memory"
