@@ -58,5 +58,7 @@ layer_is E (Payload-F.Fields fs) (Payload-F.Null k) = one_null _ _
 layer_is E (Payload-F.Fields fs) _ = refl
 
 -- Two values are equivalent where annotations agree, and payloads do by their kinds.
-pub same_by_kind : (v w : Value) → same v w ≡ (pointwise symbol_same v.annotations w.annotations && payload_same same (out-Payload v.payload) (out-Payload w.payload))
-same_by_kind v w = same-is v w ∙ ap (λ b. pointwise symbol_same v.annotations w.annotations && b) (layer_is same (out-Payload v.payload) (out-Payload w.payload))
+pub same_by_kind : (v w : Value) → same v w
+    ≡ (pointwise symbol_same v.annotations w.annotations && payload_same same (out-Payload v.payload) (out-Payload w.payload))
+same_by_kind v w = same-is v w ∙ ap (λ b. pointwise symbol_same v.annotations w.annotations && b)
+    (layer_is same (out-Payload v.payload) (out-Payload w.payload))

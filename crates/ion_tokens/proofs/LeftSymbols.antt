@@ -41,11 +41,14 @@ both true h k = h
 both false h k = k
 
 value_none : (p : Place) (o : ℕ) → EndsNone (begins_value p o)
-value_none p o = both (is_digit o) (yes refl) (both (o == 123) (yes refl) (both (o == 91) (yes refl) (both (o == 93) (yes refl) (both (o == 40) (yes refl) (both (o == 41) (yes refl) (both (o == 45) (yes refl) (both (o == 43) (yes refl)
+value_none p o = both (is_digit o) (yes refl) (both (o == 123) (yes refl)
+    (both (o == 91) (yes refl) (both (o == 93) (yes refl) (both (o == 40) (yes refl)
+    (both (o == 41) (yes refl) (both (o == 45) (yes refl) (both (o == 43) (yes refl)
     (both (is_sexp p && is_operator_octet o) (yes refl) (yes refl)))))))))
 
 blank_none : (p : Place) (colon : Bool) (o : ℕ) → EndsNone (in_blank p colon o)
-blank_none p colon o = both (is_white o) (yes refl) (both (begins_word o) (yes refl) (both (o == 47) (yes refl) (both (o == 34) (yes refl) (both (o == 39) (yes refl) (both (o == 44) (yes refl) (both (o == 125) (yes refl)
+blank_none p colon o = both (is_white o) (yes refl) (both (begins_word o) (yes refl)
+    (both (o == 47) (yes refl) (both (o == 34) (yes refl) (both (o == 39) (yes refl) (both (o == 44) (yes refl) (both (o == 125) (yes refl)
     (both (o == 58) (both colon (yes refl) (yes refl)) (both (is_name p) (yes refl) (value_none p o)))))))))
 
 slash_none : (p : Place) (o : ℕ) → EndsNone (in_slash p o)
@@ -58,13 +61,15 @@ digit_none p endings.Plus o = both (is_sexp p) (yes refl) (yes refl)
 digit_none p endings.Other o = yes refl
 
 operator_none : (p : Place) (e : Ending) (o : ℕ) → EndsNone (in_operator p e o)
-operator_none p e o = both (is_digit o) (digit_none p e o) (both ((o == 105) && not (is_other e)) (yes refl) (both (not (is_sexp p)) (yes refl) (both (o == 47) (yes refl) (both (is_operator_octet o) (yes refl) (yes refl)))))
+operator_none p e o = both (is_digit o) (digit_none p e o) (both ((o == 105) && not (is_other e)) (yes refl)
+    (both (not (is_sexp p)) (yes refl) (both (o == 47) (yes refl) (both (is_operator_octet o) (yes refl) (yes refl)))))
 
 operator_slash_none : (o : ℕ) → EndsNone (in_operator_slash o)
 operator_slash_none o = both ((o == 47) || (o == 42)) (yes refl) (both (is_operator_octet o) (yes refl) (yes refl))
 
 infinity_none : (p : Place) (letters o : ℕ) → EndsNone (in_infinity p letters o)
-infinity_none p letters o = both ((letters == 1) && (o == 110)) (yes refl) (both ((letters == 2) && (o == 102)) (yes refl) (both ((letters == 3) && not (is_word_octet o)) (yes refl) (both (is_sexp p) (yes refl) (yes refl))))
+infinity_none p letters o = both ((letters == 1) && (o == 110)) (yes refl)
+    (both ((letters == 2) && (o == 102)) (yes refl) (both ((letters == 3) && not (is_word_octet o)) (yes refl) (both (is_sexp p) (yes refl) (yes refl))))
 
 number_none : (o : ℕ) → EndsNone (in_number o)
 number_none o = both (is_stop o) (yes refl) (both (o == 47) (yes refl) (yes refl))
@@ -90,7 +95,8 @@ close_long_none styles.ShortClob = yes refl
 close_long_none styles.LongClob = yes refl
 
 raw_none : (s : Style) (o : ℕ) → EndsNone (raw s o)
-raw_none s o = both (o == 92) (yes refl) (both (o == quote_of s) (both (is_long s) (yes refl) (close_none s)) (both (is_long s && (o == 13)) (yes refl) (both (stands o || (is_long s && (o == 10))) (yes refl)
+raw_none s o = both (o == 92) (yes refl) (both (o == quote_of s) (both (is_long s) (yes refl) (close_none s))
+    (both (is_long s && (o == 13)) (yes refl) (both (stands o || (is_long s && (o == 10))) (yes refl)
     (both (nat_lt o 128 || is_clob s) (yes refl) (lead_none s o)))))
 
 utf8_none : (s : Style) (left least most o : ℕ) → EndsNone (in_utf8 s left least most o)
@@ -101,7 +107,8 @@ meant_none s None = yes refl
 meant_none s (Some o) = yes refl
 
 escape_none : (s : Style) (o : ℕ) → EndsNone (in_escape s o)
-escape_none s o = both (o == 10) (yes refl) (both (o == 13) (yes refl) (both (o == 120) (yes refl) (both ((o == 117) && not (is_clob s)) (yes refl) (both ((o == 85) && not (is_clob s)) (yes refl) (meant_none s (escaped o))))))
+escape_none s o = both (o == 10) (yes refl) (both (o == 13) (yes refl)
+    (both (o == 120) (yes refl) (both ((o == 117) && not (is_clob s)) (yes refl) (both ((o == 85) && not (is_clob s)) (yes refl) (meant_none s (escaped o))))))
 
 character_none : (s : Style) (n : ℕ) → EndsNone (character s n)
 character_none s n = both (scalar n) (yes refl) (yes refl)
@@ -110,7 +117,8 @@ after_digits_none : (s : Style) (d : Digits) (n : ℕ) → EndsNone (after_digit
 after_digits_none s digits.Octet n = both (is_clob s) (yes refl) (character_none s n)
 after_digits_none s digits.Unit n = both (is_high n) (yes refl) (character_none s n)
 after_digits_none s digits.Scalar n = character_none s n
-after_digits_none s (digits.LowSurrogate high) n = both (is_high high && is_low n) (character_none s (0x10000 + (high - 0xd800) * 1024 + (n - 0xdc00))) (yes refl)
+after_digits_none s (digits.LowSurrogate high) n = both (is_high high && is_low n) (character_none s (0x10000 + (high - 0xd800) * 1024 + (n - 0xdc00)))
+    (yes refl)
 
 digits_none : (s : Style) (d : Digits) (left n : ℕ) (digit : Option ℕ) → EndsNone (with_digit s d left n digit)
 digits_none s d left n None = yes refl
@@ -180,7 +188,8 @@ acts_none p s t o l (actions.Go m k) h e i = cc
 acts_none p s t o l (actions.Give kind k) h e i = cc
 acts_none p s t o l (actions.Before kind k m) h e i = other_kind kind k m h.is (ap (λ x. (lexeme_or l x).kind) e ∙ i)
 acts_none p s t o l actions.EndWord h e i = by ((o == 46) && bytes_eq s.kept (codes "null")) e where
-  by : (b : Bool) → cond b (Next (go_to s modes.KindName [])) (Left (cut s kinds.Word s.kept s.used) (past p kinds.Word modes.Blank [] s.used s.used)) ≡ Left l t → ⊥
+  by : (b : Bool) → cond b (Next (go_to s modes.KindName [])) (Left (cut s kinds.Word s.kept s.used) (past p kinds.Word modes.Blank [] s.used s.used))
+      ≡ Left l t → ⊥
   by true f = cc
   by false f = let same : kinds.Word ≡ kinds.QuotedSymbol = ap (λ x. (lexeme_or l x).kind) f ∙ i in cc
 acts_none p s t o l (actions.Split n) h e i = let same : kinds.Operator ≡ kinds.QuotedSymbol = ap (λ x. (lexeme_or l x).kind) e ∙ i in cc
@@ -198,7 +207,8 @@ pub record LeavesQuotes (s : Known) (l : Lexeme) : Type 0 where
 
 pub leaves_quotes : (p : Place) (s t : Known) (o : ℕ) (l : Lexeme) → feed p s o ≡ Left l t → l.kind ≡ kinds.QuotedSymbol → LeavesQuotes s l
 leaves_quotes p s t o l e i = by s.mode refl (table_none p s.colon s.mode o) where
-  in_quotes_left : s.mode ≡ modes.Quotes → (b : Bool) → acts p s o (cond b (go (modes.Text styles.LongString within.Plain)) (before kinds.QuotedSymbol)) ≡ Left l t → LeavesQuotes s l
+  in_quotes_left : s.mode ≡ modes.Quotes → (b : Bool) → acts p s o (cond b (go (modes.Text styles.LongString within.Plain)) (before kinds.QuotedSymbol))
+      ≡ Left l t → LeavesQuotes s l
   in_quotes_left m true f = cc
   in_quotes_left m false f =
       let whole : s.used - 0 ≡ s.used = omega arith in

@@ -32,7 +32,8 @@ acts_start p s o (actions.Go m k) = refl
 acts_start p s o (actions.Give kind k) = refl
 acts_start p s o (actions.Before kind k m) = refl
 acts_start p s o actions.EndWord = by ((o == 46) && bytes_eq s.kept (codes "null")) where
-  by : (b : Bool) → Starts (start_of s.mode s.start s.used) (cond b (Next (go_to s modes.KindName [])) (Left (cut s kinds.Word s.kept s.used) (past p kinds.Word modes.Blank [] s.used s.used)))
+  by : (b : Bool) → Starts (start_of s.mode s.start s.used) (cond b (Next (go_to s modes.KindName []))
+      (Left (cut s kinds.Word s.kept s.used) (past p kinds.Word modes.Blank [] s.used s.used)))
   by true = refl
   by false = refl
 acts_start p s o (actions.Split n) = refl
@@ -56,7 +57,8 @@ covers_next start end l (t ∷ ts) c i = sym c.0 ∙ ap (λ (x : Lexeme). x.star
 
 -- Where a document goes on with one octet more, and a token has begun then, it begins where the scanner says before.
 pub begins_since : (p : Place) (s : Known) (u : List ℕ) (ts : List Placed) → Scanned p s u ts [] → (o : ℕ) (b : Begun) → ShowsBegun p (u ++ o ∷ []) ts (Some b)
-    → (rest : List ℕ) (others : List Placed) → LooksIn p others → Lexes false 0 ((u ++ o ∷ []) ++ rest) (ts ++ others) → b.start ≡ start_of s.mode s.start s.used
+    → (rest : List ℕ) (others : List Placed) → LooksIn p others → Lexes false 0 ((u ++ o ∷ []) ++ rest) (ts ++ others)
+    → b.start ≡ start_of s.mode s.start s.used
 unfolding Starts
 begins_since p s u ts h o b (colon, end, octets, to, begun) rest others looks lexes = by (feed p s o) refl (acts_start p s o (next p s.colon s.mode o)) where
   next_is : (l : Lexeme) → IsNext l others → b.start ≡ l.start
@@ -71,5 +73,6 @@ begins_since p s u ts h o b (colon, end, octets, to, begun) rest others looks le
   by (Left l t) e from_there = next_is l (next_left p s u ts h o t l e rest others looks lexes) ∙ from_there
   by (Refused n r) e from_there =
       let c = from p s u ts h o in
-      absurd (refusal_right h.behind h.front ts h.left (h.since ++ o ∷ []) c.0 p n r h.told c.1 (behind_since p s u ts [] h (o ∷ []) (Refused n r) (ran p s u ts h o (Refused n r) e)) rest others looks
+      absurd (refusal_right h.behind h.front ts h.left (h.since ++ o ∷ []) c.0 p n r h.told c.1
+      (behind_since p s u ts [] h (o ∷ []) (Refused n r) (ran p s u ts h o (Refused n r) e)) rest others looks
       (subst (λ v. Lexes false 0 v (ts ++ others)) (there p s u ts [] h (o ∷ []) rest) lexes))

@@ -28,17 +28,29 @@ Says t = (c : Content) × IsBody t.lexeme.kind t.lexeme.octets (Ok c)
 -- Behind tokens told before, a trace tells these tokens up to the end of all octets; or it lacks octets at an operator and a word.
 TellsOn : Places → List Told → Trace → List Placed → ℕ → Type 0
 TellsOn places before x ts all =
-    ((xs : List Told) × (last : Option Told) × (x ≡ record { told = before ++ xs; refused = None; ends = Ok last }) × AreTold places before ts (xs ++ option_to_list last))
-    ⊎ ((e : EndsInOperand ts) × (xs : List Told) × (x ≡ record { told = before ++ xs; refused = None; ends = Err (record { offset = all; reason = Incomplete }) }) × AreTold places before e.front xs)
+    ((xs : List Told) × (last : Option Told) × (x ≡ record { told = before ++ xs; refused = None; ends = Ok last })
+    × AreTold places before ts (xs ++ option_to_list last))
+    ⊎ ((e : EndsInOperand ts) × (xs : List Told)
+    × (x ≡ record { told = before ++ xs; refused = None; ends = Err (record { offset = all; reason = Incomplete }) })
+    × AreTold places before e.front xs)
 
 -- one token more in front
-one_more : (places : Places) (before : List Told) (t : Placed) (ts : List Placed) (x : Told) (y : Trace) (all : ℕ) → t.place ≡ places before → IsTold t.lexeme x → TellsOn places (before ++ x ∷ []) y ts all
+one_more : (places : Places) (before : List Told) (t : Placed) (ts : List Placed) (x : Told) (y : Trace) (all : ℕ) → t.place ≡ places before
+    → IsTold t.lexeme x → TellsOn places (before ++ x ∷ []) y ts all
     → TellsOn places before y (t ∷ ts) all
 unfolding TellsOn
 one_more places before t ts x y all p i (inl (xs, last, e, h)) =
     inl (x ∷ xs, last, e ∙ (λ j. record { told = append_assoc before (x ∷ []) xs j; refused = None; ends = Ok last }), (p, i, h))
 one_more places before t ts x y all p i (inr (o, xs, e, h)) = inr (
-  record { front = t ∷ o.front; operator = o.operator; word = o.word; are = ap (λ l. t ∷ l) o.are; is_operator = o.is_operator; is_word = o.is_word; directly = o.directly },
+  record {
+    front = t ∷ o.front;
+    operator = o.operator;
+    word = o.word;
+    are = ap (λ l. t ∷ l) o.are;
+    is_operator = o.is_operator;
+    is_word = o.is_word;
+    directly = o.directly;
+  },
   x ∷ xs,
   e ∙ (λ j. record { told = append_assoc before (x ∷ []) xs j; refused = None; ends = Err (record { offset = all; reason = Incomplete }) }),
   (p, i, h),
@@ -75,10 +87,12 @@ one_word letters colon start used _ some (Unclosed _ _ t ts s _ _ m e f g h more
 
 module _ (places : Places) where
   -- octets that are all used
-  all_used : (before : List Told) (p : Place) (octets : List ℕ) (s t : Known) → places before ≡ p → run p octets s ≡ Next t → over places octets before s ≡ Leads before t
+  all_used : (before : List Told) (p : Place) (octets : List ℕ) (s t : Known) → places before ≡ p → run p octets s ≡ Next t
+      → over places octets before s ≡ Leads before t
   all_used before p octets s t place e = ap (λ l. over places l before s) (sym (append-nil octets)) ∙ over_next places before p octets [] s t place e
 
-  module _ (before : List Told) (s : Known) (octets : List ℕ) (t : Placed) (ts : List Placed) (s' : Known) (all : ℕ) (say : Says t) (place : t.place ≡ places before) (size : s.used + length octets ≡ all) where
+  module _ (before : List Told) (s : Known) (octets : List ℕ) (t : Placed) (ts : List Placed) (s' : Known) (all : ℕ) (say : Says t)
+      (place : t.place ≡ places before) (size : s.used + length octets ≡ all) where
     abbrev x : Told
     x = told_at t say.0 s'.used
 
@@ -87,7 +101,8 @@ module _ (places : Places) where
     After = s'.used + length (drop (s'.used - s.used) octets) ≡ all
         → TellsOn places (before ++ x ∷ []) (traced places (over places (drop (s'.used - s.used) octets) (before ++ x ∷ []) s')) ts all
 
-    joined : (rest : List ℕ) → drop (s'.used - s.used) octets ≡ rest → s'.used + length rest ≡ all → over places octets before s ≡ over places rest (before ++ x ∷ []) s' → After
+    joined : (rest : List ℕ) → drop (s'.used - s.used) octets ≡ rest → s'.used + length rest ≡ all
+        → over places octets before s ≡ over places rest (before ++ x ∷ []) s' → After
         → TellsOn places before (traced places (over places octets before s)) (t ∷ ts) all
     joined rest back left same more =
         one_more places before t ts x (traced places (over places octets before s)) all place (is_told t say.0 s'.used say.1)
@@ -121,14 +136,16 @@ module _ (places : Places) where
         let small = debt_small d.known.mode in
         let counted = d.counted in
         let used : s'.used ≡ s.used + length d.before = omega (arith, one, counted) in
-        let back : drop (s'.used - s.used) octets ≡ d.octet ∷ d.rest = ap (λ l. drop (s'.used - s.used) l) d.cut ∙ behind_front d.before (d.octet ∷ d.rest) s.used s'.used used in
+        let back : drop (s'.used - s.used) octets ≡ d.octet ∷ d.rest =
+        ap (λ l. drop (s'.used - s.used) l) d.cut ∙ behind_front d.before (d.octet ∷ d.rest) s.used s'.used used in
         joined (d.octet ∷ d.rest) back (omega (arith, used, size, ap length d.cut, length-append d.before (d.octet ∷ d.rest)))
         (ap (λ l. over places l before s) d.cut ∙ over_end places before t.place octets d.rest s (Left t.lexeme s') (sym place) d
         ∙ ap (λ y. then_by (then_by y (takes 2 places d.octet)) (over places d.rest)) (judged_so (s'.used + 1))
         ∙ ap (λ y. then_by y (over places d.rest)) (settles 2 places d.octet (before ++ x ∷ []) s' (omega (arith, owes, small)))) more
 
   -- what is found is told
-  found_told : (before : List Told) (s : Known) (octets : List ℕ) (ts : List Placed) (all : ℕ) → Finds s octets ts → AllSay ts → AreSought places before ts → s.used + length octets ≡ all
+  found_told : (before : List Told) (s : Known) (octets : List ℕ) (ts : List Placed) (all : ℕ) → Finds s octets ts → AllSay ts → AreSought places before ts
+      → s.used + length octets ≡ all
       → TellsOn places before (traced places (over places octets before s)) ts all
   unfolding TellsOn
   found_told before s octets _ all (Nothing _ _ f) say sought size =
@@ -152,10 +169,12 @@ module _ (places : Places) where
       )
   found_told before s octets _ all (Gives _ _ t ts s' e more) say sought size =
       given before s octets t ts s' all say.0 sought.0 size e
-      (λ left. found_told (before ++ told_at t say.0.0 s'.used ∷ []) s' (drop (s'.used - s.used) octets) ts all more say.1 (sought.1 (told_at t say.0.0 s'.used) (is_told t say.0.0 s'.used say.0.1)) left)
+      (λ left. found_told (before ++ told_at t say.0.0 s'.used ∷ []) s' (drop (s'.used - s.used) octets) ts all more say.1
+      (sought.1 (told_at t say.0.0 s'.used) (is_told t say.0.0 s'.used say.0.1)) left)
   found_told before s octets _ all (Leaves _ _ t ts s' e more) say sought size =
       left before s octets t ts s' all say.0 sought.0 size e
-      (λ now. found_told (before ++ told_at t say.0.0 s'.used ∷ []) s' (drop (s'.used - s.used) octets) ts all more say.1 (sought.1 (told_at t say.0.0 s'.used) (is_told t say.0.0 s'.used say.0.1)) now)
+      (λ now. found_told (before ++ told_at t say.0.0 s'.used ∷ []) s' (drop (s'.used - s.used) octets) ts all more say.1
+      (sought.1 (told_at t say.0.0 s'.used) (is_told t say.0.0 s'.used say.0.1)) now)
   found_told before s octets _ all (Unclosed _ _ t ts s' colon letters some e f first operator more) say sought size =
       let end : at_end (places before) s' ≡ Err Incomplete = ap (λ q. at_end q s') (sym sought.0) ∙ f in
       let (w, only, is, from) = one_word letters colon t.lexeme.end s'.used ts some more in
@@ -172,11 +191,18 @@ module _ (places : Places) where
 -- Octets that are tokens which say something, each looked for where those before it lead, are traced as these.
 pub tokens_traced : (places : Places) (u : List ℕ) (ts : List Placed) → Lexes false 0 u ts → AllSay ts → AreSought places [] ts
     → ((last : Option Told) × ((trace places u).ends ≡ Ok last) × AreTold places [] ts ((trace places u).told ++ option_to_list last))
-    ⊎ ((e : EndsInOperand ts) × ((trace places u).ends ≡ Err (record { offset = length u; reason = Incomplete })) × AreTold places [] e.front (trace places u).told)
+    ⊎ ((e : EndsInOperand ts) × ((trace places u).ends ≡ Err (record { offset = length u; reason = Incomplete }))
+    × AreTold places [] e.front (trace places u).told)
 unfolding TellsOn
-tokens_traced places u ts lexes say sought = by (found_told places [] initial u ts (length u) (completes ts false 0 u [] u initial lexes refl (λ p. refl)) say sought (omega arith)) where
-  by : TellsOn places [] (trace places u) ts (length u)
-      → ((last : Option Told) × ((trace places u).ends ≡ Ok last) × AreTold places [] ts ((trace places u).told ++ option_to_list last))
-      ⊎ ((e : EndsInOperand ts) × ((trace places u).ends ≡ Err (record { offset = length u; reason = Incomplete })) × AreTold places [] e.front (trace places u).told)
-  by (inl (xs, last, e, h)) = inl (last, ap (λ (x : Trace). x.ends) e, subst (λ l. AreTold places [] ts (l ++ option_to_list last)) (sym (ap (λ (x : Trace). x.told) e)) h)
-  by (inr (o, xs, e, h)) = inr (o, ap (λ (x : Trace). x.ends) e, subst (λ l. AreTold places [] o.front l) (sym (ap (λ (x : Trace). x.told) e)) h)
+tokens_traced places u ts lexes say sought = by (found_told places [] initial u ts (length u)
+    (completes ts false 0 u [] u initial lexes refl (λ p. refl)) say sought (omega arith)) where
+      by : TellsOn places [] (trace places u) ts (length u)
+          → ((last : Option Told) × ((trace places u).ends ≡ Ok last) × AreTold places [] ts ((trace places u).told ++ option_to_list last))
+          ⊎ ((e : EndsInOperand ts) × ((trace places u).ends ≡ Err (record { offset = length u; reason = Incomplete }))
+          × AreTold places [] e.front (trace places u).told)
+      by (inl (xs, last, e, h)) = inl (
+        last,
+        ap (λ (x : Trace). x.ends) e,
+        subst (λ l. AreTold places [] ts (l ++ option_to_list last)) (sym (ap (λ (x : Trace). x.told) e)) h,
+      )
+      by (inr (o, xs, e, h)) = inr (o, ap (λ (x : Trace). x.ends) e, subst (λ l. AreTold places [] o.front l) (sym (ap (λ (x : Trace). x.told) e)) h)

@@ -28,4 +28,5 @@ pub record EndsInOperand (ts : List Placed) : Type 0 where
 abbrev pub TokensTraced : Type 0
 TokensTraced = (places : Places) (u : List ℕ) (ts : List Placed) → Lexes false 0 u ts → AllSay ts → AreSought places [] ts
     → ((last : Option Told) × ((trace places u).ends ≡ Ok last) × AreTold places [] ts ((trace places u).told ++ option_to_list last))
-    ⊎ ((e : EndsInOperand ts) × ((trace places u).ends ≡ Err (record { offset = length u; reason = Incomplete })) × AreTold places [] e.front (trace places u).told)
+    ⊎ ((e : EndsInOperand ts) × ((trace places u).ends ≡ Err (record { offset = length u; reason = Incomplete }))
+    × AreTold places [] e.front (trace places u).told)

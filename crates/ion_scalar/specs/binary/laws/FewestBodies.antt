@@ -39,7 +39,8 @@ back_below whole xs ys e all = λ k h.
     rw (get_or-append-add xs ys k 0) at below
 
 -- a sign of 0 costs nothing
-signed_size : (negative : Bool) (n : ℕ) → length (var_int_octets (int_lt (signed negative n) (pos 0)) (unsigned_abs (signed negative n))) ≡ length (var_int_octets negative n)
+signed_size : (negative : Bool) (n : ℕ) → length (var_int_octets (int_lt (signed negative n) (pos 0)) (unsigned_abs (signed negative n)))
+    ≡ length (var_int_octets negative n)
 signed_size false n = rw (le-ltb n 0 (omega arith)) refl
 signed_size true zero = refl
 signed_size true (suc n) = refl
@@ -61,9 +62,15 @@ decimal_fewest w d octets (inr p) =
     let first : length (var_int_octets (int_lt d.exponent (pos 0)) (unsigned_abs d.exponent)) ≤ length p.power =
     omega (arith, power, ap (λ e. length (var_int_octets (int_lt e (pos 0)) (unsigned_abs e))) p.exponent, signed_size p.below p.written) in
     let second : length (int_octets d.negative d.magnitude) ≤ length p.coefficient =
-    omega (arith, coefficient, ap (λ s. length (int_octets s d.magnitude)) p.sign, ap (λ (m : ℕ). length (int_octets (int_negative p.coefficient) m)) p.magnitude) in
+    omega (
+      arith,
+      coefficient,
+      ap (λ s. length (int_octets s d.magnitude)) p.sign,
+      ap (λ (m : ℕ). length (int_octets (int_negative p.coefficient) m)) p.magnitude,
+    ) in
     nothing_if (is_zero d.negative d.magnitude d.exponent) _ (length w)
-    (parts_size (var_int_octets (int_lt d.exponent (pos 0)) (unsigned_abs d.exponent)) (int_octets d.negative d.magnitude) p.power p.coefficient w p.octets first second)
+    (parts_size (var_int_octets (int_lt d.exponent (pos 0)) (unsigned_abs d.exponent))
+    (int_octets d.negative d.magnitude) p.power p.coefficient w p.octets first second)
 
 -- what stands behind the fields, part by part, at most
 minute_size : (p : Precision) (utc : Utc) → length (octets_behind_minute p utc) ≤ length (var_uint_octets utc.second) + length (octets_behind_second p utc)
@@ -93,7 +100,8 @@ month_size precisions.Minute utc = omega (arith, length-append (var_uint_octets 
 month_size precisions.Second utc = omega (arith, length-append (var_uint_octets utc.minute.date.day) (octets_behind_day precisions.Second utc))
 month_size (precisions.Fraction n) utc = omega (arith, length-append (var_uint_octets utc.minute.date.day) (octets_behind_day (precisions.Fraction n) utc))
 
-year_size : (p : Precision) (utc : Utc) → length (octets_behind_year p utc) ≤ length (var_uint_octets utc.minute.date.month) + length (octets_behind_month p utc)
+year_size : (p : Precision) (utc : Utc) → length (octets_behind_year p utc) ≤ length (var_uint_octets utc.minute.date.month)
+    + length (octets_behind_month p utc)
 year_size precisions.Year utc = omega arith
 year_size precisions.Month utc = omega (arith, length-append (var_uint_octets utc.minute.date.month) (octets_behind_month precisions.Month utc))
 year_size precisions.Day utc = omega (arith, length-append (var_uint_octets utc.minute.date.month) (octets_behind_month precisions.Day utc))
@@ -102,7 +110,8 @@ year_size precisions.Second utc = omega (arith, length-append (var_uint_octets u
 year_size (precisions.Fraction n) utc = omega (arith, length-append (var_uint_octets utc.minute.date.month) (octets_behind_month (precisions.Fraction n) utc))
 
 -- a field and what stands behind it
-field_size : (w field rest : List ℕ) (n m a : ℕ) → AreBelow 256 w → w ≡ field ++ rest → VarUInt field n → m ≡ n → a ≤ length rest → length (var_uint_octets m) + a ≤ length w
+field_size : (w field rest : List ℕ) (n m a : ℕ) → AreBelow 256 w → w ≡ field ++ rest → VarUInt field n → m ≡ n → a ≤ length rest
+    → length (var_uint_octets m) + a ≤ length w
 field_size w field rest n m a octets cut is same h =
     let size = var_uint_fewest field n (front_below w field rest cut octets) is in
     omega (arith, h, ap length cut, length-append field rest, size, ap (λ (k : ℕ). length (var_uint_octets k)) same)
@@ -117,8 +126,10 @@ record SecondSize (m : Minute) (n : ℕ) (octets : List ℕ) (utc : Utc) : Type 
   second : utc.second ≡ n
   size : length (octets_behind_second utc.precision utc) ≤ length octets
 
-second_size : (minute : Minute) (second : ℕ) (octets : List ℕ) (utc : Utc) → AreBelow 256 octets → IsBehindSecond minute second octets utc → SecondSize minute second octets utc
-second_size minute second octets utc all (inl (none, e)) = subst (SecondSize minute second octets) (sym e) (record { minute = refl; second = refl; size = omega arith })
+second_size : (minute : Minute) (second : ℕ) (octets : List ℕ) (utc : Utc) → AreBelow 256 octets → IsBehindSecond minute second octets utc
+    → SecondSize minute second octets utc
+second_size minute second octets utc all (inl (none, e)) = subst (SecondSize minute second octets) (sym e)
+    (record { minute = refl; second = refl; size = omega arith })
 second_size minute second octets utc all (inr f) = by f.fraction where
   by : IsFractionOf f.below f.power f.coefficient minute second utc → SecondSize minute second octets utc
   by (inl (below, one, most, sign, small, e)) =
@@ -126,7 +137,12 @@ second_size minute second octets utc all (inr f) = by f.fraction where
       let first : length (var_int_octets true f.power) ≤ length f.exponent = omega (arith, power, ap (λ s. length (var_int_octets s f.power)) below) in
       let last = coefficient_size f.coefficient (back_below octets f.exponent f.coefficient f.cut all) sign in
       subst (SecondSize minute second octets) (sym e)
-      (record { minute = refl; second = refl; size = parts_size (var_int_octets true f.power) (int_octets false (int_magnitude f.coefficient)) f.exponent f.coefficient octets f.cut first last })
+      (record {
+        minute = refl;
+        second = refl;
+        size = parts_size (var_int_octets true f.power)
+            (int_octets false (int_magnitude f.coefficient)) f.exponent f.coefficient octets f.cut first last;
+      })
   by (inr (low, zero_coefficient, e)) = subst (SecondSize minute second octets) (sym e) (record { minute = refl; second = refl; size = omega arith })
 
 record MinuteSize (m : Minute) (octets : List ℕ) (utc : Utc) : Type 0 where
@@ -146,10 +162,12 @@ record HourSize (d : Date) (n : ℕ) (octets : List ℕ) (utc : Utc) : Type 0 wh
   hour : utc.minute.hour ≡ n
   size : length (clock_octets utc.precision utc) ≤ length octets
 
-behind_hour_size : (date : Date) (hour : ℕ) (octets : List ℕ) (utc : Utc) → AreBelow 256 octets → IsBehindHour date hour octets utc → HourSize date hour octets utc
+behind_hour_size : (date : Date) (hour : ℕ) (octets : List ℕ) (utc : Utc) → AreBelow 256 octets → IsBehindHour date hour octets utc
+    → HourSize date hour octets utc
 behind_hour_size date hour octets utc all b =
     let m = behind_minute_size (minute_of date hour b.number) b.rest utc (back_below octets b.field b.rest b.cut all) b.behind in
-    let size = field_size octets b.field b.rest b.number utc.minute.minute (length (octets_behind_minute utc.precision utc)) all b.cut b.is (ap (λ (x : Minute). x.minute) m.minute) m.size in
+    let size = field_size octets b.field b.rest b.number utc.minute.minute
+    (length (octets_behind_minute utc.precision utc)) all b.cut b.is (ap (λ (x : Minute). x.minute) m.minute) m.size in
     record {
       date = ap (λ (x : Minute). x.date) m.minute;
       hour = ap (λ (x : Minute). x.hour) m.minute;
@@ -174,10 +192,12 @@ record MonthSize (y m : ℕ) (octets : List ℕ) (utc : Utc) : Type 0 where
   size : length (octets_behind_month utc.precision utc) ≤ length octets
 
 behind_month_size : (year month : ℕ) (octets : List ℕ) (utc : Utc) → AreBelow 256 octets → IsBehindMonth year month octets utc → MonthSize year month octets utc
-behind_month_size year month octets utc all (inl (none, e)) = subst (MonthSize year month octets) (sym e) (record { year = refl; month = refl; size = omega arith })
+behind_month_size year month octets utc all (inl (none, e)) = subst (MonthSize year month octets) (sym e)
+    (record { year = refl; month = refl; size = omega arith })
 behind_month_size year month octets utc all (inr b) =
     let d = behind_day_size _ b.rest utc (back_below octets b.field b.rest b.cut all) b.behind in
-    let size = field_size octets b.field b.rest b.number utc.minute.date.day (length (octets_behind_day utc.precision utc)) all b.cut b.is (ap (λ (x : Date). x.day) d.date) d.size in
+    let size = field_size octets b.field b.rest b.number utc.minute.date.day
+    (length (octets_behind_day utc.precision utc)) all b.cut b.is (ap (λ (x : Date). x.day) d.date) d.size in
     let most = month_size utc.precision utc in
     record { year = ap (λ (x : Date). x.year) d.date; month = ap (λ (x : Date). x.month) d.date; size = omega (arith, size, most) }
 
@@ -237,7 +257,8 @@ pub timestamp_fewest : (w : List ℕ) (t : TimestampParts) → AreBelow 256 w �
 unfolding timestamp_octets
 timestamp_fewest w t octets b =
     let front = front_below w b.ahead b.fields b.cut octets in
-    let offset = kept_size b.utc.precision (offset_from b.below b.minutes) (length b.ahead) (some_octet b.ahead b.below b.minutes b.is_ahead) (offset_size b.ahead b.below b.minutes front b.is_ahead) in
+    let offset = kept_size b.utc.precision (offset_from b.below b.minutes) (length b.ahead) (some_octet b.ahead b.below b.minutes b.is_ahead)
+    (offset_size b.ahead b.below b.minutes front b.is_ahead) in
     let first : length (ahead_octets t.offset) ≤ length b.ahead = omega (arith, offset, ap (λ o. length (ahead_octets o)) b.offset) in
     let fields = fields_size b.fields b.utc (back_below w b.ahead b.fields b.cut octets) b.are_fields in
     let second : length (fields_octets (utc_of t)) ≤ length b.fields = omega (arith, fields, ap (λ u. length (fields_octets u)) (utc_is w t b)) in
