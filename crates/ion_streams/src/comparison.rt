@@ -27,7 +27,7 @@ pub enum Side {
 }
 
 /// The answer of a comparison.
-#[derive(Debug, Drop)]
+#[derive(Debug, Drop, PartialEq, Eq)]
 pub enum Verdict {
     /// The streams are equivalent (Ion 1.0, "The Ion Data Model").
     Equivalent {
