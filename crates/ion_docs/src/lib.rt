@@ -22,6 +22,6 @@ pub use ion_streams::{
     Side, Verdict, check_items, compare_items, load_items, read_items, read_octets, show_items,
 };
 pub use memory::in_memory;
-pub use paths::path_text;
+pub use paths::{PathText, path_text, spelling_of_path};
 pub use whole::{read_all, read_document};
 pub use writers::Encoder;

@@ -1,11 +1,13 @@
 //! How paths are spelled.
-ghost use Rattle.std.specs.Prelude.{◌≡◌, ◌++◌, OnOk, IsOkUnless, MatchResult, string_bytes};
+ghost use Rattle.std.specs.Prelude.{◌≡◌, Some, MatchResult, string_bytes};
+ghost use Rattle.std.specs.Fmt.{WritesOnOk};
 ghost use Rattle.ion_atoms.specs.declared.refusal.Reason.TheVariants as reasons;
 ghost use Rattle.ion_docs.specs.Paths.{part_text, path_text};
 
 use ion_model::{Part, Path, Reason};
-use ion_text::symbol_text;
+use ion_text::spelling_of;
 use std::alloc::Global;
+use std::fmt::{self, Display, Formatter};
 
 /// The parts of a path, one space between them: an item is its number in brackets, a name is spelled as
 /// symbols of text documents are (`symbol_text`). The path of no parts is no text.
@@ -16,32 +18,45 @@ pub fn path_text(alloc: Global, path: &Path) -> Result<String, Reason>
         (λ text. string_bytes text ≡ path_text path.now)
         (λ reason. reason ≡ reasons.Memory) }
 {
-    let mut text = String::new(alloc);
-    let Some((part, others)) = path.parts().split_first() else {
-        return Ok(text);
-    };
-    push_part(alloc, part, &mut text)?;
-    for part in others {
-        text.push_str(" ")?;
-        push_part(alloc, part, &mut text)?;
-    }
+    let text = spelling_of_path(path).to_string(alloc)?;
     Ok(text)
 }
 
-/// Appends a part.
-fn push_part(alloc: Global, part: &Part, text: &mut String) -> Result<(), Reason>
-    ensures ok { OnOk result (string_bytes text.new ≡ string_bytes text.old ++ part_text part.now) }
-    ensures memory { IsOkUnless result reasons.Memory }
+/// A path that prints as its spelling, where `path_text` makes a `String` of it.
+#[derive(Clone, Copy)]
+pub struct PathText<'a> {
+    path: &'a Path,
+}
+
+/// The path as what prints as its spelling, as in `println!(rt; "{}", spelling_of_path(&path))`: that of `path_text`. Takes
+/// no memory.
+pub fn spelling_of_path(path: &Path) -> PathText<'_>
+    ensures { result.path.now ≡ path.now }
+{
+    PathText { path }
+}
+
+impl Display for PathText<'_> {
+    ghost output = { λ p. Some (path_text p.path.now) };
+
+    fn fmt<W: fmt::Write>(&self, f: &mut Formatter<W>) -> fmt::Result {
+        let Some((part, others)) = self.path.parts().split_first() else {
+            return Ok(());
+        };
+        write_part(f, part)?;
+        for part in others {
+            f.write_str(" ")?;
+            write_part(f, part)?;
+        }
+        Ok(())
+    }
+}
+
+fn write_part<W: fmt::Write>(f: &mut Formatter<W>, part: &Part) -> fmt::Result
+    ensures { WritesOnOk W.write_str_gives f.old result (part_text part.now) f.new }
 {
     match part {
-        Part::Item(number) => {
-            let item = format!(in alloc; "[{number}]")?;
-            text.push_str(item.as_str())?;
-        }
-        Part::Name(name) => {
-            let name = symbol_text(alloc, name)?;
-            text.push_str(name.as_str())?;
-        }
+        Part::Item(number) => write!(f, "[{number}]"),
+        Part::Name(name) => spelling_of(name).fmt(f),
     }
-    Ok(())
 }
