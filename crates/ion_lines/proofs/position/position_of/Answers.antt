@@ -1,4 +1,4 @@
-use Rattle.std.proofs.Common.{ℕ, ◌≤◌, ◌<◌, ◌≡◌, List, [], ◌++◌, take, drop, length, min, Bool, true, false, ap, sym, ◌∙◌, arith, length-take, length-drop, length-append, append-nil}
+use Rattle.std.proofs.Common.{inr, ℕ, ◌≤◌, ◌<◌, ◌≡◌, List, [], ◌++◌, take, drop, length, min, Bool, true, false, ap, sym, ◌∙◌, arith, length-take, length-drop, length-append, append-nil}
 use Rattle.std.proofs.lemmas.Bool.{false≢true}
 use Rattle.std.proofs.lemmas.List.{take-append-le, take_all, length-take-le}
 use Rattle.ion_symtab.specs.declared.inlet.Inlet.{Ghosts as Inlet}
@@ -75,6 +75,7 @@ loop-left-preserved g c =
       omega (arith, grown, taken, all, most),
       omega (arith, grown, taken, calls, read.calls, some),
       omega (arith, length-append piece (drop c.min-wanted.result c.loop-left.piece), length-drop c.min-wanted.result c.loop-left.piece, c.read.auto.piece, length-take c.min-wanted.result c.loop-left.piece, i.5),
+      inr read.failed,
     )
 
 there : {S : Type 0} (R : Inlet S) (first now : S) (offset : ℕ) (p : Position) (octets : List ℕ) (ended : Bool) → Heard R first now octets ended → (ended ≡ false → offset ≤ length octets) → length octets ≤ offset → p ≡ position octets → IsPosition R first now offset p
