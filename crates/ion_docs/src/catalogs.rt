@@ -1,5 +1,5 @@
 //! Catalogs from documents.
-ghost use Rattle.std.specs.Prelude.{◌+◌, ◌≤◌, [], IfOk, IfErr, length, ◌*◌};
+ghost use Rattle.std.specs.Prelude.{◌≡◌, ◌+◌, ◌≤◌, false, [], IfOk, IfErr, OnOk, length, ◌*◌};
 ghost use Rattle.ion_symtab.specs.Cause.{IsReadCause};
 ghost use Rattle.ion_docs.specs.Formats.{documents};
 ghost use Rattle.ion_streams.specs.Loaded.{IsLoaded};
@@ -30,6 +30,7 @@ pub fn load_catalog<R: Inlet>(
     ensures few_calls { R.calls_made reader.new ≤ R.calls_made reader.old + limits.reads }
     ensures few_octets { length (R.handed reader.new)
         ≤ length (R.handed reader.old) + 4096 * limits.reads }
+    ensures no_read_failed { OnOk result (R.has_failed reader.new ≡ false) }
     ensures cause { IfErr result (IsReadCause R.Inlet limits.reads reader.old reader.new) }
 {
     let none = Catalog::new(alloc);

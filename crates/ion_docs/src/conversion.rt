@@ -75,7 +75,7 @@ fn convert_last<E: Encoder + Drop, I, W: Outlet>(
         TookBehind W.Outlet writer.old writer.new
         (E.puts s) (E.encoding.document (s ++ option_to_list value))) }
     ensures passed_on { OnOk result (W.passed writer.new ≡ W.written writer.new) }
-    ensures fine { OnOk result (W.has_failed writer.new ≡ false) }
+    ensures no_write_failed { OnOk result (W.has_failed writer.new ≡ false) }
     ensures front { OnErr result ((s : List AnyValue) → E.has_put encoder s →
         TookSomeBehind W.Outlet writer.old writer.new
         (E.puts s) (E.encoding.document (s ++ option_to_list value))) }
@@ -112,9 +112,10 @@ pub fn convert_items<E: Encoder + Drop, I: Items + Drop, R: Inlet, W: Outlet>(
         (format_of I.Items (I.catalog items) (I.limits items))
         reader.old reader.new writer.old writer.new) }
     ensures passed_on { OnOk result (W.passed writer.new ≡ W.written writer.new) }
-    ensures fine { OnOk result (W.has_failed writer.new ≡ false) }
+    ensures no_write_failed { OnOk result (W.has_failed writer.new ≡ false) }
     ensures few_calls { R.calls_made reader.new ≤ R.calls_made reader.old + reads }
     ensures few_octets { length (R.handed reader.new) ≤ length (R.handed reader.old) + 4096 * reads }
+    ensures no_read_failed { OnOk result (R.has_failed reader.new ≡ false) }
     ensures so_far { OnErr result (ConvertsSoFar E.encoding
         (ReadSoFar R.Inlet I.Items (I.catalog items) (I.limits items) reader.old reader.new)
         W.Outlet writer.old writer.new) }
@@ -145,9 +146,10 @@ pub(crate) fn convert_by<C: Carrier<I, E>, E: Encoder + Drop, I: Items + Drop, R
         (format_of I.Items (I.catalog items) (I.limits items))
         reader.old reader.new writer.old writer.new) }
     ensures passed_on { OnOk result (W.passed writer.new ≡ W.written writer.new) }
-    ensures fine { OnOk result (W.has_failed writer.new ≡ false) }
+    ensures no_write_failed { OnOk result (W.has_failed writer.new ≡ false) }
     ensures few_calls { R.calls_made reader.new ≤ R.calls_made reader.old + reads }
     ensures few_octets { length (R.handed reader.new) ≤ length (R.handed reader.old) + 4096 * reads }
+    ensures no_read_failed { OnOk result (R.has_failed reader.new ≡ false) }
     ensures so_far { OnErr result (ConvertsSoFar E.encoding
         (ReadSoFar R.Inlet I.Items (I.catalog items) (I.limits items) reader.old reader.new)
         W.Outlet writer.old writer.new) }

@@ -41,6 +41,7 @@ pub fn check<R: Inlet>(
     ensures few_calls { R.calls_made reader.new ≤ R.calls_made reader.old + limits.reads }
     ensures few_octets { length (R.handed reader.new)
         ≤ length (R.handed reader.old) + 4096 * limits.reads }
+    ensures no_read_failed { OnOk result (R.has_failed reader.new ≡ false) }
     ensures cause { IfErr result (IsReadCause R.Inlet limits.reads reader.old reader.new) }
 {
     let items = DocReader::new(alloc, catalog, limits).map_err(|_| Fault::Memory)?;
@@ -64,12 +65,13 @@ pub fn show<R: Inlet, W: Outlet>(
     ensures shown { IfOk result (IsShown R.Inlet W.Outlet (documents catalog.now limits)
         reader.old reader.new writer.old writer.new) }
     ensures passed_on { OnOk result (W.passed writer.new ≡ W.written writer.new) }
-    ensures fine { OnOk result (W.has_failed writer.new ≡ false) }
+    ensures no_write_failed { OnOk result (W.has_failed writer.new ≡ false) }
     ensures so_far { OnErr result (ShowsSoFar R.Inlet ⟦<DocReader<'static> as Items>⟧ W.Outlet
         catalog.now limits reader.old reader.new writer.old writer.new) }
     ensures few_calls { R.calls_made reader.new ≤ R.calls_made reader.old + limits.reads }
     ensures few_octets { length (R.handed reader.new)
         ≤ length (R.handed reader.old) + 4096 * limits.reads }
+    ensures no_read_failed { OnOk result (R.has_failed reader.new ≡ false) }
     ensures cause { IfErr result (λ fault.
         IsReadCause R.Inlet limits.reads reader.old reader.new fault
         ⊎ IsWriteCause W.Outlet writer.new fault) }
@@ -104,10 +106,11 @@ pub fn convert<R: Inlet, W: Outlet>(
     ensures converted { IfOk result (IsConverted R.Inlet W.Outlet (encoding_of target)
         (documents catalog.now limits) reader.old reader.new writer.old writer.new) }
     ensures passed_on { OnOk result (W.passed writer.new ≡ W.written writer.new) }
-    ensures fine { OnOk result (W.has_failed writer.new ≡ false) }
+    ensures no_write_failed { OnOk result (W.has_failed writer.new ≡ false) }
     ensures few_calls { R.calls_made reader.new ≤ R.calls_made reader.old + limits.reads }
     ensures few_octets { length (R.handed reader.new)
         ≤ length (R.handed reader.old) + 4096 * limits.reads }
+    ensures no_read_failed { OnOk result (R.has_failed reader.new ≡ false) }
     ensures so_far { OnErr result (ConvertsSoFar (encoding_of target)
         (ReadSoFar R.Inlet ⟦<DocReader<'static> as Items>⟧ catalog.now limits reader.old reader.new)
         W.Outlet writer.old writer.new) }
@@ -136,10 +139,11 @@ pub fn convert_with_hasher<H: BuildHasher + Drop, R: Inlet, W: Outlet>(
     ensures converted { IfOk result (IsConverted R.Inlet W.Outlet (encoding_of target)
         (documents catalog.now limits) reader.old reader.new writer.old writer.new) }
     ensures passed_on { OnOk result (W.passed writer.new ≡ W.written writer.new) }
-    ensures fine { OnOk result (W.has_failed writer.new ≡ false) }
+    ensures no_write_failed { OnOk result (W.has_failed writer.new ≡ false) }
     ensures few_calls { R.calls_made reader.new ≤ R.calls_made reader.old + limits.reads }
     ensures few_octets { length (R.handed reader.new)
         ≤ length (R.handed reader.old) + 4096 * limits.reads }
+    ensures no_read_failed { OnOk result (R.has_failed reader.new ≡ false) }
     ensures so_far { OnErr result (ConvertsSoFar (encoding_of target)
         (ReadSoFar R.Inlet ⟦<DocReader<'static> as Items>⟧ catalog.now limits reader.old reader.new)
         W.Outlet writer.old writer.new) }
@@ -191,6 +195,8 @@ pub fn compare<L: Inlet, R: Inlet>(
         × (R.calls_made right.new ≤ R.calls_made right.old + limits.reads) }
     ensures few_octets { (length (L.handed left.new) ≤ length (L.handed left.old) + 4096 * limits.reads)
         × (length (R.handed right.new) ≤ length (R.handed right.old) + 4096 * limits.reads) }
+    ensures no_read_failed { OnOk result ((L.has_failed left.new ≡ false)
+        × ((right.new ≡ right.old) ⊎ (R.has_failed right.new ≡ false))) }
     ensures cause { IfErr result (λ fault.
         IsReadCause L.Inlet limits.reads left.old left.new fault
         ⊎ IsReadCause R.Inlet limits.reads right.old right.new fault) }

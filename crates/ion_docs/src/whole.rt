@@ -1,5 +1,5 @@
 //! All values of a document.
-ghost use Rattle.std.specs.Prelude.{◌≡◌, ◌≢◌, ◌+◌, ◌^◌, ◌<◌, ◌≤◌, List, length, IfOk, IfErr, MatchResult, ◌*◌};
+ghost use Rattle.std.specs.Prelude.{◌≡◌, ◌≢◌, ◌+◌, ◌^◌, ◌<◌, ◌≤◌, false, List, length, IfOk, IfErr, OnOk, MatchResult, ◌*◌};
 ghost use Rattle.ion_model.specs.declared.value.Value.{Value};
 ghost use Rattle.ion_atoms.specs.declared.refusal.Reason.TheVariants as reasons;
 ghost use Rattle.ion_symtab.specs.Cause.{IsReadCause};
@@ -54,6 +54,7 @@ pub fn read_document<R: Inlet>(
     ensures few_calls { R.calls_made reader.new ≤ R.calls_made reader.old + limits.reads }
     ensures few_octets { length (R.handed reader.new)
         ≤ length (R.handed reader.old) + 4096 * limits.reads }
+    ensures no_read_failed { OnOk result (R.has_failed reader.new ≡ false) }
     ensures cause { IfErr result (IsReadCause R.Inlet limits.reads reader.old reader.new) }
 {
     let items = DocReader::new(alloc, catalog, limits).map_err(|_| Fault::Memory)?;

@@ -45,7 +45,7 @@ pub trait Encoder {
         ensures wrote { OnOk result ((s : List Value) → has_put self s →
             TookBehind W.Outlet out.old out.new (puts s) (encoding.document s)) }
         ensures passed_on { OnOk result (W.passed out.new ≡ W.written out.new) }
-        ensures fine { OnOk result (W.has_failed out.new ≡ false) }
+        ensures no_write_failed { OnOk result (W.has_failed out.new ≡ false) }
         ensures front { OnErr result ((s : List Value) → has_put self s →
             TookSomeBehind W.Outlet out.old out.new (puts s) (encoding.document s)) }
         ensures cause { (s : List Value) → has_put self s →

@@ -6,9 +6,10 @@ use Rattle.ion_symtab.specs.declared.fault.Fault.{Fault}
 use Rattle.ion_symtab.specs.declared.limits.Limits.{Limits}
 use Rattle.ion_symtab.specs.declared.inlet.Inlet.{Ghosts as Inlet}
 use Rattle.ion_symtab.specs.declared.items.Items.{Ghosts as Items}
+use Rattle.ion_streams.specs.reading.Read.{NoReadFailed}
 use Rattle.ion_streams.specs.declared.source.Standing.{Standing}
 use Rattle.ion_values.specs.declared.stop.Stop.{Stop}
-use Rattle.ion_values.specs.Given.{IsNext, HasGiven}
+use Rattle.ion_values.specs.Given.{IsNext, HasGiven, IfAnswered}
 
 -- one more item may come where it wasn't stopped
 abbrev pub still_one : Bool → ℕ
@@ -39,3 +40,4 @@ pub record EachGives {S X : Type 0} (R : Inlet S) (I : Items X) (before : S) (pl
   pub stops : stopped ≡ false → stopped_now ≡ stops_at item
   pub next : stopped ≡ false → (g : Catalog) (l : Limits) (first : S) (s : List Value) → HasGiven R I g l first before place fault s → IsNext R I g l first now s (answer_in item)
   pub goes_on : stopped ≡ false → (g : Catalog) (l : Limits) (first : S) (s : List Value) → HasGiven R I g l first before place fault s → HasGiven R I g l first now place_now fault_now (s ++ values_in item)
+  pub no_read_failed : stopped ≡ false → IfAnswered (answer_in item) (NoReadFailed R before now)

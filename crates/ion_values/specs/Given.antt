@@ -64,6 +64,12 @@ abbrev pub given_by : Result (Option Value) Stop → List Value
 given_by (Ok value) = option_to_list value
 given_by (Err stop) = []
 
+-- where it isn't a fault: a value, none, or a refusal
+abbrev pub IfAnswered : Result (Option Value) Stop → Type 0 → Type 0
+IfAnswered (Ok value) P = P
+IfAnswered (Err (stops.Refused refusal)) P = P
+IfAnswered (Err (stops.Fault fault)) P = Unit {0}
+
 -- the answer of a document that isn't read on, which stays
 abbrev pub settled : {X : Type 0} → Standing X → Option Fault → Option (Result (Option Value) Stop)
 settled place (Some fault) = Some (Err (stops.Fault fault))

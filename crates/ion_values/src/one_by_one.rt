@@ -1,16 +1,16 @@
 //! The values of a document, one by one.
-ghost use Rattle.std.specs.Prelude.{◌≡◌, ℕ, ◌+◌, ◌^◌, ◌<◌, ◌≤◌, List, [], ◌++◌, false, Ok, None, IfOk, IfErr, OnErr, IfSome, IsSome, option_to_list};
+ghost use Rattle.std.specs.Prelude.{◌≡◌, ℕ, ◌+◌, ◌^◌, ◌<◌, ◌≤◌, List, [], ◌++◌, false, Ok, None, IfOk, IfErr, OnOk, OnErr, IfSome, IsSome, option_to_list};
 ghost use Rattle.ion_model.specs.declared.value.Value.{Value};
 ghost use Rattle.ion_symtab.specs.declared.catalog.Catalog.{Catalog};
 ghost use Rattle.ion_symtab.specs.declared.limits.Limits.{Limits};
 ghost use Rattle.ion_symtab.specs.Cause.{IsReadCause};
 ghost use Rattle.ion_streams.specs.Formats.{format_of};
 ghost use Rattle.ion_streams.specs.Outcomes.{EndsWell, EndsRefused};
-ghost use Rattle.ion_streams.specs.reading.Read.{IsFresh, IsReady, IsWithin, GaveSoFar};
+ghost use Rattle.ion_streams.specs.reading.Read.{IsFresh, IsReady, IsWithin, NoReadFailed, GaveSoFar};
 ghost use Rattle.ion_streams.specs.reading.Reached.{IsSpent};
 ghost use Rattle.ion_streams.specs.reading.Standing.{IfOpen, IfClosed, MatchClosed, work_of, reads_of, Stood};
 ghost use Rattle.ion_values.specs.Readable.{CanGoOn};
-ghost use Rattle.ion_values.specs.Given.{HasGiven, IsNext, WentOn, settled, given_by, answer_of};
+ghost use Rattle.ion_values.specs.Given.{HasGiven, IsNext, WentOn, settled, given_by, answer_of, IfAnswered};
 
 use crate::each::Each;
 use crate::stop::Stop;
@@ -100,6 +100,8 @@ impl<'r, I: Items + Drop, R: Inlet> Values<'r, I, R> {
         ensures no_more { work_of I.Items self.new.place ≤ work_of I.Items self.old.place }
         ensures few_calls { R.calls_made self.new.reader.now + reads_of self.new.place
             ≤ R.calls_made self.old.reader.now + reads_of self.old.place }
+        ensures no_read_failed { IfAnswered result
+            (NoReadFailed R.Inlet self.old.reader.now self.new.reader.now) }
     {
         if let Some(fault) = self.fault {
             return Err(Stop::Fault(fault));
@@ -151,6 +153,7 @@ fn go_on<I: Items + Drop, R: Inlet>(
         IfOpen place.new (IsWithin R.Inlet reads first reader.new)) }
     ensures few_calls { R.calls_made reader.new + reads_of place.new
         ≤ R.calls_made reader.old + reads_of place.old }
+    ensures no_read_failed { OnOk result (NoReadFailed R.Inlet reader.old reader.new) }
     ensures cause { IfErr result (λ fault. (first : R) (reads : ℕ) →
         IfOpen place.old (IsWithin R.Inlet reads first reader.old) →
         IsReadCause R.Inlet reads first reader.new fault) }

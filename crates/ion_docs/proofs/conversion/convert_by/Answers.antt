@@ -3,9 +3,10 @@ use Rattle.ion_symtab.specs.Took.{Took}
 use Rattle.ion_symtab.specs.laws.Took.{Took-nil}
 use Rattle.std.proofs.lemmas.Result.{err_from_is_err_and, on_err_weaker}
 use Rattle.ion_model.specs.laws.Kept.{kept_both}
-use Rattle.ion_streams.specs.reading.Read.{left_of, IsWithin, work}
+use Rattle.ion_streams.specs.reading.Read.{left_of, NoneFailed, IsWithin, work}
 use Rattle.ion_docs.specs.Converted.{ReadSoFar, in_reading, at_refusal, so_far}
 use Rattle.ion_streams.proofs.Pieces.{between_nil}
+use Rattle.ion_streams.proofs.Unfailed.{was_asked, asks_begun, past_asked, on_ok}
 use Rattle.ion_streams.proofs.Steps.{reads_begun, ready_begun, within_begun, gave_so_far, refused_plain, reads_next, stood_last, length_more, on_err}
 use Rattle.ion_docs.proofs.Conversions.{took_whole, took_some, front_of_front, took_front, put_cause, was_read, converted_at, kept_at, ok_both, ok_three}
 use Rattle.ion_streams.proofs.Passes.{err_by}
@@ -22,6 +23,7 @@ loop-fault-init g c =
       ready = ready_begun g.I.Items source c.args.items (g.met.I.Items.counted c.args.items [] [] fresh.stood) fresh.awaited new.items new.nothing new.piece (omega (arith, new.reads));
       asked = omega (arith, new.reads);
       handed = omega (arith, new.reads);
+      heard = record { either = inr (asks_begun g.I.Items source c.args.items (g.met.I.Items.not_failed c.args.items [] [] fresh.stood) fresh.owes new.items new.nothing) };
       bound = omega (arith, new.reads, new.nothing.0, new.nothing.1);
       within = within_begun g.R.Inlet c.args.reader.now source c.args.reads new.reads;
       reads = (
@@ -86,6 +88,7 @@ loop-fault-preserved g c =
       ready = rw c.in-Value.is at next.ready;
       asked = omega (arith, asked, kept_reads, next.few_calls);
       handed = omega (arith, handed, kept_reads, next.few_octets);
+      heard = record { either = inl (next.no_read_failed (subst (λ x. NoneFailed g.R.Inlet g.I.Items c.loop-fault.reader x) (sym (c.in-None.ensures.stays refl).0) i.heard)) };
       bound = omega (arith, bound, same, less, put.count);
       within = (rw c.in-Value.is at next.within) c.args.reader.now c.args.reads (subst (λ x. IsWithin g.R.Inlet c.args.reads c.args.reader.now c.loop-fault.reader x) (sym (c.in-None.ensures.stays refl).0) i.within);
       reads = (
@@ -226,6 +229,7 @@ loop-fault-preserved-in-Some-Ok g c =
       ready = past.ready;
       asked = omega (arith, i.asked, past.reads);
       handed = omega (arith, i.handed, past.reads);
+      heard = record { either = inl (was_asked g.R.Inlet g.I.Items c.loop-fault.reader c.loop-fault.source (past_asked g.I.Items c.loop-fault.source c.carry.new.source found.0 past) i.heard) };
       bound = omega (arith, i.bound, past.less);
       within = within_past g.R.Inlet g.I.Items c.args.reads c.args.reader.now c.loop-fault.reader c.loop-fault.source c.carry.new.source found.0 past i.within;
       reads = (
@@ -237,3 +241,12 @@ loop-fault-preserved-in-Some-Ok g c =
         kept_both r.0 (found.0 ∷ []) r.5 (put.kept, tt),
       );
     }
+
+pub returns-in-Refused-clause-no_read_failed : goal.returns-in-Refused-clause-no_read_failed
+returns-in-Refused-clause-no_read_failed g c =
+    c.in_ok-value.ensures.no_read_failed (subst (λ x. NoneFailed g.R.Inlet g.I.Items c.loop-fault.reader x) (sym (c.in-None.ensures.stays refl).0) c.loop-fault.invariant.heard)
+
+pub returns-in-End-clause-no_read_failed : goal.returns-in-End-clause-no_read_failed
+returns-in-End-clause-no_read_failed g c =
+    on_ok c.convert_last-converted.result _
+    (c.in_ok-value.ensures.no_read_failed (subst (λ x. NoneFailed g.R.Inlet g.I.Items c.loop-fault.reader x) (sym (c.in-None.ensures.stays refl).0) c.loop-fault.invariant.heard))
