@@ -5,7 +5,7 @@ use ion_model::{
     Part, Path, Payload, Refusal, Symbol, Value, equivalent, normalise, order, parting, same_slow,
 };
 use ion_symtab::{Catalog, Limits, ToWrite};
-use ion_text::{TextWriter, symbol_text};
+use ion_text::{TextWriter, spelling_of, symbol_text};
 use std::alloc::{AllocError, Global};
 use std::cmp::Ordering;
 use std::test::Fail;
@@ -63,6 +63,7 @@ pub fn try_row(alloc: Global, row: Row<'_>, octets: &[u8], told: &mut String) ->
 fn try_value(alloc: Global, row: Row<'_>, value: &Value, told: &mut String) -> Result<(), Fail> {
     match row.field(0) {
         "measure" => measures(row, value, told),
+        "print" => prints(row, value, told),
         "table" => are_tables(row, value),
         _ => {
             let other = last(values_in(alloc, row, 2)?)?;
@@ -96,6 +97,18 @@ fn try_pair(
 fn measures(row: Row<'_>, value: &Value, told: &mut String) -> Result<(), Fail> {
     let kind = value.kind().name();
     write!(told, "{kind} {} {}", value.depth(), value.nodes())?;
+    row.wants(2, told.as_str())
+}
+
+/// `print` | an int, decimal, timestamp or symbol | what is printed of it.
+fn prints(row: Row<'_>, value: &Value, told: &mut String) -> Result<(), Fail> {
+    match &value.payload {
+        Payload::Int(int) => write!(told, "{int}")?,
+        Payload::Decimal(decimal) => write!(told, "{decimal}")?,
+        Payload::Timestamp(timestamp) => write!(told, "{timestamp}")?,
+        Payload::Symbol(symbol) => write!(told, "{}", spelling_of(symbol))?,
+        _ => {}
+    }
     row.wants(2, told.as_str())
 }
 

@@ -2,8 +2,8 @@
 //! by a call of `drop`: that is one step of a proof, where the end of a block is one for each of its parts.
 use crate::answers::{holds, same};
 use ion_model::{
-    Decimal, Field, Kind, Local, Path, Payload, Precision, Reason, Sequence, Symbol, Timestamp,
-    Value,
+    Bytes, Decimal, Field, Kind, Local, Path, Payload, Precision, Reason, Sequence, Symbol, Text,
+    Timestamp, Value, Whole,
 };
 use std::alloc::{AllocError, Global};
 use std::collections::{BTreeSet, HashSet};
@@ -146,5 +146,76 @@ fn values_as_keys(rt: HostRuntime) -> Result<(), Fail> {
     };
     drop(powers);
     holds(&rt, "structs", found?);
+    Ok(())
+}
+
+/// The text as `Text`, and its octets as `Bytes`.
+fn kept(alloc: Global, text: &str) -> Result<(Text, Bytes), AllocError> {
+    let bytes = text.as_bytes().to_vec(alloc)?;
+    let text = String::from_str(alloc, text)?;
+    Ok((Text::from_string(text), Bytes::from_vec(bytes)))
+}
+
+/// Whether texts, and their octets, are keys: one, an equal one and another.
+fn texts_find(alloc: Global, texts: [&str; 3]) -> Result<(bool, bool), AllocError> {
+    let one = kept(alloc, texts[0])?;
+    let equal = kept(alloc, texts[1])?;
+    let other = kept(alloc, texts[2])?;
+    let found = (
+        finds(alloc, &one.0, &equal.0, &other.0),
+        finds(alloc, &one.1, &equal.1, &other.1),
+    );
+    drop(other);
+    drop(equal);
+    drop(one);
+    Ok((found.0?, found.1?))
+}
+
+#[test]
+fn atoms_as_keys(rt: HostRuntime) -> Result<(), Fail> {
+    let alloc = rt.alloc();
+    let (one, other) = (Whole::new(-1), Whole::new(1));
+    holds(&rt, "ints", finds(alloc, &one, &one, &other)?);
+    let kinds = finds(alloc, &Kind::Int, &Kind::Int, &Kind::Null)?;
+    holds(&rt, "kinds", kinds);
+    let reasons = finds(alloc, &Reason::Float, &Reason::Float, &Reason::Depth)?;
+    holds(&rt, "reasons", reasons);
+    same(
+        &rt,
+        "texts",
+        texts_find(alloc, ["a", "a", "b"])?,
+        (true, true),
+    );
+    let order = (
+        other > one,
+        Kind::Int < Kind::Decimal,
+        Reason::Memory < Reason::Depth,
+    );
+    same(&rt, "order", order, (true, true, true));
+    Ok(())
+}
+
+/// How many fields a struct has, and whether the first, and the payload, are those of another.
+fn shared(value: &Value, other: &Value) -> Option<(usize, bool, bool)> {
+    match (&value.payload, &other.payload) {
+        (Payload::Fields(fields), Payload::Fields(others)) => {
+            let first = fields.get(0)? == others.get(0)?;
+            let all = fields == others && value.payload == other.payload;
+            Some((fields.len(), first, all && fields.get(1).is_none()))
+        }
+        _ => None,
+    }
+}
+
+#[test]
+fn parts_are_compared(rt: HostRuntime) -> Result<(), Fail> {
+    let powers = powers(rt.alloc(), [2, 2, 3])?;
+    let found = match powers.as_slice() {
+        [one, equal, other] => (shared(one, equal), shared(one, other)),
+        _ => (None, None),
+    };
+    drop(powers);
+    let wanted = (Some((1, true, true)), Some((1, false, false)));
+    same(&rt, "structs", found, wanted);
     Ok(())
 }
