@@ -11,7 +11,7 @@ import sys
 TOP = pathlib.Path(__file__).resolve().parent.parent
 PAGE = TOP / "docs" / "API.md"
 CRATES = (
-    "ion_docs ion_values ion_lines ion_memory ion_model ion_atoms ion_symtab ion_text ion_binary ion_streams ion_scalar ion_tokens"
+    "ion ion_docs ion_values ion_lines ion_memory ion_model ion_atoms ion_symtab ion_text ion_binary ion_streams ion_scalar ion_tokens"
 ).split()
 HEAD = """# Calls
 
@@ -88,11 +88,14 @@ def page():
         root = (source / "lib.rt").read_text(encoding="utf-8").splitlines()
         about = " ".join(line[3:].strip() for line in root if line.startswith("//!"))
         parts.append(f"## `{crate}`\n\n{about}\n")
+        count = len(parts)
         for path in sorted(source.rglob("*.rt")):
             place = path.relative_to(source)
             found = list(entries(path, names, place.parts[0].removesuffix(".rt") in laws))
             if found:
                 parts.append(f"`src/{place}`\n\n" + "\n".join(found) + "\n")
+        if len(parts) == count:  # it only passes names on
+            parts.append("It gives " + ", ".join(f"`{name}`" for name in sorted(names)) + ".\n")
     return "\n".join(parts)
 
 

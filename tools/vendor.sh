@@ -1,13 +1,13 @@
 #!/bin/sh
 # vendor.sh DEST [CRATE..]: copies library crates and all that they stand on into DEST/crates, without tests, wrong bodies
-# and what was built, and prints their lines for DEST/crates.txt. Without a CRATE it copies ion_values and ion_lines,
-# and so ion_docs too. A crate that is there already is left alone, with status 1.
+# and what was built, and prints their lines for DEST/crates.txt. Without a CRATE it copies ion, and so
+# all that it gives. A crate that is there already is left alone, with status 1.
 set -eu
 top=$(cd "$(dirname "$0")/.." && pwd)
 [ $# -ge 1 ] || { echo 'usage: vendor.sh DEST [CRATE..]' >&2; exit 3; }
 dest=$1
 shift
-[ $# -ge 1 ] || set -- ion_values ion_lines
+[ $# -ge 1 ] || set -- ion
 
 # below CRATE..: these crates and those of this repository that they stand on, the lowest first.
 below() {

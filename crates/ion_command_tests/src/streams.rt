@@ -277,6 +277,37 @@ fn parted(alloc: Global, catalog: &Catalog) -> Result<(u64, bool), Fault> {
     place
 }
 
+/// Whether the two documents are equivalent, and how many values each has.
+fn agree(alloc: Global, catalog: &Catalog, other: &[u8], values: u64) -> Result<bool, Fault> {
+    let mut left = FromRead::new(&b"[1,2] a"[..]);
+    let mut right = FromRead::new(other);
+    let verdict = compare(alloc, &mut left, &mut right, catalog, Limits::usual());
+    drop(right);
+    drop(left);
+    let verdict = verdict?;
+    let agree = verdict == Verdict::Equivalent { values };
+    drop(verdict);
+    Ok(agree)
+}
+
+#[test]
+fn verdicts_are_compared(rt: HostRuntime) {
+    let catalog = Catalog::new(rt.alloc());
+    let found = [
+        agree(rt.alloc(), &catalog, b"[ 1, 2 ] 'a'", 2),
+        agree(rt.alloc(), &catalog, b"[1,2] a", 1),
+        agree(rt.alloc(), &catalog, b"[1,3] a", 2),
+        agree(rt.alloc(), &catalog, b"[1,2] ]", 2),
+    ];
+    drop(catalog);
+    same(
+        &rt,
+        "verdicts",
+        found,
+        [Ok(true), Ok(false), Ok(false), Ok(false)],
+    );
+}
+
 /// Where a growth is refused, each load gives its own answer or want of memory.
 fn loads_at_last(rt: &impl Abort, alloc: Global, rows: &[(&[u8], Tables)]) {
     for (octets, wanted) in rows {

@@ -1,9 +1,5 @@
 //! A document that is built, and written in either encoding.
-use ion_binary::BinaryWriter;
-use ion_docs::Target;
-use ion_model::{Reason, Value};
-use ion_symtab::{Fault, ToWrite};
-use ion_text::{TextWriter, text_of};
+use ion::{BinaryWriter, Fault, Reason, Target, TextWriter, ToWrite, Value, text_of};
 use std::alloc::Global;
 
 /// A document of one struct.

@@ -1,7 +1,5 @@
 //! Whether two documents carry the same data, and else where they part.
-use ion_docs::{Side, Verdict, compare, path_text};
-use ion_lines::position_of;
-use ion_symtab::{Catalog, Fault, FromRead, Limits};
+use ion::{Catalog, Fault, FromRead, Limits, Side, Verdict, compare, position_of, spelling_of_path};
 use std::alloc::Global;
 
 /// Says in a line what `compare` answers of two documents.
@@ -13,7 +11,7 @@ pub(crate) fn told(alloc: Global, left: &[u8], right: &[u8]) -> Result<String, F
     let line = match compare(alloc, &mut first, &mut second, &catalog, limits)? {
         Verdict::Equivalent { values } => format!(in alloc; "{values} values, the same data")?,
         Verdict::Different { index, path } => {
-            let path = path_text(alloc, &path).map_err(|_| Fault::Memory)?;
+            let path = spelling_of_path(&path);
             format!(in alloc; "value {index} differs at {path}")?
         }
         Verdict::Refused { side, refusal } => {

@@ -7,7 +7,7 @@ mod catalogs;
 mod comparing;
 mod summing;
 
-use ion_docs::Target;
+use ion::Target;
 use std::io;
 
 const LEFT: &[u8] = b"{name: \"a\", tags: [1, 2]}";
@@ -48,7 +48,7 @@ fn main(rt: HostRuntime) -> io::Result<()> {
     }
     match catalogs::counted(alloc, TABLES, USES) {
         Ok(count) => println!(rt; "{count} values under the catalog")?,
-        Err(stop) => println!(rt; "{stop}")?,
+        Err(error) => println!(rt; "{error}")?,
     }
     Ok(())
 }

@@ -1,7 +1,5 @@
 //! The values of a stream, one by one.
-use ion_model::Value;
-use ion_symtab::{Catalog, FromRead, Limits};
-use ion_values::{Stop, values};
+use ion::{Catalog, FromRead, Limits, Stop, Value, values};
 use std::alloc::Global;
 
 /// The sum of the ints in a field of the values of a document.

@@ -1,0 +1,19 @@
+//! Amazon Ion 1.0 under one name: `use ion::{..}` gives values, documents read whole or one value after the other, what they
+//! are converted to, where two of them part, and lines and columns. Each name stands in one of the crates below, which
+//! `docs/API.md` shows.
+
+pub use ion_binary::BinaryWriter;
+pub use ion_docs::{
+    DocReader, PathText, Side, Target, Verdict, check, compare, convert, convert_with_hasher,
+    in_memory, load_catalog, path_text, read_all, read_document, show, spelling_of_path,
+};
+pub use ion_lines::{Position, position_of};
+pub use ion_model::{
+    Bytes, Decimal, Field, Kind, Local, Outline, Part, Path, Payload, Precision, Reason, Refusal,
+    Sequence, Symbol, Text, Timestamp, Value, Whole, equivalent, normalise, order, parting,
+};
+pub use ion_symtab::{
+    Catalog, Failed, Fault, FromRead, Inlet, Limits, Outlet, SharedTable, ToWrite,
+};
+pub use ion_text::{SymbolText, TextWriter, spelling_of, symbol_text, text_of};
+pub use ion_values::{Each, Stop, Values, values};
