@@ -172,6 +172,7 @@ impl Items for TextReader<'_> {
         result
     }
 
+    #[inline(never)]
     fn pass(&mut self, piece: &[u8]) -> Result<Passed, Refusal> {
         if let Some(refusal) = self.failure() {
             self.awaited = None;
