@@ -24,5 +24,6 @@ pub mod Notes
 pub mod Tops
 pub mod Elsewhere
 pub mod Alikes
+pub mod Visited
 pub mod Calls
 pub mod QuotedRuns

@@ -140,7 +140,7 @@ base_begun : (start begin : ℕ) (ss : Symbols) → base [] ss start begin ≡ b
 base_begun start begin [] = refl
 base_begun start begin (s ∷ ss) = refl
 
-begun_more : (start begin : ℕ) (ss : Symbols) (s : Option (List ℕ)) → begun_at start begin [] (ss ++ s ∷ []) ≡ start
+pub begun_more : (start begin : ℕ) (ss : Symbols) (s : Option (List ℕ)) → begun_at start begin [] (ss ++ s ∷ []) ≡ start
 begun_more start begin [] s = refl
 begun_more start begin (x ∷ ss) s = refl
 
@@ -289,29 +289,32 @@ module _ (octets : List ℕ) (token : FoundToken) (f : FoundNote octets token) (
   -- with a blank behind it, and what is noted
   pub walked_note : (before mid after : Tally) (n : ℕ) (behind : List ℕ) → behind ≡ drop (token.count + m + 2) octets → n ≤ length behind → IsPassed behind n
       → mid ≡ record { kind = before.kind; level = before.level; nodes = min (before.nodes + 1) most; rest = behind_note before.rest token m } → after ≡ record { kind = mid.kind; level = mid.level; nodes = mid.nodes; rest = past_blank mid.rest n }
-      → WalkedNote octets (token.count + m + 2 + n) before after
+      → (w : WalkedNote octets (token.count + m + 2 + n) before after) × (w.name ≡ f.name)
   walked_note before mid after n behind is few blank em ea =
       let size : length behind ≡ length octets - (token.count + m + 2) = ap (λ (w : List ℕ). length w) is ∙ length-drop (token.count + m + 2) octets in
       let counted = note_used before.rest in
       let last = blank_used (behind_note before.rest token m) n in
-      rw (ea, em) (record {
-        name = f.name;
-        leads = λ g l start c ss room.
-            let start' = begun_at start before.rest.used [] ss in
-            let same = begun_more start' (behind_note before.rest token m).used ss f.name in
-            passes_on g l (rested before.rest start c [] ss nows.Ready) (rested (behind_note before.rest token m) start' c [] (ss ++ f.name ∷ []) nows.Ready) (rested (past_blank (behind_note before.rest token m) n) start' c [] (ss ++ f.name ∷ []) nows.Ready) octets (token.count + m + 2) n
-            (note_leads g l start c ss before.rest room)
-            (subst (λ w. Passes g l (rested (behind_note before.rest token m) start' c [] (ss ++ f.name ∷ []) nows.Ready) w n (rested (past_blank (behind_note before.rest token m) n) start' c [] (ss ++ f.name ∷ []) nows.Ready)) is
-            (top_blank g l start' c (ss ++ f.name ∷ []) (behind_note before.rest token m) behind n few (omega arith) blank));
-        within = omega arith;
-        used = omega arith;
-        free = f.free;
-        left = refl;
-        counted = omega arith;
-      })
+      rw (ea, em) (
+        record {
+          name = f.name;
+          leads = λ g l start c ss room.
+              let start' = begun_at start before.rest.used [] ss in
+              let same = begun_more start' (behind_note before.rest token m).used ss f.name in
+              passes_on g l (rested before.rest start c [] ss nows.Ready) (rested (behind_note before.rest token m) start' c [] (ss ++ f.name ∷ []) nows.Ready) (rested (past_blank (behind_note before.rest token m) n) start' c [] (ss ++ f.name ∷ []) nows.Ready) octets (token.count + m + 2) n
+              (note_leads g l start c ss before.rest room)
+              (subst (λ w. Passes g l (rested (behind_note before.rest token m) start' c [] (ss ++ f.name ∷ []) nows.Ready) w n (rested (past_blank (behind_note before.rest token m) n) start' c [] (ss ++ f.name ∷ []) nows.Ready)) is
+              (top_blank g l start' c (ss ++ f.name ∷ []) (behind_note before.rest token m) behind n few (omega arith) blank));
+          within = omega arith;
+          used = omega arith;
+          free = f.free;
+          left = refl;
+          counted = omega arith;
+        },
+        refl,
+      )
 
 -- none
-pub notes_none : (octets : List ℕ) (before : Tally) → WalkedNotes octets 0 before before
+unfoldable pub notes_none : (octets : List ℕ) (before : Tally) → WalkedNotes octets 0 before before
 notes_none octets before = record {
   notes = [];
   leads = λ g l start c few. (start, refl, passes_none g l (rested before.rest start c [] [] nows.Ready) octets);
@@ -323,7 +326,7 @@ notes_none octets before = record {
 }
 
 -- one more
-pub notes_on : (octets rest : List ℕ) (a b : ℕ) (before mid after : Tally) → rest ≡ drop a octets → WalkedNotes octets a before mid → WalkedNote rest b mid after → WalkedNotes octets (a + b) before after
+unfoldable pub notes_on : (octets rest : List ℕ) (a b : ℕ) (before mid after : Tally) → rest ≡ drop a octets → WalkedNotes octets a before mid → WalkedNote rest b mid after → WalkedNotes octets (a + b) before after
 notes_on octets rest a b before mid after is w x =
     let size : length rest ≡ length octets - a = ap (λ (w : List ℕ). length w) is ∙ length-drop a octets in
     let within = w.within in
@@ -358,7 +361,7 @@ notes_on octets rest a b before mid after is w x =
 
 -- values behind them
 
-pub walked_bare : (level : ℕ) (octets : List ℕ) (count : ℕ) (before after : Tally) (m : Mark) → WalkedContainer places.Top m level octets count before after → 1 < length octets → Opens octets m → before.level ≤ level → WalkedBare level octets count before after
+unfoldable pub walked_bare : (level : ℕ) (octets : List ℕ) (count : ℕ) (before after : Tally) (m : Mark) → WalkedContainer places.Top m level octets count before after → 1 < length octets → Opens octets m → before.level ≤ level → WalkedBare level octets count before after
 walked_bare level octets count before after m w more opens low =
     let inside = w.inside.within in
     let total = w.total in
@@ -380,31 +383,30 @@ walked_bare level octets count before after m w more opens low =
       noted = container_noted places.Top m level octets count before after w more opens low;
     }
 
-pub walked_bares : (level : ℕ) (octets : List ℕ) (before after : Tally) (m : Mark) (r : Option ℕ) → IfSome r (λ n. WalkedContainer places.Top m level octets n before after) → 1 < length octets → Opens octets m → before.level ≤ level → IfSome r (λ n. WalkedBare level octets n before after)
-walked_bares level octets before after m None w more opens low = w
-walked_bares level octets before after m (Some n) w more opens low = walked_bare level octets n before after m w more opens low
-
 pub bare_scalar : (level : ℕ) (octets : List ℕ) (s : Scalar) (before after : Tally) (f : FoundScalar places.Top before.rest octets s) → s.waits ≡ false → s.token.left ≡ false → before.level ≤ level
-    → after ≡ record { kind = s.kind; level = before.level; nodes = min (before.nodes + 1) most; rest = past_token places.Top before.rest s.token.kind s.token.count } → WalkedBare level octets s.token.count before after
+    → after ≡ record { kind = s.kind; level = before.level; nodes = min (before.nodes + 1) most; rest = past_token places.Top before.rest s.token.kind s.token.count } → (w : WalkedBare level octets s.token.count before after) × (w.payload ≡ f.payload)
 bare_scalar level octets s before after f ends given low e =
     let found = f.found in
     let some = found.some in
     let sort = f.flat.sort in
     let none = f.flat.deep in
     let one = f.flat.counted in
-    rw e (record {
-      payload = f.payload;
-      gives = λ g l start c ss deep room free. scalar_gives g l start c ss before.rest octets s f ends given room free;
-      some = some;
-      within = found_within places.Top before.rest octets s.token.kind f.kept s.token.count s.token.left f.found;
-      used = refl;
-      deep = omega arith;
-      few = omega arith;
-      noted = record { kind = sym sort; left = omega arith; counted = omega arith };
-    })
+    rw e (
+      record {
+        payload = f.payload;
+        gives = λ g l start c ss deep room free. scalar_gives g l start c ss before.rest octets s f ends given room free;
+        some = some;
+        within = found_within places.Top before.rest octets s.token.kind f.kept s.token.count s.token.left f.found;
+        used = refl;
+        deep = omega arith;
+        few = omega arith;
+        noted = record { kind = sym sort; left = omega arith; counted = omega arith };
+      },
+      refl,
+    )
 
 -- both
-pub walked_top : (level : ℕ) (octets rest : List ℕ) (a b : ℕ) (before mid after : Tally) → rest ≡ drop a octets → WalkedNotes octets a before mid → WalkedBare level rest b mid after → WalkedTop level octets (a + b) before after
+unfoldable pub walked_top : (level : ℕ) (octets rest : List ℕ) (a b : ℕ) (before mid after : Tally) → rest ≡ drop a octets → WalkedNotes octets a before mid → WalkedBare level rest b mid after → WalkedTop level octets (a + b) before after
 walked_top level octets rest a b before mid after is w x =
     let size : length rest ≡ length octets - a = ap (λ (w : List ℕ). length w) is ∙ length-drop a octets in
     let within = w.within in

@@ -95,21 +95,24 @@ module _ (p : Place) (level : ℕ) (rest : Rest) (octets : List ℕ) (s : Scalar
 
   -- with what is noted
   pub walked_scalar : (before after : Tally) (m : ℕ) → before.level ≤ level → before.rest ≡ rest → count + m ≤ length octets → LeadsBehind p level rest octets (count + m) (past_blank (past_token p rest s.token.kind count) m) f.payload
-      → after ≡ record { kind = s.kind; level = before.level; nodes = min (before.nodes + 1) most; rest = past_blank (past_token p rest s.token.kind count) m } → Walked p level octets (count + m) before after
+      → after ≡ record { kind = s.kind; level = before.level; nodes = min (before.nodes + 1) most; rest = past_blank (past_token p rest s.token.kind count) m } → (w : Walked p level octets (count + m) before after) × (w.payload ≡ f.payload)
   walked_scalar before after m low same within leads e =
       let flat = f.flat in
       let deep = flat.deep in
       let one = flat.counted in
       let total : (past_blank (past_token p rest s.token.kind count) m).used ≡ rest.used + count + m = blank_used (past_token p rest s.token.kind count) m in
       let begun : before.rest.used ≡ rest.used = ap (λ (r : Rest). r.used) same in
-      rw e (record {
-        payload = f.payload;
-        leads = subst (λ r. LeadsBehind p level r octets (count + m) (past_blank (past_token p rest s.token.kind count) m) f.payload) (sym same) leads;
-        within = within;
-        used = omega arith;
-        deep = omega arith;
-        noted = record { kind = sym flat.sort; left = omega arith; counted = omega arith };
-      })
+      rw e (
+        record {
+          payload = f.payload;
+          leads = subst (λ r. LeadsBehind p level r octets (count + m) (past_blank (past_token p rest s.token.kind count) m) f.payload) (sym same) leads;
+          within = within;
+          used = omega arith;
+          deep = omega arith;
+          noted = record { kind = sym flat.sort; left = omega arith; counted = omega arith };
+        },
+        refl,
+      )
 
 -- one behind the other, in a container
 pub leads_on : (level : ℕ) (a b d : Rest) (octets : List ℕ) (i j : ℕ) (f h k : Symbols → Frame) (m n o : Now) → i ≤ length octets → b.used ≡ a.used + i
@@ -139,25 +142,28 @@ module _ (rest : Rest) (octets : List ℕ) (token : FoundToken) (f : FoundName r
   -- with a blank behind it, and what is noted
   pub walked_name : (before mid after : Tally) (n : ℕ) (behind : List ℕ) → before.rest ≡ rest → behind ≡ drop (token.count + m + 1) octets → n ≤ length behind → IsPassed behind n
       → mid ≡ record { kind = before.kind; level = before.level; nodes = min (before.nodes + 1) most; rest = (behind_key rest token m) } → after ≡ record { kind = mid.kind; level = mid.level; nodes = mid.nodes; rest = past_blank mid.rest n }
-      → WalkedName octets (token.count + m + 1 + n) before after
+      → (w : WalkedName octets (token.count + m + 1 + n) before after) × (w.name ≡ f.name)
   walked_name before mid after n behind same is few blank em ea =
       let size : length behind ≡ length octets - (token.count + m + 1) = ap (λ (w : List ℕ). length w) is ∙ length-drop (token.count + m + 1) octets in
       let begun : before.rest.used ≡ rest.used = ap (λ (r : Rest). r.used) same in
       let counted = key_used in
       let last = blank_used (behind_key rest token m) n in
-      rw (ea, em) (record {
-        name = f.name;
-        leads = λ level ms.
-            subst (λ r. Leads level r octets (token.count + m + 1 + n) (past_blank (behind_key rest token m) n) (λ ss. frames.Fields ss ms) nows.Name (λ ss. frames.Named ss ms f.name) nows.Ready) (sym same)
-            (leads_on level rest (behind_key rest token m) (past_blank (behind_key rest token m) n) octets (token.count + m + 1) n (λ ss. frames.Fields ss ms) (λ ss. frames.Named ss ms f.name) (λ ss. frames.Named ss ms f.name) nows.Name nows.Ready nows.Ready (omega arith) counted
-            (key_leads level ms)
-            (subst (λ w. Leads level (behind_key rest token m) w n (past_blank (behind_key rest token m) n) (λ ss. frames.Named ss ms f.name) nows.Ready (λ ss. frames.Named ss ms f.name) nows.Ready) is
-            (blank_leads level (behind_key rest token m) behind n (λ ss. frames.Named ss ms f.name) nows.Ready blank few tt)));
-        within = omega arith;
-        used = omega arith;
-        left = refl;
-        counted = omega arith;
-      })
+      rw (ea, em) (
+        record {
+          name = f.name;
+          leads = λ level ms.
+              subst (λ r. Leads level r octets (token.count + m + 1 + n) (past_blank (behind_key rest token m) n) (λ ss. frames.Fields ss ms) nows.Name (λ ss. frames.Named ss ms f.name) nows.Ready) (sym same)
+              (leads_on level rest (behind_key rest token m) (past_blank (behind_key rest token m) n) octets (token.count + m + 1) n (λ ss. frames.Fields ss ms) (λ ss. frames.Named ss ms f.name) (λ ss. frames.Named ss ms f.name) nows.Name nows.Ready nows.Ready (omega arith) counted
+              (key_leads level ms)
+              (subst (λ w. Leads level (behind_key rest token m) w n (past_blank (behind_key rest token m) n) (λ ss. frames.Named ss ms f.name) nows.Ready (λ ss. frames.Named ss ms f.name) nows.Ready) is
+              (blank_leads level (behind_key rest token m) behind n (λ ss. frames.Named ss ms f.name) nows.Ready blank few tt)));
+          within = omega arith;
+          used = omega arith;
+          left = refl;
+          counted = omega arith;
+        },
+        refl,
+      )
 
 -- commas
 
@@ -230,10 +236,10 @@ module _ (p : Place) (m : Mark) (level : ℕ) (octets : List ℕ) (count : ℕ) 
   abbrev first : Rest
   first = past_token p before.rest (kinds.Mark m) 1
 
-  first_is : w.first.rest ≡ first
+  pub first_is : w.first.rest ≡ first
   first_is = ap (λ (t : Tally). t.rest) w.opens
 
-  size : length (drop 1 octets) ≡ length octets - 1
+  pub size : length (drop 1 octets) ≡ length octets - 1
   size = length-drop 1 octets
 
   pub up_to_close : (g : Catalog) (l : Limits) (start : ℕ) (c : List Slot) (ss : Symbols) (fs : List Frame) → length fs + level ≤ l.depth → before.rest.used + length octets ≤ l.item + start
@@ -294,7 +300,7 @@ module _ (p : Place) (m : Mark) (level : ℕ) (octets : List ℕ) (count : ℕ) 
       let last_nodes : after.nodes ≡ min (w.last.nodes + 1) most = ap (λ (t : Tally). t.nodes) w.shuts in
       record { kind = ap (λ (t : Tally). t.kind) w.shuts ∙ sym x.kind; left = omega arith; counted = omega arith }
 
-  pub walked_container : is_name p ≡ false → before.level ≤ level → Walked p level octets count before after
+  unfoldable pub walked_container : is_name p ≡ false → before.level ≤ level → Walked p level octets count before after
   walked_container value low =
       let x = w.inside in
       let some = w.some in
@@ -313,11 +319,6 @@ module _ (p : Place) (m : Mark) (level : ℕ) (octets : List ℕ) (count : ℕ) 
         deep = omega arith;
         noted = container_noted low;
       }
-
-pub walked_containers : (p : Place) (m : Mark) (level : ℕ) (octets : List ℕ) (before after : Tally) (r : Option ℕ) → IfSome r (λ n. WalkedContainer p m level octets n before after) → 1 < length octets → Opens octets m → is_name p ≡ false → before.level ≤ level
-    → IfSome r (λ n. Walked p level octets n before after)
-walked_containers p m level octets before after None w more opens value low = w
-walked_containers p m level octets before after (Some n) w more opens value low = walked_container p m level octets n before after w more opens value low
 
 -- So many octets behind the open of a container were gone over: it stands so now, and what is in it is so deep and of so many nodes.
 pub record Gone (m : Mark) (level : ℕ) (octets : List ℕ) (at : ℕ) (before now : Tally) (h : Symbols → Frame) (n : Now) (deepest many : ℕ) : Type 0 where
@@ -393,11 +394,11 @@ pub field_still : (b : Bool) → IsStill (field_now b)
 field_still true = tt
 field_still false = tt
 
-element_closes : (b : Bool) (ss : Symbols) (vs : List Value) (fs : List Frame) → closes marks.ListClose (frames.List ss vs ∷ fs) (element_now b) ≡ true
+pub element_closes : (b : Bool) (ss : Symbols) (vs : List Value) (fs : List Frame) → closes marks.ListClose (frames.List ss vs ∷ fs) (element_now b) ≡ true
 element_closes true ss vs fs = refl
 element_closes false ss vs fs = refl
 
-field_closes : (b : Bool) (ss : Symbols) (ms : List Field) (fs : List Frame) → closes marks.FieldsClose (frames.Fields ss ms ∷ fs) (field_now b) ≡ true
+pub field_closes : (b : Bool) (ss : Symbols) (ms : List Field) (fs : List Frame) → closes marks.FieldsClose (frames.Fields ss ms ∷ fs) (field_now b) ≡ true
 field_closes true ss ms fs = refl
 field_closes false ss ms fs = refl
 
@@ -468,13 +469,13 @@ module _ (level : ℕ) (octets rest : List ℕ) (at : ℕ) (before now next : Ta
 
 -- up to the close
 module _ (level : ℕ) (octets rest : List ℕ) (at : ℕ) (before now : Tally) (is : rest ≡ drop at octets) (some : 0 < length rest) where
-  closer : (n : ℕ) → get_or rest 0 0 ≡ n → get_or octets at 0 ≡ n
+  pub closer : (n : ℕ) → get_or rest 0 0 ≡ n → get_or octets at 0 ≡ n
   closer n e = sym (at_drop at octets) ∙ (ap (λ w. get_or w 0 0) (sym is) ∙ e)
 
-  inside : at < length octets
+  pub inside : at < length octets
   inside = let size : length rest ≡ length octets - at = ap (λ (w : List ℕ). length w) is ∙ length-drop at octets in omega arith
 
-  pub list_inside : (vs : List Value) (b : Bool) → ListGone level octets at before now vs b → get_or rest 0 0 ≡ 93 → WalkedInside marks.ListOpen level octets at before now
+  unfoldable pub list_inside : (vs : List Value) (b : Bool) → ListGone level octets at before now vs b → get_or rest 0 0 ≡ 93 → WalkedInside marks.ListOpen level octets at before now
   list_inside vs b x e =
       let deep = depth-list [] vs in
       let many = nodes-bare (payloads.List vs) _ (views.outs-List vs) in
@@ -498,7 +499,7 @@ module _ (level : ℕ) (octets rest : List ℕ) (at : ℕ) (before now : Tally) 
         counted = omega arith;
       }
 
-  pub sexp_inside : (vs : List Value) → SexpGone level octets at before now vs → get_or rest 0 0 ≡ 41 → WalkedInside marks.SexpOpen level octets at before now
+  unfoldable pub sexp_inside : (vs : List Value) → SexpGone level octets at before now vs → get_or rest 0 0 ≡ 41 → WalkedInside marks.SexpOpen level octets at before now
   sexp_inside vs x e =
       let deep = depth-sexp [] vs in
       let many = nodes-bare (payloads.Sexp vs) _ (views.outs-Sexp vs) in
@@ -522,7 +523,7 @@ module _ (level : ℕ) (octets rest : List ℕ) (at : ℕ) (before now : Tally) 
         counted = omega arith;
       }
 
-  pub fields_inside : (ms : List Field) (b : Bool) → FieldsGone level octets at before now ms b → get_or rest 0 0 ≡ 125 → WalkedInside marks.FieldsOpen level octets at before now
+  unfoldable pub fields_inside : (ms : List Field) (b : Bool) → FieldsGone level octets at before now ms b → get_or rest 0 0 ≡ 125 → WalkedInside marks.FieldsOpen level octets at before now
   fields_inside ms b x e =
       let deep = depth-struct [] ms in
       let many = nodes-bare (payloads.Fields ms) _ (views.outs-Fields ms) in

@@ -4,4 +4,5 @@ pub mod Output
 pub mod Calls
 pub mod Writing
 pub mod machine
+pub mod visiting
 pub mod laws

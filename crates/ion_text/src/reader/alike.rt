@@ -15,6 +15,7 @@ use super::TextReader;
 use super::passing::up_to;
 use super::tops::walk_top;
 use super::walks::Tally;
+use crate::visitor::Unheeding;
 use ion_symtab::Items;
 use ion_tokens::{Rest, TokenReader, blanks};
 use std::simd::prelude::*;
@@ -95,7 +96,7 @@ fn top_at(tokens: &mut TokenReader, octets: &[u8], rest: Rest, depth: u32) -> Op
         × IsTop depth octets.now top.count rest top.rest v) }
 {
     let mut tally = Tally::new(depth, rest);
-    let count = walk_top(tokens, octets, depth, &mut tally)?;
+    let count = walk_top(tokens, octets, depth, &mut tally, &mut Unheeding)?;
     Some(Top {
         count,
         rest: tally.rest,

@@ -8,11 +8,13 @@ ghost use Rattle.ion_tokens.specs.machine.Views.{scanned};
 ghost use Rattle.ion_text.specs.machine.Progress.{Advances, SameSettings, StaysSteady};
 ghost use Rattle.ion_text.specs.machine.Views.{state_of, with_beside, IsFine};
 ghost use Rattle.ion_text.specs.machine.Walked.{IsFresh};
+ghost use Rattle.ion_text.specs.visiting.Walks.{ItemAhead};
 
 use super::TextReader;
 use super::tops::walk_top;
 use super::walks::Tally;
 use crate::state::Now;
+use crate::visitor::Unheeding;
 use ion_model::Outline;
 use ion_tokens::{Rest, blanks};
 
@@ -42,6 +44,20 @@ impl TextReader<'_> {
         self.scanner.rest()
     }
 
+    /// What may be an item at the front of a piece: how many octets of a blank stand before it, its octets up to
+    /// the limit on items, and what is noted of it yet. `None` if an item is open or an octet is awaited.
+    #[inline(always)]
+    fn item_ahead<'p>(&self, piece: &'p [u8]) -> Option<(usize, &'p [u8], Tally)>
+        requires room { (scanned self.now.scanner).used + length piece.now < 2 ^ 63 }
+        ensures { IfSome result (λ ahead. ItemAhead self.now piece.now ahead.0 ahead.1.now ahead.2) }
+    {
+        let rest = self.fresh_rest()?;
+        let before = blanks(up_to(piece, self.limits.item));
+        let item = up_to(&piece[before..], self.limits.item);
+        let tally = Tally::new(self.limits.depth, rest.past_blank(before));
+        Some((before, item, tally))
+    }
+
     /// Takes up a blank and the item behind it at the front of a piece without building that: how many
     /// octets they have, and the outline of its value. `None`, with nothing taken up, where an item is
     /// open, or the value isn't whole, ends before the octet behind it, may be a local symbol table, may
@@ -59,12 +75,10 @@ impl TextReader<'_> {
         ensures steady { StaysSteady self.old self.new }
         ensures setting { SameSettings self.old self.new }
     {
-        let rest = self.fresh_rest()?;
-        let before = blanks(up_to(piece, self.limits.item));
-        let item = up_to(&piece[before..], self.limits.item);
+        let (before, item, begun) = self.item_ahead(piece)?;
+        let mut tally = begun;
         let depth = self.limits.depth;
-        let mut tally = Tally::new(depth, rest.past_blank(before));
-        let count = walk_top(&mut self.beside, item, depth, &mut tally)?;
+        let count = walk_top(&mut self.beside, item, depth, &mut tally, &mut Unheeding)?;
         self.scanner.move_to(tally.rest);
         self.start = 0;
         Some((before + count, tally.outline(depth)))

@@ -1,13 +1,16 @@
-//! Items of the top level that lie whole in a piece and that nobody asks for: their annotations, and a value
+//! Items of the top level that lie whole in a piece, which a visitor takes: their annotations, and a value
 //! that ends with its own last octet. A symbol, a number or a long string ends before the octet behind it,
 //! so that the reader takes it up token by token.
-ghost use Rattle.std.specs.Prelude.{◌≡◌, ◌+◌, ◌-◌, ◌≤◌, ◌<◌, ◌^◌, min, length, IfSome, IsNone};
+ghost use Rattle.std.specs.Prelude.{◌≡◌, ◌+◌, ◌-◌, ◌≤◌, ◌<◌, ◌^◌, min, length, Some, IfSome};
+ghost use Rattle.ion_visiting.specs.Visits.{annotation};
 ghost use Rattle.ion_text.specs.machine.Walked.{behind_note};
-ghost use Rattle.ion_text.specs.machine.Walked.{FoundNote, WalkedNote, WalkedNotes, WalkedBare, WalkedTop};
+ghost use Rattle.ion_text.specs.machine.Walked.{FoundNote, WalkedNote};
+ghost use Rattle.ion_text.specs.visiting.Walks.{NoteThere, Notes, Bare, Top};
 
 use super::nested::open_mark;
 use super::symbols::behind_annotation;
 use super::walks::{Tally, string_at, walk_blank, walk_container};
+use crate::visitor::Visitor;
 use crate::words::is_keyword;
 use ion_tokens::{FoundToken, Mark, Place, TokenKind, TokenReader, quoted_symbol, word};
 
@@ -32,43 +35,59 @@ impl Tally {
     }
 }
 
+/// An annotation at the front of octets, behind which `::` stands.
+#[derive(Clone, Copy)]
+pub(super) struct Note<'a> {
+    token: FoundToken,
+    text: &'a str,
+    /// How many octets of a blank stand before the `::`.
+    between: usize,
+}
+
 // The word there, if it is an annotation where `::` follows. One that begins with `$` may be a symbol's id,
 // or name local symbol tables.
-fn word_note(octets: &[u8]) -> Option<FoundToken>
-    ensures { IfSome result (λ token. FoundNote octets.now token) }
+fn word_note(octets: &[u8]) -> Option<(FoundToken, &str)>
+    ensures { IfSome result (λ found. (note : FoundNote octets.now found.0)
+        × (note.name ≡ Some found.1.now)) }
 {
     let count = word(octets)?;
     if count >= octets.len() || octets[0] == b'$' {
         return None;
     }
-    if is_keyword(unsafe { str::from_utf8_unchecked(&octets[..count]) }) {
+    let text = unsafe { str::from_utf8_unchecked(&octets[..count]) };
+    if is_keyword(text) {
         return None;
     }
-    Some(FoundToken {
+    let token = FoundToken {
         kind: TokenKind::Word,
         count,
         left: true,
-    })
+    };
+    Some((token, text))
 }
 
 // The quoted symbol there, which begins with no `$`.
-fn quoted_note(octets: &[u8]) -> Option<FoundToken>
-    ensures { IfSome result (λ token. FoundNote octets.now token) }
+fn quoted_note(octets: &[u8]) -> Option<(FoundToken, &str)>
+    ensures { IfSome result (λ found. (note : FoundNote octets.now found.0)
+        × (note.name ≡ Some found.1.now)) }
 {
     let count = quoted_symbol(octets)?;
-    if octets.len() < 2 || octets[1] == b'$' {
+    if count >= octets.len() || count < 2 || octets[1] == b'$' {
         return None;
     }
-    Some(FoundToken {
+    let content = &octets[1..][..count - 2];
+    let token = FoundToken {
         kind: TokenKind::QuotedSymbol,
         count,
         left: false,
-    })
+    };
+    Some((token, unsafe { str::from_utf8_unchecked(content) }))
 }
 
-// The symbol there that is an annotation if `::` follows.
-fn note_at(octets: &[u8]) -> Option<FoundToken>
-    ensures { IfSome result (λ token. FoundNote octets.now token) }
+// The symbol there, if it is an annotation where `::` follows.
+fn symbol_note(octets: &[u8]) -> Option<(FoundToken, &str)>
+    ensures { IfSome result (λ found. (note : FoundNote octets.now found.0)
+        × (note.name ≡ Some found.1.now)) }
 {
     match octets.first() {
         Some(b'\'') => quoted_note(octets),
@@ -76,77 +95,141 @@ fn note_at(octets: &[u8]) -> Option<FoundToken>
     }
 }
 
-// Goes over an annotation there, `::` and a blank.
-fn walk_note(octets: &[u8], tally: &mut Tally) -> Option<usize>
-    requires room { tally.old.rest.used + length octets.now < 2 ^ 63 }
-    ensures walked { IfSome result (λ count. WalkedNote octets.now count tally.old tally.new) }
-    ensures none { IsNone result → tally.new ≡ tally.old }
+// The annotation there.
+fn note_at(octets: &[u8]) -> Option<Note<'_>>
+    ensures { IfSome result (λ note. NoteThere octets.now note) }
 {
-    let token = note_at(octets)?;
+    let (token, text) = symbol_note(octets)?;
     let between = behind_annotation(octets, token.count)?;
-    let note = tally.pass_note(token, between);
-    let blank = walk_blank(&octets[note..], tally);
-    Some(note + blank)
+    Some(Note {
+        token,
+        text,
+        between,
+    })
+}
+
+// Goes over this annotation, `::` and a blank.
+#[inline(always)]
+fn walk_note<T: Visitor>(
+    octets: &[u8],
+    note: Note<'_>,
+    tally: &mut Tally,
+    visitor: &mut T,
+) -> Option<usize>
+    requires there { NoteThere octets.now note }
+    requires room { tally.old.rest.used + length octets.now < 2 ^ 63 }
+    ensures walked { IfSome result (λ count.
+        (walked : WalkedNote octets.now count tally.old tally.new)
+        × T.visits.takes visitor.old (annotation walked.name) visitor.new) }
+    ensures some { IfSome result (λ count. 0 < count) }
+{
+    if !visitor.annotation(note.text) {
+        return None;
+    }
+    let count = tally.pass_note(note.token, note.between);
+    let blank = walk_blank(&octets[count..], tally);
+    Some(count + blank)
 }
 
 // Goes over the annotations there: how many octets they have.
-fn walk_notes(octets: &[u8], tally: &mut Tally) -> usize
+fn walk_notes<T: Visitor>(octets: &[u8], tally: &mut Tally, visitor: &mut T) -> Option<usize>
     requires room { tally.old.rest.used + length octets.now < 2 ^ 63 }
-    ensures { WalkedNotes octets.now result tally.old tally.new }
+    ensures { IfSome result (λ count. Notes T.visits octets.now count
+        tally.old tally.new visitor.old visitor.new) }
 {
     let mut at = 0;
     for _ in 0..octets.len() {
-        let Some(count) = walk_note(&octets[at..], tally) else {
-            return at;
+        let Some(note) = note_at(&octets[at..]) else {
+            return Some(at);
         };
+        let count = walk_note(&octets[at..], note, tally, visitor)?;
         at += count;
     }
-    at
+    Some(at)
 }
 
 // Goes over the short string there.
-fn walk_string(octets: &[u8], level: u32, tally: &mut Tally) -> Option<usize>
+fn walk_string<T: Visitor>(
+    octets: &[u8],
+    level: u32,
+    tally: &mut Tally,
+    visitor: &mut T,
+) -> Option<usize>
     requires low { tally.old.level ≤ level }
     requires room { tally.old.rest.used + length octets.now < 2 ^ 63 }
-    ensures { IfSome result (λ count. WalkedBare level octets.now count tally.old tally.new) }
+    ensures { IfSome result (λ count. Bare T.visits level octets.now count
+        tally.old tally.new visitor.old visitor.new) }
 {
-    let scalar = string_at(octets)?;
+    let (scalar, said) = string_at(octets)?;
+    if !visitor.part(&said) {
+        return None;
+    }
     Some(tally.pass_scalar(Place::Top, scalar, 0))
 }
 
 // Goes over the value there, whose annotations stand before it.
-fn walk_bare(
+fn walk_bare<T: Visitor>(
     beside: &mut TokenReader,
     octets: &[u8],
     level: u32,
     tally: &mut Tally,
+    visitor: &mut T,
 ) -> Option<usize>
     requires low { tally.old.level ≤ level }
     requires room { tally.old.rest.used + length octets.now < 2 ^ 63 }
-    ensures { IfSome result (λ count. WalkedBare level octets.now count tally.old tally.new) }
+    ensures { IfSome result (λ count. Bare T.visits level octets.now count
+        tally.old tally.new visitor.old visitor.new) }
 {
     if octets.len() < 2 {
         return None;
     }
     match open_mark(octets) {
-        None => walk_string(octets, level, tally),
-        Some(mark) => walk_container(beside, Place::Top, mark, octets, level, tally),
+        None => walk_string(octets, level, tally, visitor),
+        Some(mark) => walk_container(beside, Place::Top, mark, octets, level, tally, visitor),
     }
 }
 
-/// Goes over the item of the top level at the front of octets, whose value has at most so many levels: how
-/// many octets it has.
-pub(super) fn walk_top(
+// Goes over the item there, which has annotations.
+fn walk_annotated<T: Visitor>(
     beside: &mut TokenReader,
     octets: &[u8],
     level: u32,
     tally: &mut Tally,
+    visitor: &mut T,
 ) -> Option<usize>
     requires low { tally.old.level ≤ level }
     requires room { tally.old.rest.used + length octets.now < 2 ^ 63 }
-    ensures { IfSome result (λ count. WalkedTop level octets.now count tally.old tally.new) }
+    ensures { IfSome result (λ count. Top T.visits level octets.now count
+        tally.old tally.new visitor.old visitor.new) }
 {
-    let notes = walk_notes(octets, tally);
-    let count = walk_bare(beside, &octets[notes..], level, tally)?;
+    let mark = visitor.open_wrapper()?;
+    let notes = walk_notes(octets, tally, visitor)?;
+    if notes == 0 || !visitor.end_annotations(&mark) {
+        return None;
+    }
+    let count = walk_bare(beside, &octets[notes..], level, tally, visitor)?;
+    if !visitor.close_wrapper(mark) {
+        return None;
+    }
     Some(notes + count)
+}
+
+/// Goes over the item of the top level at the front of octets, whose value has at most so many levels: how
+/// many octets it has.
+pub(super) fn walk_top<T: Visitor>(
+    beside: &mut TokenReader,
+    octets: &[u8],
+    level: u32,
+    tally: &mut Tally,
+    visitor: &mut T,
+) -> Option<usize>
+    requires low { tally.old.level ≤ level }
+    requires room { tally.old.rest.used + length octets.now < 2 ^ 63 }
+    ensures { IfSome result (λ count. Top T.visits level octets.now count
+        tally.old tally.new visitor.old visitor.new) }
+{
+    match octets.first() {
+        Some(b'[' | b'(' | b'{' | b'"') => walk_bare(beside, octets, level, tally, visitor),
+        _ => walk_annotated(beside, octets, level, tally, visitor),
+    }
 }

@@ -1,7 +1,6 @@
-//! Values that lie whole in a piece and that nobody asks for: they are judged and not built. What is
+//! Values that lie whole in a piece: they are judged and not built, and a visitor takes them. What is
 //! cut, refused or unusual isn't told here: the reader takes it up token by token.
-ghost use Rattle.std.specs.Prelude.{◌≡◌, ◌+◌, ◌-◌, ◌≤◌, ◌<◌, ◌^◌, min, true, false, length, drop, get_or, IfSome, Ok};
-ghost use Rattle.ion_model.specs.declared.value.Payload.{Payload};
+ghost use Rattle.std.specs.Prelude.{◌≡◌, ◌≢◌, ◌+◌, ◌-◌, ◌≤◌, ◌<◌, ◌^◌, min, true, false, length, drop, get_or, IfSome, Ok, Some};
 ghost use Rattle.ion_atoms.specs.declared.kind.Kind.TheVariants as kinds;
 ghost use Rattle.ion_tokens.specs.Places.{is_name};
 ghost use Rattle.ion_tokens.specs.declared.mode.Place.{Place};
@@ -10,16 +9,18 @@ ghost use Rattle.ion_tokens.specs.declared.mode.Mark.TheVariants as marks;
 ghost use Rattle.ion_tokens.specs.declared.mode.Place.TheVariants as places;
 ghost use Rattle.ion_tokens.specs.declared.mode.TokenKind.TheVariants as tokens;
 ghost use Rattle.ion_tokens.specs.machine.Rests.{past_blank, past_token, IsPassed};
+ghost use Rattle.ion_text.specs.laws.reading.FrontTokens.{BeginsName};
 ghost use Rattle.ion_tokens.specs.Bodies.{content};
 ghost use Rattle.ion_text.specs.machine.EachToken.{held_word, held_payload, number_payload};
 ghost use Rattle.ion_text.specs.machine.Nested.{Opens};
 ghost use Rattle.ion_text.specs.machine.Walked.{IsFlat, IsValue, close_of, kind_of_open, behind_key};
-ghost use Rattle.ion_text.specs.machine.Walked.{FoundScalar, FoundName};
-ghost use Rattle.ion_text.specs.machine.Walked.{Walked, WalkedContainer, WalkedInside, WalkedName};
+ghost use Rattle.ion_text.specs.visiting.Parts.{bracket_of, payload_of};
+ghost use Rattle.ion_text.specs.visiting.Walks.{FoundPart, FoundNumber, Value, Container, Inside, Name};
 
 use super::beside::may_be_rare;
 use super::nested::open_mark;
 use super::symbols::{behind_name, behind_symbol, plain_text};
+use crate::visitor::{Part, Visitor};
 use crate::words::{is_keyword, may_be_keyword};
 use ion_model::{Kind, Outline};
 use ion_scalar::{Number, number_of};
@@ -27,6 +28,7 @@ use ion_tokens::{
     Body, FoundToken, Mark, Place, Rest, TokenKind, TokenReader, blanks, number, quoted_symbol,
     short_string, word,
 };
+use ion_visiting::Bracket;
 
 /// What a walk noted of the values that it went over, and where it rests.
 #[derive(Clone, Copy, Drop)]
@@ -187,6 +189,17 @@ fn kind_of_open(mark: Mark) -> Kind
     }
 }
 
+// What it opens, as a visitor takes it.
+fn bracket_of(mark: Mark) -> Bracket
+    ensures { result ≡ bracket_of mark }
+{
+    match mark {
+        Mark::ListOpen => Bracket::List,
+        Mark::SexpOpen => Bracket::Sexp,
+        _ => Bracket::Fields,
+    }
+}
+
 /// A token that is a value without others in it.
 #[derive(Clone, Copy)]
 pub(super) struct Scalar {
@@ -196,84 +209,104 @@ pub(super) struct Scalar {
     waits: bool,
 }
 
-// The kind of a word, but for `nan`.
-fn word_kind(word: &str) -> Option<Kind>
-    ensures { IfSome result (λ kind. (payload : Payload)
-        × (held_payload (held_word word.now) ≡ Ok payload) × IsFlat payload kind) }
+// The value that a word is, and its kind, but for `nan`.
+fn word_part(word: &str) -> Option<(Kind, Part<'_>)>
+    ensures { IfSome result (λ found. (held_payload (held_word word.now) ≡ Ok (payload_of found.1))
+        × IsFlat (payload_of found.1) found.0) }
 {
     if !may_be_keyword(word) {
-        return Some(Kind::Symbol);
+        return Some((Kind::Symbol, Part::Symbol(word)));
     }
     if word == "null" {
-        return Some(Kind::Null);
+        return Some((Kind::Null, Part::Null(Kind::Null)));
     }
-    if word == "true" || word == "false" {
-        return Some(Kind::Bool);
+    if word == "true" {
+        return Some((Kind::Bool, Part::Truth(true)));
+    }
+    if word == "false" {
+        return Some((Kind::Bool, Part::Truth(false)));
     }
     if word == "nan" {
         return None;
     }
-    Some(Kind::Symbol)
+    Some((Kind::Symbol, Part::Symbol(word)))
 }
 
 // The word at the front of octets, as a value.
-fn word_at(octets: &[u8]) -> Option<Scalar>
-    ensures { IfSome result (λ scalar. (here : Place) (rest : Rest) →
-        FoundScalar here rest octets.now scalar) }
+fn word_at(octets: &[u8]) -> Option<(Scalar, Part<'_>)>
+    ensures { IfSome result (λ found. (here : Place) (rest : Rest) →
+        FoundPart here rest octets.now found.0 (payload_of found.1)) }
 {
     let count = word(octets)?;
     if count >= octets.len() || octets[0] == b'$' {
         return None;
     }
-    let kind = word_kind(unsafe { str::from_utf8_unchecked(&octets[..count]) })?;
+    let (kind, said) = word_part(unsafe { str::from_utf8_unchecked(&octets[..count]) })?;
     let token = FoundToken {
         kind: TokenKind::Word,
         count,
         left: true,
     };
-    Some(Scalar {
+    let scalar = Scalar {
         token,
         kind,
         waits: true,
-    })
+    };
+    Some((scalar, said))
 }
 
 // The quoted symbol there.
-fn quoted_at(octets: &[u8]) -> Option<Scalar>
-    ensures { IfSome result (λ scalar. (here : Place) (rest : Rest) →
-        FoundScalar here rest octets.now scalar) }
+fn quoted_at(octets: &[u8]) -> Option<(Scalar, Part<'_>)>
+    ensures { IfSome result (λ found. (here : Place) (rest : Rest) →
+        FoundPart here rest octets.now found.0 (payload_of found.1)) }
 {
     let count = quoted_symbol(octets)?;
+    if count >= octets.len() || count < 2 {
+        return None;
+    }
+    let content = &octets[1..][..count - 2];
     let token = FoundToken {
         kind: TokenKind::QuotedSymbol,
         count,
         left: false,
     };
-    Some(Scalar {
+    let scalar = Scalar {
         token,
         kind: Kind::Symbol,
         waits: true,
-    })
+    };
+    Some((
+        scalar,
+        Part::Symbol(unsafe { str::from_utf8_unchecked(content) }),
+    ))
 }
 
 // The short string there.
-pub(super) fn string_at(octets: &[u8]) -> Option<Scalar>
-    ensures found { IfSome result (λ scalar. (here : Place) (rest : Rest) →
-        FoundScalar here rest octets.now scalar) }
-    ensures waits { IfSome result (λ scalar. scalar.waits ≡ false) }
-    ensures given { IfSome result (λ scalar. scalar.token.left ≡ false) }
+pub(super) fn string_at(octets: &[u8]) -> Option<(Scalar, Part<'_>)>
+    ensures found { IfSome result (λ found. (here : Place) (rest : Rest) →
+        FoundPart here rest octets.now found.0 (payload_of found.1)) }
+    ensures waits { IfSome result (λ found. found.0.waits ≡ false) }
+    ensures given { IfSome result (λ found. found.0.token.left ≡ false) }
 {
     let count = short_string(octets)?;
+    if count > octets.len() || count < 2 {
+        return None;
+    }
+    let content = &octets[1..][..count - 2];
     let token = FoundToken {
         kind: TokenKind::ShortString,
         count,
         left: false,
     };
-    Some(Scalar {
+    let scalar = Scalar {
         token,
         kind: Kind::Str,
         waits: false,
-    })
+    };
+    Some((
+        scalar,
+        Part::Str(unsafe { str::from_utf8_unchecked(content) }),
+    ))
 }
 
 // The kind of a number.
@@ -288,9 +321,9 @@ fn number_kind(number: Number) -> Kind
 }
 
 // The number there.
-fn number_at(octets: &[u8]) -> Option<Scalar>
-    ensures { IfSome result (λ scalar. (here : Place) (rest : Rest) → is_name here ≡ false →
-        FoundScalar here rest octets.now scalar) }
+fn number_at(octets: &[u8]) -> Option<(FoundToken, Number)>
+    ensures { IfSome result (λ found. (here : Place) (rest : Rest) → is_name here ≡ false →
+        FoundNumber here rest octets.now found.0 found.1) }
 {
     let count = number(octets)?;
     if count >= octets.len() {
@@ -304,87 +337,86 @@ fn number_at(octets: &[u8]) -> Option<Scalar>
         count,
         left: true,
     };
-    Some(Scalar {
-        token,
-        kind: number_kind(read),
-        waits: false,
-    })
+    Some((token, read))
 }
 
 // What a token that isn't plain is as a value: its kind, and whether it would be an annotation if `::`
 // followed.
-fn rare_kind(body: &Body<'_>) -> Option<(Kind, bool)>
-    ensures { IfSome result (λ found. (payload : Payload)
-        × IsValue found.1 (content body.now) payload × IsFlat payload found.0) }
+fn rare_part<'b>(body: &'b Body<'_>) -> Option<(Kind, bool, Part<'b>)>
+    ensures { IfSome result (λ found. IsValue found.1 (content body.now) (payload_of found.2)
+        × IsFlat (payload_of found.2) found.0) }
 {
     match body {
-        Body::Quoted(_) => Some((Kind::Symbol, true)),
-        Body::TypedNull(kind) => Some((*kind, true)),
-        Body::Short(_) => Some((Kind::Str, false)),
-        Body::Operator(_) => Some((Kind::Symbol, false)),
-        Body::Clob(_) => Some((Kind::Clob, false)),
-        Body::Blob(_) => Some((Kind::Blob, false)),
+        Body::Quoted(text) => Some((Kind::Symbol, true, Part::Symbol(text.as_str()))),
+        Body::TypedNull(kind) => Some((*kind, true, Part::Null(*kind))),
+        Body::Short(text) => Some((Kind::Str, false, Part::Str(text.as_str()))),
+        Body::Operator(word) => Some((Kind::Symbol, false, Part::Symbol(word.as_str()))),
+        Body::Clob(octets) => Some((Kind::Clob, false, Part::Clob(octets.as_slice()))),
+        Body::Blob(octets) => Some((Kind::Blob, false, Part::Blob(octets.as_slice()))),
         _ => None,
     }
 }
 
-// The token there that isn't plain.
-#[inline(never)]
-fn rare_at(beside: &mut TokenReader, here: Place, rest: Rest, octets: &[u8]) -> Option<Scalar>
-    requires room { rest.used + length octets.now < 2 ^ 63 }
-    ensures { IfSome result (λ scalar. FoundScalar here rest octets.now scalar) }
-{
-    if !may_be_rare(octets) {
-        return None;
-    }
-    let token = beside.token(here, rest, octets)?;
-    let Ok(body) = beside.body(token.kind) else {
-        return None;
-    };
-    let (kind, waits) = rare_kind(&body)?;
-    Some(Scalar { token, kind, waits })
-}
-
-// The plain token there that is a value.
-fn plain_at(here: Place, octets: &[u8]) -> Option<Scalar>
-    requires value { is_name here ≡ false }
-    ensures { IfSome result (λ scalar. (rest : Rest) → FoundScalar here rest octets.now scalar) }
+// The plain token there that is a value but no number.
+fn plain_at(octets: &[u8]) -> Option<(Scalar, Part<'_>)>
+    ensures { IfSome result (λ found. (here : Place) (rest : Rest) →
+        FoundPart here rest octets.now found.0 (payload_of found.1)) }
 {
     match octets.first() {
         Some(b'"') => string_at(octets),
-        Some(b'-' | b'0'..=b'9') => number_at(octets),
         Some(b'\'') => quoted_at(octets),
         _ => word_at(octets),
     }
 }
 
-// The token there that is a value.
-fn scalar_at(beside: &mut TokenReader, here: Place, rest: Rest, octets: &[u8]) -> Option<Scalar>
-    requires value { is_name here ≡ false }
-    requires room { rest.used + length octets.now < 2 ^ 63 }
-    ensures { IfSome result (λ scalar. FoundScalar here rest octets.now scalar) }
-{
-    match plain_at(here, octets) {
-        Some(scalar) => Some(scalar),
-        None => rare_at(beside, here, rest, octets),
-    }
-}
-
-// Goes over a token there that is a value, and over the blank behind it that shows that it is no
-// annotation.
-fn walk_scalar(
+// Goes over a token there that isn't plain and is a value.
+#[inline(never)]
+fn walk_rare<T: Visitor>(
     beside: &mut TokenReader,
     here: Place,
     octets: &[u8],
     level: u32,
     tally: &mut Tally,
+    visitor: &mut T,
 ) -> Option<usize>
-    requires value { is_name here ≡ false }
     requires low { tally.old.level ≤ level }
     requires room { tally.old.rest.used + length octets.now < 2 ^ 63 }
-    ensures { IfSome result (λ count. Walked here level octets.now count tally.old tally.new) }
+    ensures { IfSome result (λ count. Value T.visits here level octets.now count
+        tally.old tally.new visitor.old visitor.new) }
 {
-    let scalar = scalar_at(beside, here, tally.rest, octets)?;
+    if !may_be_rare(octets) {
+        return None;
+    }
+    let token = beside.token(here, tally.rest, octets)?;
+    let Ok(body) = beside.body(token.kind) else {
+        return None;
+    };
+    let (kind, waits, said) = rare_part(&body)?;
+    let scalar = Scalar { token, kind, waits };
+    walk_part(here, octets, scalar, &said, level, tally, visitor)
+}
+
+// Goes over this token, which is a value, and over the blank behind it that shows that it is no
+// annotation.
+#[inline(always)]
+fn walk_part<T: Visitor>(
+    here: Place,
+    octets: &[u8],
+    scalar: Scalar,
+    said: &Part<'_>,
+    level: u32,
+    tally: &mut Tally,
+    visitor: &mut T,
+) -> Option<usize>
+    requires found { FoundPart here tally.old.rest octets.now scalar (payload_of said.now) }
+    requires low { tally.old.level ≤ level }
+    requires room { tally.old.rest.used + length octets.now < 2 ^ 63 }
+    ensures { IfSome result (λ count. Value T.visits here level octets.now count
+        tally.old tally.new visitor.old visitor.new) }
+{
+    if !visitor.part(said) {
+        return None;
+    }
     if scalar.waits {
         let between = behind_symbol(octets, scalar.token.count)?;
         return Some(tally.pass_scalar(here, scalar, between));
@@ -392,65 +424,169 @@ fn walk_scalar(
     Some(tally.pass_scalar(here, scalar, 0))
 }
 
-// The token of a field's name there.
-fn name_at(beside: &mut TokenReader, rest: Rest, octets: &[u8]) -> Option<FoundToken>
-    requires room { rest.used + length octets.now < 2 ^ 63 }
-    ensures { IfSome result (λ token. FoundName rest octets.now token) }
+// Goes over this token, which is a number.
+#[inline(always)]
+fn walk_number<T: Visitor>(
+    here: Place,
+    octets: &[u8],
+    token: FoundToken,
+    number: &Number,
+    level: u32,
+    tally: &mut Tally,
+    visitor: &mut T,
+) -> Option<usize>
+    requires found { FoundNumber here tally.old.rest octets.now token number.now }
+    requires low { tally.old.level ≤ level }
+    requires room { tally.old.rest.used + length octets.now < 2 ^ 63 }
+    ensures { IfSome result (λ count. Value T.visits here level octets.now count
+        tally.old tally.new visitor.old visitor.new) }
 {
-    match octets.first() {
-        Some(b'"' | b'\'') => match plain_text(octets) {
-            Some(token) => Some(token),
-            None => rare_name(beside, rest, octets),
-        },
-        _ => word_name(octets),
+    if !visitor.number(number) {
+        return None;
+    }
+    let scalar = Scalar {
+        token,
+        kind: number_kind(*number),
+        waits: false,
+    };
+    Some(tally.pass_scalar(here, scalar, 0))
+}
+
+// Goes over a token there that is a value.
+fn walk_scalar<T: Visitor>(
+    beside: &mut TokenReader,
+    here: Place,
+    octets: &[u8],
+    level: u32,
+    tally: &mut Tally,
+    visitor: &mut T,
+) -> Option<usize>
+    requires value { is_name here ≡ false }
+    requires low { tally.old.level ≤ level }
+    requires room { tally.old.rest.used + length octets.now < 2 ^ 63 }
+    ensures { IfSome result (λ count. Value T.visits here level octets.now count
+        tally.old tally.new visitor.old visitor.new) }
+{
+    if begins_number(octets) {
+        return match number_at(octets) {
+            Some((token, number)) => {
+                walk_number(here, octets, token, &number, level, tally, visitor)
+            }
+            None => walk_rare(beside, here, octets, level, tally, visitor),
+        };
+    }
+    match plain_at(octets) {
+        Some((scalar, said)) => walk_part(here, octets, scalar, &said, level, tally, visitor),
+        None => walk_rare(beside, here, octets, level, tally, visitor),
     }
 }
 
+// Whether a number may begin there.
+fn begins_number(octets: &[u8]) -> bool {
+    matches!(octets.first(), Some(b'-' | b'0'..=b'9'))
+}
+
+// The text in quotes there that is a field's name, if its characters stand as they are.
+fn text_name(octets: &[u8]) -> Option<(FoundToken, &str)>
+    ensures { IfSome result (λ found. (rest : Rest) →
+        BeginsName places.Name rest octets.now found.0 (Some found.1.now)) }
+{
+    let token = plain_text(octets)?;
+    if token.count >= octets.len() || token.count < 2 {
+        return None;
+    }
+    let content = &octets[1..][..token.count - 2];
+    Some((token, unsafe { str::from_utf8_unchecked(content) }))
+}
+
 // A word there that is a field's name.
-fn word_name(octets: &[u8]) -> Option<FoundToken>
-    ensures { IfSome result (λ token. (rest : Rest) → FoundName rest octets.now token) }
+fn word_name(octets: &[u8]) -> Option<(FoundToken, &str)>
+    ensures { IfSome result (λ found. (rest : Rest) →
+        BeginsName places.Name rest octets.now found.0 (Some found.1.now)) }
 {
     let count = word(octets)?;
     if count >= octets.len() || octets[0] == b'$' {
         return None;
     }
-    if is_keyword(unsafe { str::from_utf8_unchecked(&octets[..count]) }) {
+    let text = unsafe { str::from_utf8_unchecked(&octets[..count]) };
+    if is_keyword(text) {
         return None;
     }
-    Some(FoundToken {
+    let token = FoundToken {
         kind: TokenKind::Word,
         count,
         left: true,
-    })
+    };
+    Some((token, text))
 }
 
-// A text in quotes there that isn't plain, and is a field's name.
+// Goes over a text in quotes there that isn't plain, and is a field's name, as `walk_name` does.
 #[inline(never)]
-fn rare_name(beside: &mut TokenReader, rest: Rest, octets: &[u8]) -> Option<FoundToken>
-    requires room { rest.used + length octets.now < 2 ^ 63 }
-    ensures { IfSome result (λ token. FoundName rest octets.now token) }
+fn walk_rare_name<T: Visitor>(
+    beside: &mut TokenReader,
+    octets: &[u8],
+    tally: &mut Tally,
+    visitor: &mut T,
+) -> Option<usize>
+    requires room { tally.old.rest.used + length octets.now < 2 ^ 63 }
+    ensures { IfSome result (λ count. Name T.visits octets.now count
+        tally.old tally.new visitor.old visitor.new) }
 {
     if !may_be_rare(octets) {
         return None;
     }
-    let token = beside.token(Place::Name, rest, octets)?;
+    let token = beside.token(Place::Name, tally.rest, octets)?;
     match beside.body(token.kind) {
-        Ok(Body::Quoted(_)) => Some(token),
-        Ok(Body::Short(_)) => Some(token),
+        Ok(Body::Quoted(text)) => walk_key(octets, token, text.as_str(), tally, visitor),
+        Ok(Body::Short(text)) => walk_key(octets, token, text.as_str(), tally, visitor),
         _ => None,
     }
 }
 
-// Goes over a field's name there, the colon behind it, and a blank.
-fn walk_name(beside: &mut TokenReader, octets: &[u8], tally: &mut Tally) -> Option<usize>
+// Goes over this token, which is a field's name, the colon behind it, and a blank.
+#[inline(always)]
+fn walk_key<T: Visitor>(
+    octets: &[u8],
+    token: FoundToken,
+    text: &str,
+    tally: &mut Tally,
+    visitor: &mut T,
+) -> Option<usize>
+    requires name { BeginsName places.Name tally.old.rest octets.now token (Some text.now) }
     requires room { tally.old.rest.used + length octets.now < 2 ^ 63 }
-    ensures { IfSome result (λ count. WalkedName octets.now count tally.old tally.new) }
+    ensures { IfSome result (λ count. Name T.visits octets.now count
+        tally.old tally.new visitor.old visitor.new) }
 {
-    let token = name_at(beside, tally.rest, octets)?;
     let between = behind_name(octets, token.count)?;
+    if !visitor.name(text) {
+        return None;
+    }
     let key = tally.pass_key(token, between);
     let blank = walk_blank(&octets[key..], tally);
     Some(key + blank)
+}
+
+// Goes over a field's name there, the colon behind it, and a blank.
+fn walk_name<T: Visitor>(
+    beside: &mut TokenReader,
+    octets: &[u8],
+    tally: &mut Tally,
+    visitor: &mut T,
+) -> Option<usize>
+    requires room { tally.old.rest.used + length octets.now < 2 ^ 63 }
+    ensures { IfSome result (λ count. Name T.visits octets.now count
+        tally.old tally.new visitor.old visitor.new) }
+{
+    match octets.first() {
+        Some(b'"' | b'\'') => match text_name(octets) {
+            Some((token, text)) => walk_key(octets, token, text, tally, visitor),
+            None => walk_rare_name(beside, octets, tally, visitor),
+        },
+        _ => {
+            let (token, text) = word_name(octets)?;
+            walk_key(octets, token, text, tally, visitor)
+        }
+    }
 }
 
 // Whether octets begin with this one.
@@ -503,49 +639,56 @@ fn walk_comma(here: Place, octets: &[u8], tally: &mut Tally) -> Option<usize>
 /// Goes over the value at the front of octets, of at most so many levels: how many octets it has, with the
 /// blank behind it where that has to be seen.
 #[cycle(walk)]
-fn walk_value(
+fn walk_value<T: Visitor>(
     beside: &mut TokenReader,
     here: Place,
     octets: &[u8],
     level: u32,
     tally: &mut Tally,
+    visitor: &mut T,
 ) -> Option<usize>
     requires value { is_name here ≡ false }
     requires low { tally.old.level ≤ level }
     requires room { tally.old.rest.used + length octets.now < 2 ^ 63 }
-    ensures { IfSome result (λ count. Walked here level octets.now count tally.old tally.new) }
+    ensures { IfSome result (λ count. Value T.visits here level octets.now count
+        tally.old tally.new visitor.old visitor.new) }
 {
     if octets.len() < 2 {
         return None;
     }
     match open_mark(octets) {
-        None => walk_scalar(beside, here, octets, level, tally),
-        Some(mark) => walk_container(beside, here, mark, octets, level, tally),
+        None => walk_scalar(beside, here, octets, level, tally, visitor),
+        Some(mark) => walk_container(beside, here, mark, octets, level, tally, visitor),
     }
 }
 
 /// Goes over the list, the s-expression or the struct there, with its close.
 #[cycle(walk)]
-pub(super) fn walk_container(
+pub(super) fn walk_container<T: Visitor>(
     beside: &mut TokenReader,
     here: Place,
     mark: Mark,
     octets: &[u8],
     level: u32,
     tally: &mut Tally,
+    visitor: &mut T,
 ) -> Option<usize>
     requires more { 1 < length octets.now }
     requires opens { Opens octets.now mark }
     requires room { tally.old.rest.used + length octets.now < 2 ^ 63 }
-    ensures { IfSome result (λ count.
-        WalkedContainer here mark level octets.now count tally.old tally.new) }
+    ensures { IfSome result (λ count. Container T.visits here mark level octets.now count
+        tally.old tally.new visitor.old visitor.new) }
 {
     if level == 0 {
         return None;
     }
+    let kept = visitor.open(bracket_of(mark))?;
     tally.level = tally.level.min(level - 1);
     tally.pass_token(here, TokenKind::Mark(mark), 1);
-    let count = walk_inside(beside, mark, &octets[1..], level - 1, tally)?;
+    let count = walk_inside(beside, mark, &octets[1..], level - 1, tally, visitor)?;
+    if !visitor.close(bracket_of(mark), kept) {
+        return None;
+    }
     tally.pass_token(here, TokenKind::Mark(close_of(mark)), 1);
     tally.note(kind_of_open(mark));
     Some(count + 2)
@@ -553,22 +696,23 @@ pub(super) fn walk_container(
 
 /// Goes over what stands behind an open, up to the close that belongs to it.
 #[cycle(walk)]
-fn walk_inside(
+fn walk_inside<T: Visitor>(
     beside: &mut TokenReader,
     mark: Mark,
     octets: &[u8],
     level: u32,
     tally: &mut Tally,
+    visitor: &mut T,
 ) -> Option<usize>
     requires low { tally.old.level ≤ level }
     requires room { tally.old.rest.used + length octets.now < 2 ^ 63 }
-    ensures { IfSome result (λ count.
-        WalkedInside mark level octets.now count tally.old tally.new) }
+    ensures { IfSome result (λ count. Inside T.visits mark level octets.now count
+        tally.old tally.new visitor.old visitor.new) }
 {
     match mark {
-        Mark::ListOpen => walk_list(beside, octets, level, tally),
-        Mark::SexpOpen => walk_sexp(beside, octets, level, tally),
-        Mark::FieldsOpen => walk_struct(beside, octets, level, tally),
+        Mark::ListOpen => walk_list(beside, octets, level, tally, visitor),
+        Mark::SexpOpen => walk_sexp(beside, octets, level, tally, visitor),
+        Mark::FieldsOpen => walk_struct(beside, octets, level, tally, visitor),
         _ => None,
     }
 }
@@ -576,16 +720,17 @@ fn walk_inside(
 // The elements of a list.
 #[cycle(walk)]
 #[inline(never)]
-fn walk_list(
+fn walk_list<T: Visitor>(
     beside: &mut TokenReader,
     octets: &[u8],
     level: u32,
     tally: &mut Tally,
+    visitor: &mut T,
 ) -> Option<usize>
     requires low { tally.old.level ≤ level }
     requires room { tally.old.rest.used + length octets.now < 2 ^ 63 }
-    ensures { IfSome result (λ count.
-        WalkedInside marks.ListOpen level octets.now count tally.old tally.new) }
+    ensures { IfSome result (λ count. Inside T.visits marks.ListOpen level octets.now count
+        tally.old tally.new visitor.old visitor.new) }
 {
     let mut at = 0;
     let mut behind = false;
@@ -600,7 +745,7 @@ fn walk_list(
             behind = false;
             continue;
         }
-        let value = walk_value(beside, Place::List, &octets[at..], level, tally)?;
+        let value = walk_value(beside, Place::List, &octets[at..], level, tally, visitor)?;
         at += value;
         behind = true;
     }
@@ -610,16 +755,17 @@ fn walk_list(
 // The values in an s-expression.
 #[cycle(walk)]
 #[inline(never)]
-fn walk_sexp(
+fn walk_sexp<T: Visitor>(
     beside: &mut TokenReader,
     octets: &[u8],
     level: u32,
     tally: &mut Tally,
+    visitor: &mut T,
 ) -> Option<usize>
     requires low { tally.old.level ≤ level }
     requires room { tally.old.rest.used + length octets.now < 2 ^ 63 }
-    ensures { IfSome result (λ count.
-        WalkedInside marks.SexpOpen level octets.now count tally.old tally.new) }
+    ensures { IfSome result (λ count. Inside T.visits marks.SexpOpen level octets.now count
+        tally.old tally.new visitor.old visitor.new) }
 {
     let mut at = 0;
     for _ in 0..octets.len() {
@@ -627,7 +773,7 @@ fn walk_sexp(
         if begins_with(&octets[at..], b')') {
             return Some(at);
         }
-        let value = walk_value(beside, Place::Sexp, &octets[at..], level, tally)?;
+        let value = walk_value(beside, Place::Sexp, &octets[at..], level, tally, visitor)?;
         at += value;
     }
     None
@@ -636,16 +782,17 @@ fn walk_sexp(
 // The fields of a struct.
 #[cycle(walk)]
 #[inline(never)]
-fn walk_struct(
+fn walk_struct<T: Visitor>(
     beside: &mut TokenReader,
     octets: &[u8],
     level: u32,
     tally: &mut Tally,
+    visitor: &mut T,
 ) -> Option<usize>
     requires low { tally.old.level ≤ level }
     requires room { tally.old.rest.used + length octets.now < 2 ^ 63 }
-    ensures { IfSome result (λ count.
-        WalkedInside marks.FieldsOpen level octets.now count tally.old tally.new) }
+    ensures { IfSome result (λ count. Inside T.visits marks.FieldsOpen level octets.now count
+        tally.old tally.new visitor.old visitor.new) }
 {
     let mut at = 0;
     let mut behind = false;
@@ -660,9 +807,16 @@ fn walk_struct(
             behind = false;
             continue;
         }
-        let name = walk_name(beside, &octets[at..], tally)?;
+        let name = walk_name(beside, &octets[at..], tally, visitor)?;
         at += name;
-        let value = walk_value(beside, Place::FieldValue, &octets[at..], level, tally)?;
+        let value = walk_value(
+            beside,
+            Place::FieldValue,
+            &octets[at..],
+            level,
+            tally,
+            visitor,
+        )?;
         at += value;
         behind = true;
     }

@@ -1,7 +1,5 @@
-use Rattle.std.proofs.Common.{◌≡◌, Ok, take, refl}
+use Rattle.std.proofs.Common.{◌≡◌, Ok, take}
 use Rattle.ion_scalar.specs.text.Reading.{number_read, number_reads}
-use Rattle.ion_tokens.specs.Bodies.{Number'}
-use Rattle.ion_text.specs.machine.EachToken.{number_payload}
 use Rattle.ion_text.proofs.Arms.{number_says}
 use Rattle.ion_text.proofs.reader.walks.number_at.Goals as goal
 
@@ -9,12 +7,4 @@ pub returns : goal.returns
 returns c = λ here rest value.
     let kept = take c.in_ok-count.count c.args.octets.now in
     let same : Ok c.in-Ok.read ≡ number_read kept = c.in-Ok.ensures.only (number_read kept) (number_reads kept) in
-    record {
-      kept = kept;
-      content = Number' c.in-Ok.read;
-      payload = number_payload c.in-Ok.read;
-      found = c.in_ok-count.ensures here rest value;
-      says = number_says kept c.in-Ok.read same;
-      is = λ setting spot fs ss. refl;
-      flat = c.number_kind.ensures;
-    }
+    record { kept = kept; found = c.in_ok-count.ensures here rest value; says = number_says kept c.in-Ok.read same }

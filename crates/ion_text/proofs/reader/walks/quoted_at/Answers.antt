@@ -1,4 +1,5 @@
-use Rattle.std.proofs.Common.{◌-◌, take, drop, refl, Some}
+use Rattle.std.proofs.Common.{◌-◌, ◌∙◌, take, drop, Some, ap, sym, refl}
+use Rattle.std.proofs.lemmas.List.{take_rest}
 use Rattle.ion_model.specs.declared.value.Payload.TheVariants as payloads
 use Rattle.ion_tokens.specs.Bodies.{Quoted}
 use Rattle.ion_text.proofs.Symbols.{quoted_says}
@@ -7,13 +8,18 @@ use Rattle.ion_text.proofs.reader.walks.quoted_at.Goals as goal
 
 pub returns : goal.returns
 returns c = λ here rest.
-    let kept = take (c.in_ok-count.count - 2) (drop 1 c.args.octets.now) in
+    let octets = c.args.octets.now in
+    let n = c.in_ok-count.count in
+    let kept = take (n - 2) (drop 1 octets) in
     record {
-      kept = kept;
-      content = Quoted kept;
-      payload = payloads.Symbol (Some kept);
-      found = c.in_ok-count.ensures.found here rest;
-      says = quoted_says kept c.in_ok-count.ensures.text;
-      is = refl;
-      flat = flat_symbol (Some kept);
+      token = record {
+        kept = kept;
+        content = Quoted kept;
+        payload = payloads.Symbol (Some kept);
+        found = c.in_ok-count.ensures.found here rest;
+        says = quoted_says kept c.in_ok-count.ensures.text;
+        is = refl;
+        flat = flat_symbol (Some kept);
+      };
+      is = ap (λ w. payloads.Symbol (Some w)) (sym (c.from_utf8_unchecked.ensures ∙ ap (take (n - 2)) (take_rest octets 1)));
     }

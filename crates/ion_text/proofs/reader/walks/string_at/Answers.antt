@@ -1,4 +1,5 @@
-use Rattle.std.proofs.Common.{◌-◌, take, drop, refl}
+use Rattle.std.proofs.Common.{◌-◌, ◌∙◌, take, drop, ap, sym, refl}
+use Rattle.std.proofs.lemmas.List.{take_rest}
 use Rattle.ion_model.specs.declared.value.Payload.TheVariants as payloads
 use Rattle.ion_tokens.specs.Bodies.{Short}
 use Rattle.ion_text.proofs.Arms.{short_says}
@@ -7,13 +8,18 @@ use Rattle.ion_text.proofs.reader.walks.string_at.Goals as goal
 
 pub returns-clause-found : goal.returns-clause-found
 returns-clause-found c = λ here rest.
-    let kept = take (c.in_ok-count.count - 2) (drop 1 c.args.octets.now) in
+    let octets = c.args.octets.now in
+    let n = c.in_ok-count.count in
+    let kept = take (n - 2) (drop 1 octets) in
     record {
-      kept = kept;
-      content = Short kept;
-      payload = payloads.Str kept;
-      found = c.in_ok-count.ensures.found here rest;
-      says = short_says kept c.in_ok-count.ensures.text;
-      is = λ setting spot fs ss. refl;
-      flat = flat_text kept;
+      token = record {
+        kept = kept;
+        content = Short kept;
+        payload = payloads.Str kept;
+        found = c.in_ok-count.ensures.found here rest;
+        says = short_says kept c.in_ok-count.ensures.text;
+        is = λ setting spot fs ss. refl;
+        flat = flat_text kept;
+      };
+      is = ap payloads.Str (sym (c.from_utf8_unchecked.ensures ∙ ap (take (n - 2)) (take_rest octets 1)));
     }

@@ -1,6 +1,7 @@
-use Rattle.std.proofs.Common.{◌≡◌, ◌≢◌, ◌∙◌, Ok, ap, sym, arith, take, get_or}
+use Rattle.std.proofs.Common.{◌≡◌, ◌≢◌, ◌∙◌, Ok, ap, sym, arith, take, get_or, refl}
 use Rattle.ion_tokens.specs.Bodies.{Word}
 use Rattle.ion_text.specs.machine.EachToken.{held_payload, held_word}
+use Rattle.ion_text.specs.visiting.Parts.{payload_of}
 use Rattle.ion_text.proofs.Symbols.{word_said}
 use Rattle.ion_text.proofs.reader.walks.word_at.Goals as goal
 
@@ -11,13 +12,16 @@ returns c = λ here rest.
     let kept = take n octets in
     let is = c.in_ok-kind.ensures in
     let first : get_or octets 0 0 ≢ 36 = λ e. omega (arith, e, c.if-octets-eq36.false) in
-    let pays : held_payload (held_word kept) ≡ Ok is.0 = ap (λ w. held_payload (held_word w)) (sym c.from_utf8_unchecked.ensures) ∙ is.1 in
+    let pays : held_payload (held_word kept) ≡ Ok (payload_of c.in_ok-kind.said) = ap (λ w. held_payload (held_word w)) (sym c.from_utf8_unchecked.ensures) ∙ is.0 in
     record {
-      kept = kept;
-      content = Word kept;
-      payload = is.0;
-      found = c.in_ok-count.ensures.found here rest;
-      says = word_said here rest octets n (c.in_ok-count.ensures.found here rest) c.in_ok-count.ensures.text first;
-      is = pays;
-      flat = is.2;
+      token = record {
+        kept = kept;
+        content = Word kept;
+        payload = payload_of c.in_ok-kind.said;
+        found = c.in_ok-count.ensures.found here rest;
+        says = word_said here rest octets n (c.in_ok-count.ensures.found here rest) c.in_ok-count.ensures.text first;
+        is = pays;
+        flat = is.1;
+      };
+      is = refl;
     }

@@ -2,33 +2,31 @@ use Rattle.std.proofs.Common.{rules, ◌≡◌, true, false, Some}
 use Rattle.std.specs.Prelude.{codes}
 use Rattle.std.specs.Str.{bytes_eq}
 use Rattle.ion_atoms.specs.declared.kind.Kind.TheVariants as kinds
-use Rattle.ion_model.specs.declared.value.Payload.TheVariants as payloads
 use Rattle.ion_text.proofs.Walks.{flat_null, flat_truth, flat_symbol, word_null, word_true, word_false, word_symbol, word_free}
-use Rattle.ion_text.proofs.reader.walks.word_kind.Goals as goal
-use Rattle.ion_text.proofs.reader.walks.word_kind.Goals.{then-eq-2-via-then-eq-2, then-eq-2-via-else-eq-2+then-eq-3}
+use Rattle.ion_text.proofs.reader.walks.word_part.Goals as goal
 
 pub returns-then-not-may_be_keyword : goal.returns-then-not-may_be_keyword
 returns-then-not-may_be_keyword c =
     let free = c.may_be_keyword.ensures c.if-not-may_be_keyword.true in
-    (payloads.Symbol (Some c.args.word.now), word_free c.args.word.now free, flat_symbol (Some c.args.word.now))
+    (word_free c.args.word.now free, flat_symbol (Some c.args.word.now))
 
 pub returns-then-eq : goal.returns-then-eq
 returns-then-eq c =
     let null : bytes_eq c.args.word.now (codes "null") ≡ true = search rules in
-    (payloads.Null kinds.Null, word_null c.args.word.now null, flat_null kinds.Null)
+    (word_null c.args.word.now null, flat_null kinds.Null)
 
 pub returns-then-eq-2 : goal.returns-then-eq-2
 returns-then-eq-2 c =
     let null : bytes_eq c.args.word.now (codes "null") ≡ false = search rules in
-    elim c.then-eq-2.branch [
-      | then-eq-2-via-then-eq-2 w ↦
-          let is : bytes_eq c.args.word.now (codes "true") ≡ true = search rules in
-          (payloads.Truth true, word_true c.args.word.now null is, flat_truth true)
-      | then-eq-2-via-else-eq-2+then-eq-3 w ↦
-          let no : bytes_eq c.args.word.now (codes "true") ≡ false = search rules in
-          let is : bytes_eq c.args.word.now (codes "false") ≡ true = search rules in
-          (payloads.Truth false, word_false c.args.word.now null no is, flat_truth false)
-    ]
+    let is : bytes_eq c.args.word.now (codes "true") ≡ true = search rules in
+    (word_true c.args.word.now null is, flat_truth true)
+
+pub returns-then-eq-3 : goal.returns-then-eq-3
+returns-then-eq-3 c =
+    let null : bytes_eq c.args.word.now (codes "null") ≡ false = search rules in
+    let no : bytes_eq c.args.word.now (codes "true") ≡ false = search rules in
+    let is : bytes_eq c.args.word.now (codes "false") ≡ true = search rules in
+    (word_false c.args.word.now null no is, flat_truth false)
 
 pub returns : goal.returns
 returns c =
@@ -36,4 +34,4 @@ returns c =
     let yes : bytes_eq c.args.word.now (codes "true") ≡ false = search rules in
     let no : bytes_eq c.args.word.now (codes "false") ≡ false = search rules in
     let nan : bytes_eq c.args.word.now (codes "nan") ≡ false = search rules in
-    (payloads.Symbol (Some c.args.word.now), word_symbol c.args.word.now null yes no nan, flat_symbol (Some c.args.word.now))
+    (word_symbol c.args.word.now null yes no nan, flat_symbol (Some c.args.word.now))

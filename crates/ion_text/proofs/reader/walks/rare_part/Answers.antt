@@ -1,0 +1,40 @@
+use Rattle.std.proofs.Common.{ap, sym, subst, Some, true, false, refl}
+use Rattle.std.specs.Cow.{cow_str_bytes}
+use Rattle.ion_atoms.specs.declared.kind.Kind.TheVariants as kinds
+use Rattle.ion_model.specs.declared.value.Payload.TheVariants as payloads
+use Rattle.ion_tokens.specs.Bodies.{content}
+use Rattle.ion_text.specs.laws.reading.FrontTokens.{held_of, Pays}
+use Rattle.ion_text.specs.machine.EachToken.{on_ready}
+use Rattle.ion_text.specs.machine.Walked.{IsFlat, IsValue}
+use Rattle.ion_text.proofs.Walks.{flat_null, flat_symbol, flat_text, flat_clob, flat_blob}
+use Rattle.ion_text.proofs.reader.walks.rare_part.Goals as goal
+
+pub returns-in-Quoted : goal.returns-in-Quoted
+returns-in-Quoted c =
+    let w = c.in-Quoted.text in
+    subst (λ w. IsValue true (content c.args.body.now) (payloads.Symbol (Some w)) × IsFlat (payloads.Symbol (Some w)) kinds.Symbol) (sym c.as_str.ensures)
+    (subst (λ b. Pays (held_of (content b)) (payloads.Symbol (Some w))) (sym c.in-Quoted.is) refl, flat_symbol (Some w))
+
+pub returns-in-TypedNull : goal.returns-in-TypedNull
+returns-in-TypedNull c = (subst (λ b. Pays (held_of (content b)) (payloads.Null c.in-TypedNull.kind)) (sym c.in-TypedNull.is) refl, flat_null c.in-TypedNull.kind)
+
+pub returns-in-Short : goal.returns-in-Short
+returns-in-Short c =
+    subst (λ w. IsValue false (content c.args.body.now) (payloads.Str w) × IsFlat (payloads.Str w) kinds.Str) (sym c.as_str-in-Short.ensures)
+    (λ setting spot fs ss. ap (λ b. on_ready setting spot fs ss (content b)) c.in-Short.is, flat_text c.in-Short.text)
+
+pub returns-in-Operator : goal.returns-in-Operator
+returns-in-Operator c =
+    let w = cow_str_bytes c.in-Operator.word in
+    subst (λ w. IsValue false (content c.args.body.now) (payloads.Symbol (Some w)) × IsFlat (payloads.Symbol (Some w)) kinds.Symbol) (sym c.as_str-in-Operator.ensures.value)
+    (λ setting spot fs ss. ap (λ b. on_ready setting spot fs ss (content b)) c.in-Operator.is, flat_symbol (Some w))
+
+pub returns-in-Clob : goal.returns-in-Clob
+returns-in-Clob c =
+    subst (λ w. IsValue false (content c.args.body.now) (payloads.Clob w) × IsFlat (payloads.Clob w) kinds.Clob) (sym c.as_slice.ensures)
+    (λ setting spot fs ss. ap (λ b. on_ready setting spot fs ss (content b)) c.in-Clob.is, flat_clob c.in-Clob.octets)
+
+pub returns-in-Blob : goal.returns-in-Blob
+returns-in-Blob c =
+    subst (λ w. IsValue false (content c.args.body.now) (payloads.Blob w) × IsFlat (payloads.Blob w) kinds.Blob) (sym c.as_slice-in-Blob.ensures)
+    (λ setting spot fs ss. ap (λ b. on_ready setting spot fs ss (content b)) c.in-Blob.is, flat_blob c.in-Blob.octets)

@@ -1,0 +1,3 @@
+-- What visitors take of values that are gone over, and what they make of them.
+pub mod Parts
+pub mod Walks

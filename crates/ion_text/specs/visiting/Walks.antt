@@ -1,0 +1,85 @@
+-- A value that a walk over octets in memory finds, and what its visitor took of it.
+use Rattle.std.specs.Prelude.{◌≡◌, ◌+◌, ◌-◌, ◌<◌, ◌≤◌, ℕ, min, List, length, take, drop, get_or, Some, Ok}
+use Rattle.ion_model.specs.declared.value.Payload.{Payload}
+use Rattle.ion_tokens.specs.declared.mode.Place.{Place}
+use Rattle.ion_tokens.specs.declared.mode.Mark.{Mark}
+use Rattle.ion_tokens.specs.declared.whole.Rest.{Rest}
+use Rattle.ion_scalar.specs.declared.number.Number.{Number}
+use Rattle.ion_tokens.specs.declared.beside.FoundToken.{FoundToken}
+use Rattle.ion_tokens.specs.Bodies.{Number'}
+use Rattle.ion_tokens.specs.machine.Rests.{past_blank, IsFound, IsPassed}
+use Rattle.ion_tokens.specs.machine.Said.{said}
+use Rattle.ion_visiting.specs.Visits.{Visits, name, Visited, VisitedPayload, VisitedAnnotations}
+use Rattle.ion_text.specs.declared.reader.TextReader.{TextReader}
+use Rattle.ion_text.specs.declared.reader.tops.Note.{Note}
+use Rattle.ion_text.specs.declared.reader.walks.Scalar.{Scalar}
+use Rattle.ion_text.specs.declared.reader.walks.Tally.{Tally}
+use Rattle.ion_text.specs.machine.Walked.{IsFresh, FoundScalar, FoundNote, Walked, WalkedContainer, WalkedInside, WalkedName, WalkedNotes, WalkedBare, WalkedTop}
+use Rattle.ion_text.specs.visiting.Parts.{bracket_of}
+
+-- in this place octets begin with this token, which is this value
+pub record FoundPart (p : Place) (r : Rest) (octets : List ℕ) (s : Scalar) (payload : Payload) : Type 0 where
+  pub token : FoundScalar p r octets s
+  pub is : token.payload ≡ payload
+
+-- in this place octets begin with this token, which is this number
+pub record FoundNumber (p : Place) (r : Rest) (octets : List ℕ) (token : FoundToken) (number : Number) : Type 0 where
+  pub kept : List ℕ
+  pub found : IsFound p r octets token.kind kept token.count token.left
+  pub says : said token.kind kept ≡ Ok (Number' number)
+
+-- octets begin with an annotation of this text, a blank of so many octets, and `::`
+pub record NoteThere (octets : List ℕ) (note : Note) : Type 0 where
+  pub token : FoundNote octets note.token
+  pub is : token.name ≡ Some note.text.now
+  pub passed : IsPassed (drop note.token.count octets) note.between
+  pub within : note.token.count + note.between + 2 < length octets
+  pub one : get_or octets (note.token.count + note.between) 0 ≡ 58
+  pub two : get_or octets (note.token.count + note.between + 1) 0 ≡ 58
+
+-- The reader rests, and behind a blank of so many octets of the piece an item may begin; of it these octets stand in the piece, up to the
+-- limit on items. Nothing is noted of it yet.
+pub record ItemAhead (r : TextReader) (piece : List ℕ) (blank : ℕ) (item : List ℕ) (begun : Tally) : Type 0 where
+  pub rest : Rest
+  pub fresh : IsFresh r rest
+  pub most : ℕ
+  pub is : item ≡ take most (drop blank piece)
+  pub size : length item ≡ min most (length piece - blank)
+  pub inside : blank ≤ length piece
+  pub before : blank ≤ r.limits.item
+  pub few : length item ≤ r.limits.item
+  pub passed : IsPassed piece blank
+  pub begins : begun.rest ≡ past_blank rest blank
+  pub level : begun.level ≡ r.limits.depth
+  pub none : begun.nodes ≡ 0
+
+module _ {S M : Type 0} (h : Visits S M) where
+  pub record Value (p : Place) (level : ℕ) (octets : List ℕ) (count : ℕ) (before after : Tally) (a b : S) : Type 0 where
+    pub walked : Walked p level octets count before after
+    pub visited : VisitedPayload h walked.payload a b
+
+  pub record Container (p : Place) (m : Mark) (level : ℕ) (octets : List ℕ) (count : ℕ) (before after : Tally) (a b : S) : Type 0 where
+    pub walked : WalkedContainer p m level octets count before after
+    pub visited : VisitedPayload h walked.inside.payload a b
+
+  -- between an open and its close; with what the visitor makes of these it took the whole value
+  pub record Inside (m : Mark) (level : ℕ) (octets : List ℕ) (count : ℕ) (before after : Tally) (a b : S) : Type 0 where
+    pub walked : WalkedInside m level octets count before after
+    pub visited : (k : M) (x y : S) → h.opens x (bracket_of m) k a → h.closes b (bracket_of m) k y → VisitedPayload h walked.payload x y
+
+  pub record Name (octets : List ℕ) (count : ℕ) (before after : Tally) (a b : S) : Type 0 where
+    pub walked : WalkedName octets count before after
+    pub visited : h.takes a (name walked.name) b
+
+  pub record Notes (octets : List ℕ) (count : ℕ) (before after : Tally) (a b : S) : Type 0 where
+    pub walked : WalkedNotes octets count before after
+    pub some : 0 < count → 0 < length walked.notes
+    pub visited : VisitedAnnotations h walked.notes a b
+
+  pub record Bare (level : ℕ) (octets : List ℕ) (count : ℕ) (before after : Tally) (a b : S) : Type 0 where
+    pub walked : WalkedBare level octets count before after
+    pub visited : VisitedPayload h walked.payload a b
+
+  pub record Top (level : ℕ) (octets : List ℕ) (count : ℕ) (before after : Tally) (a b : S) : Type 0 where
+    pub walked : WalkedTop level octets count before after
+    pub visited : Visited h walked.value a b
