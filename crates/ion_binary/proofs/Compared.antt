@@ -21,7 +21,7 @@ use Rattle.ion_binary.specs.declared.comparison.Comparison.{Comparison}
 use Rattle.ion_binary.specs.declared.form.Form.{Form}
 use Rattle.ion_binary.specs.declared.form.Form.TheVariants as forms
 use Rattle.ion_binary.specs.declared.form.Listing.TheVariants as listings
-use Rattle.ion_binary.specs.visiting.Visits.{Visited, bare_visited, annotated_visited, VisitedPayload, in_one, in_list, in_sexp, in_struct, VisitedItems, no_items, one_item, VisitedFields, no_fields, one_field, VisitedAnnotations, no_annotations, one_annotation}
+use Rattle.ion_visiting.specs.Visits.{Visited, bare_visited, annotated_visited, VisitedPayload, in_one, in_list, in_sexp, in_struct, VisitedItems, no_items, one_item, VisitedFields, no_fields, one_field, VisitedAnnotations, no_annotations, one_annotation}
 use Rattle.ion_binary.specs.Grammar as grammar
 use Rattle.ion_binary.specs.Grammar.{Header, Ids, no_ids, one_id, IsScalar, Plain, is_null, is_truth, is_scalar, is_listing, is_struct, Binary, unannotated, wrapped, Sequence, nothing, one_more, Fields, listed}
 use Rattle.ion_binary.specs.visiting.Comparing.{comparing, between, Moves, Enters, IsOne, IsIdOf, IsPlain, StandsAt}

@@ -8,11 +8,11 @@ use Rattle.ion_model.specs.Kinds.{kind_of, layer_kind}
 use Rattle.ion_model.specs.Outlines.{outline_of}
 use Rattle.ion_model.specs.Measures.{depth, nodes, bare, annotated, field_of}
 use Rattle.ion_model.specs.laws.Measures.{deepest-more, nodes-more}
-use Rattle.ion_binary.specs.declared.form.Bracket.{Bracket}
-use Rattle.ion_binary.specs.declared.form.Bracket.TheVariants as brackets
+use Rattle.ion_visiting.specs.declared.bracket.Bracket.{Bracket}
+use Rattle.ion_visiting.specs.declared.bracket.Bracket.TheVariants as brackets
 use Rattle.ion_binary.specs.declared.form.Listing.TheVariants as listings
 use Rattle.ion_binary.specs.declared.measure.Measure.{Measure}
-use Rattle.ion_binary.specs.visiting.Visits.{Visited, bare_visited, annotated_visited, VisitedPayload, in_one, in_list, in_sexp, in_struct, VisitedItems, no_items, one_item, VisitedFields, no_fields, one_field, VisitedAnnotations, no_annotations, one_annotation}
+use Rattle.ion_visiting.specs.Visits.{Visited, bare_visited, annotated_visited, VisitedPayload, in_one, in_list, in_sexp, in_struct, VisitedItems, no_items, one_item, VisitedFields, no_fields, one_field, VisitedAnnotations, no_annotations, one_annotation}
 use Rattle.ion_binary.specs.visiting.Measuring.{measuring, opened, closed, more, less}
 use Rattle.ion_binary.specs.Depths.{depths, field_depths}
 use Rattle.ion_binary.specs.laws.reading.Complete.{depth-listed, depth-fields, depth-annotated, field_deepest-more}

@@ -15,7 +15,7 @@ use Rattle.ion_binary.specs.declared.form.Listing.TheVariants as listings
 use Rattle.ion_binary.specs.declared.form.Form.{Form}
 use Rattle.ion_binary.specs.declared.form.Form.TheVariants as forms
 use Rattle.ion_binary.specs.visiting.Brackets.{bracket_of}
-use Rattle.ion_binary.specs.visiting.Visits.{IsPart, Visits, part, bare_visited, annotated_visited, VisitedPayload, in_one, in_list, in_sexp, VisitedItems}
+use Rattle.ion_visiting.specs.Visits.{IsPart, Visits, part, bare_visited, annotated_visited, VisitedPayload, in_one, in_list, in_sexp, VisitedItems}
 use Rattle.ion_binary.specs.Grammar.{Ids, no_ids, one_id, listed, IsScalar, unannotated}
 use Rattle.ion_binary.specs.laws.reading.Judged.{scalar_flat}
 use Rattle.ion_binary.specs.laws.reading.Complete.{depth-listed, depth-fields}

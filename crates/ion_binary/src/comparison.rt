@@ -9,12 +9,13 @@ ghost use Rattle.ion_binary.specs.declared.form.Opening.TheVariants.{Null, Truth
 ghost use Rattle.ion_binary.specs.visiting.Comparing.{Enters, IsThere, IsOne, IsIdOf, Moves, between};
 
 use crate::alike::alike_scalars;
-use crate::form::{Bracket, Form, Listing, Opening, Scalar, opening_of};
+use crate::form::{Form, Listing, Opening, Scalar, opening_of};
 use crate::visitor::Visitor;
 use crate::whole::{lengths, number};
 use ion_model::{Kind, Symbol};
 use ion_scalar::Size;
 use ion_symtab::Context;
+use ion_visiting::Bracket;
 
 /// Where a container that is open in the other octets ends, and the ids of its annotations where it is a wrapper.
 #[derive(Clone, Copy, Drop)]

@@ -6,6 +6,7 @@ ghost use Rattle.ion_binary.specs.machine.EachOctet.{hollow};
 
 use ion_model::{Kind, Reason};
 use ion_scalar::{Descriptor, Size};
+use ion_visiting::Bracket;
 
 /// A scalar whose octets are its body.
 #[derive(Clone, Copy, PartialEq, Eq)]
@@ -25,14 +26,6 @@ pub enum Scalar {
 pub enum Listing {
     List,
     Sexp,
-}
-
-/// What opens and closes around items or fields.
-#[derive(Clone, Copy, PartialEq, Eq)]
-pub enum Bracket {
-    List,
-    Sexp,
-    Fields,
 }
 
 /// What has a length.

@@ -2,12 +2,13 @@
 ghost use Rattle.std.specs.Prelude.{◌≡◌, ◌+◌, ◌-◌, ◌≤◌, ◌<◌, ◌^◌, ◌%◌, max};
 ghost use Rattle.ion_binary.specs.visiting.Measuring.{measuring, counted, opened, closed};
 
-use crate::form::{Bracket, Form, Scalar, kind_in, kind_of};
+use crate::form::{Form, Scalar, kind_in, kind_of};
 use crate::visitor::Visitor;
 use crate::walk::is_scalar;
 use ion_model::{Kind, Outline, Symbol};
 use ion_scalar::Size;
 use ion_symtab::Context;
+use ion_visiting::Bracket;
 
 /// What was counted of the values that were gone over.
 #[derive(Clone, Copy, Drop)]

@@ -12,7 +12,7 @@ ghost use Rattle.ion_binary.specs.visiting.Transcribing.{AddsId, AddsPlace, Fram
 ghost use Rattle.ion_binary.specs.declared.form.Scalar.TheVariants as scalars;
 ghost use Rattle.ion_binary.specs.machine.Transcribed.{HasId, IsShortest, Transcribed, TranscribedScalar};
 
-use crate::form::{Bracket, Scalar};
+use crate::form::Scalar;
 use crate::slots::{put_scalar, small_uint};
 use crate::visitor::Visitor;
 use crate::walk::walk_value;
@@ -25,6 +25,7 @@ use crate::writer::names::Names;
 use ion_model::{Kind, Payload, Symbol};
 use ion_scalar::{Size, is_uint};
 use ion_symtab::Context;
+use ion_visiting::Bracket;
 use std::hash::BuildHasher;
 use std::mem;
 

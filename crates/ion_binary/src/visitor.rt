@@ -7,12 +7,13 @@ ghost use Rattle.ion_binary.specs.Grammar.{IsScalar};
 ghost use Rattle.ion_binary.specs.Opening.{opening_of};
 ghost use Rattle.ion_binary.specs.declared.form.Form.TheVariants as forms;
 ghost use Rattle.ion_binary.specs.declared.form.Opening.TheVariants.{Sized};
-ghost use Rattle.ion_binary.specs.visiting.Visits.{Visits, part, annotation, name};
+ghost use Rattle.ion_visiting.specs.Visits.{Visits, part, annotation, name};
 
-use crate::form::{Bracket, Scalar};
+use crate::form::Scalar;
 use ion_model::{Kind, Symbol};
 use ion_scalar::Size;
 use ion_symtab::Context;
+use ion_visiting::Bracket;
 
 /// What takes the parts of a value in order. It answers `false` or `None` where it can't go on, and its state
 /// means nothing then.

@@ -14,7 +14,7 @@ use Rattle.ion_binary.specs.declared.form.Scalar.{Scalar}
 use Rattle.ion_binary.specs.Grammar.{IsScalar, Ids, Plain, Binary, Sequence, Fields, listed}
 use Rattle.ion_binary.specs.Depths.{depths, field_depths}
 use Rattle.ion_binary.specs.machine.Framed.{Framed, Wraps}
-use Rattle.ion_binary.specs.visiting.Visits.{Visits, Visited, VisitedPayload, VisitedItems, VisitedFields, VisitedAnnotations}
+use Rattle.ion_visiting.specs.Visits.{Visits, Visited, VisitedPayload, VisitedItems, VisitedFields, VisitedAnnotations}
 
 -- the body is this scalar
 pub record WalkedScalar (c : List Slot) (t : Scalar) (body : List ℕ) : Type 0 where

@@ -6,8 +6,8 @@ use Rattle.ion_binary.specs.declared.form.Form.{Form}
 use Rattle.ion_binary.specs.declared.form.Form.TheVariants as forms
 use Rattle.ion_binary.specs.declared.form.Listing.{Listing}
 use Rattle.ion_binary.specs.declared.form.Listing.TheVariants as listings
-use Rattle.ion_binary.specs.declared.form.Bracket.{Bracket}
-use Rattle.ion_binary.specs.declared.form.Bracket.TheVariants as brackets
+use Rattle.ion_visiting.specs.declared.bracket.Bracket.{Bracket}
+use Rattle.ion_visiting.specs.declared.bracket.Bracket.TheVariants as brackets
 
 -- the brackets around the items of a list or an s-expression
 abbrev pub bracket_of : Listing → Bracket

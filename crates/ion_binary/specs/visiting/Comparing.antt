@@ -9,7 +9,7 @@ use Rattle.ion_binary.specs.declared.form.Form.{Form}
 use Rattle.ion_binary.specs.declared.form.Form.TheVariants as forms
 use Rattle.ion_binary.specs.declared.form.Opening.{Opening}
 use Rattle.ion_binary.specs.Opening.{opening_of}
-use Rattle.ion_binary.specs.visiting.Visits.{Event, part, annotation, name, Visits}
+use Rattle.ion_visiting.specs.Visits.{Event, part, annotation, name, Visits}
 use Rattle.ion_binary.specs.Grammar.{Header, Plain}
 use Rattle.ion_binary.specs.visiting.Brackets.{form_in}
 

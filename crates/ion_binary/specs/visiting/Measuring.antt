@@ -3,10 +3,10 @@ use Rattle.std.specs.Prelude.{◌≡◌, ◌+◌, ◌-◌, ◌%◌, ◌^◌, ℕ
 use Rattle.ion_atoms.specs.declared.kind.Kind.{Kind}
 use Rattle.ion_model.specs.Kinds.{kind_of}
 use Rattle.ion_model.specs.Measures.{bare}
-use Rattle.ion_binary.specs.declared.form.Bracket.{Bracket}
+use Rattle.ion_visiting.specs.declared.bracket.Bracket.{Bracket}
 use Rattle.ion_binary.specs.declared.measure.Measure.{Measure}
 use Rattle.ion_binary.specs.visiting.Brackets.{kind_in}
-use Rattle.ion_binary.specs.visiting.Visits.{Event, part, annotation, name, Visits}
+use Rattle.ion_visiting.specs.Visits.{Event, part, annotation, name, Visits}
 
 -- one more, in 64 bits
 abbrev pub more : ℕ → ℕ

@@ -5,7 +5,7 @@ use Rattle.ion_model.specs.declared.value.Payload.TheViews.{out-Payload}
 use Rattle.ion_model.specs.Kept.{IsText, KeptPayload}
 use Rattle.ion_scalar.specs.binary.Spellings.{var_uint_octets}
 use Rattle.ion_binary.specs.declared.transcription.Transcription.{Transcription}
-use Rattle.ion_binary.specs.visiting.Visits.{Event, part, annotation, name, Visits}
+use Rattle.ion_visiting.specs.Visits.{Event, part, annotation, name, Visits}
 use Rattle.ion_binary.specs.Output.{id_of, with_name, framed, counted}
 use Rattle.ion_binary.specs.visiting.Brackets.{code_in}
 use Rattle.ion_binary.specs.laws.writing.Output.{layer_octets, layer_symbols}

@@ -4,7 +4,7 @@ use Rattle.ion_model.specs.Measures.{field_of}
 use Rattle.ion_model.specs.declared.value.Payload.TheVariants as payloads
 use Rattle.ion_binary.specs.declared.form.Form.TheVariants as forms
 use Rattle.ion_binary.specs.declared.form.Opening.TheVariants.{Sized}
-use Rattle.ion_binary.specs.visiting.Visits.{in_one, in_struct, no_items, one_item, no_fields, one_field}
+use Rattle.ion_visiting.specs.Visits.{in_one, in_struct, no_items, one_item, no_fields, one_field}
 use Rattle.ion_binary.specs.Grammar as grammar
 use Rattle.ion_binary.specs.Grammar.{Sequence, Fields}
 use Rattle.ion_binary.specs.machine.Walked.{Walked, WalkedPlain}

@@ -1,7 +1,7 @@
 use Rattle.std.proofs.Common.{◌+◌, ◌*◌, ◌≤◌, List, length, take}
 use Rattle.ion_model.specs.declared.value.Value.{Value}
 use Rattle.ion_model.specs.declared.value.Field.{Field}
-use Rattle.ion_binary.specs.visiting.Visits.{VisitedItems, VisitedFields}
+use Rattle.ion_visiting.specs.Visits.{VisitedItems, VisitedFields}
 use Rattle.ion_binary.specs.Grammar.{Sequence, Fields}
 use Rattle.ion_binary.specs.Depths.{depths, field_depths}
 use Rattle.ion_binary.proofs.walk.+walk.Given as goal

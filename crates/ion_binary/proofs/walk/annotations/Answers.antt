@@ -1,7 +1,7 @@
 use Rattle.std.proofs.Common.{◌≡◌, ◌-◌, ◌≤◌, ◌++◌, ◌∷◌, [], false, length, take, drop, ◌∙◌, sym, subst, arith}
 use Rattle.std.proofs.lemmas.Grind.{common_steps}
 use Rattle.ion_model.specs.Kinds.{names_table}
-use Rattle.ion_binary.specs.visiting.Visits.{no_annotations, one_annotation}
+use Rattle.ion_visiting.specs.Visits.{no_annotations, one_annotation}
 use Rattle.ion_binary.specs.Grammar.{Ids, no_ids}
 use Rattle.ion_binary.proofs.Leading.{whole_rest}
 use Rattle.ion_binary.proofs.Wholes.{ids_more, within_more, take_whole}

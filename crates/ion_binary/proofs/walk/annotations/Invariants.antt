@@ -1,5 +1,5 @@
 use Rattle.std.proofs.Common.{◌≤◌, ℕ, List, Option, length, take}
-use Rattle.ion_binary.specs.visiting.Visits.{VisitedAnnotations}
+use Rattle.ion_visiting.specs.Visits.{VisitedAnnotations}
 use Rattle.ion_binary.specs.Grammar.{Ids}
 use Rattle.ion_binary.specs.machine.Walked.{NoTable}
 use Rattle.ion_binary.proofs.walk.annotations.Given as goal
