@@ -1,5 +1,7 @@
 //! Whether two documents carry the same data, and else where they part.
-use ion::{Catalog, Fault, FromRead, Limits, Side, Verdict, compare, position_of, spelling_of_path};
+use ion::{
+    Catalog, Fault, FromRead, Limits, Side, Verdict, compare, position_of, spelling_of_path,
+};
 use std::alloc::Global;
 
 /// Says in a line what `compare` answers of two documents.
