@@ -90,6 +90,54 @@ fn a_text_is_held(rt: HostRuntime) {
     same(&rt, "step", found, Ok(Ok((3, false, true))));
 }
 
+/// How many octets a step of a reader that has used nothing yet uses, whether it gives a value, and how many octets are held then.
+fn kept_behind<'a>(
+    reader: &mut TextReader<'a>,
+    octets: &[u8; 15],
+) -> Result<(usize, bool, usize), Refusal>
+    requires taken { ⟦<TextReader<'a> as Items>⟧.taken reader.old ≡ 0 }
+    requires awaits { IsNone (⟦<TextReader<'a> as Items>⟧.awaits reader.old) }
+{
+    match reader.step(octets) {
+        Ok(step) => {
+            let (used, gives) = (step.used, step.value.is_some());
+            drop(step);
+            Ok((used, gives, reader.held()))
+        }
+        Err(refusal) => Err(refusal),
+    }
+}
+
+/// What a step of a text uses and gives under a limit of octets, and whether it holds some behind it and no more than that limit.
+fn read_within(
+    alloc: Global,
+    catalog: &Catalog,
+    limits: Limits,
+    octets: [u8; 15],
+) -> Result<Result<Held, Refusal>, Reason> {
+    let mut reader = TextReader::new(alloc, catalog, limits)?;
+    let step = kept_behind(&mut reader, &octets);
+    drop(reader);
+    match step {
+        Ok((used, gives, kept)) => Ok(Ok((used, gives, kept > 0 && kept as u64 <= limits.item))),
+        Err(refusal) => Ok(Err(refusal)),
+    }
+}
+
+/// An open string in a list, not of ASCII alone, is kept once: the octets held are no more than an item may have.
+#[test]
+fn an_open_string_is_kept_once(rt: HostRuntime) {
+    let catalog = Catalog::new(rt.alloc());
+    let found = match Limits::usual().with_item(16) {
+        Some(limits) => {
+            Some(read_within(rt.alloc(), &catalog, limits, *b"[\"\xC3\xA9abcdefghijk"))
+        }
+        None => None,
+    };
+    drop(catalog);
+    same(&rt, "step", found, Some(Ok(Ok((15, false, true)))));
+}
+
 /// What a step refuses, and what the step behind it answers.
 type Refused = Option<(Refusal, Result<Held, Refusal>)>;
 

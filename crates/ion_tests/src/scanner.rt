@@ -12,6 +12,8 @@ enum Given {
     Nothing,
     LentWord,
     OwnedWord,
+    LentOperator,
+    OwnedOperator,
     Other,
 }
 
@@ -26,16 +28,18 @@ fn told(token: &Option<Token>) -> Given {
     match &token.body {
         Body::Word(CowStr::Borrowed(_)) => Given::LentWord,
         Body::Word(CowStr::Owned(_)) => Given::OwnedWord,
+        Body::Operator(CowStr::Borrowed(_)) => Given::LentOperator,
+        Body::Operator(CowStr::Owned(_)) => Given::OwnedOperator,
         _ => Given::Other,
     }
 }
 
-/// Takes up a piece at the top level, unless it is far too long.
-fn step(scanner: &mut Scanner, piece: &[u8]) -> Option<Result<Stepped, Refusal>> {
+/// Takes up a piece, unless it is far too long.
+fn step(scanner: &mut Scanner, piece: &[u8], place: Place) -> Option<Result<Stepped, Refusal>> {
     if scanner.used() > 1 << 40 || piece.len() > 1 << 40 {
         return None;
     }
-    match scanner.step(piece, Place::Top) {
+    match scanner.step(piece, place) {
         Ok(scan) => {
             let stepped = (scan.used, told(&scan.token), scanner.left());
             drop(scan);
@@ -45,9 +49,9 @@ fn step(scanner: &mut Scanner, piece: &[u8]) -> Option<Result<Stepped, Refusal>>
     }
 }
 
-/// The same, where only the number of octets used is asked for.
+/// The same at the top level, where only the number of octets used is asked for.
 fn used(scanner: &mut Scanner, piece: &[u8]) -> Option<Result<usize, Refusal>> {
-    match step(scanner, piece)? {
+    match step(scanner, piece, Place::Top)? {
         Ok((count, _, _)) => Some(Ok(count)),
         Err(refusal) => Some(Err(refusal)),
     }
@@ -185,11 +189,11 @@ fn foresees(rt: &impl Abort, scanner: &Scanner, shown: &[(u8, Foresight)]) {
     }
 }
 
-/// Each piece in turn gives what stands beside it.
-fn gives(rt: &impl Abort, alloc: Global, rows: &[(&[u8], Stepped)]) {
+/// Each piece in turn gives in that place what stands beside it.
+fn gives(rt: &impl Abort, alloc: Global, place: Place, rows: &[(&[u8], Stepped)]) {
     let mut scanner = Scanner::new(alloc);
     for (piece, wanted) in rows {
-        let found = step(&mut scanner, *piece);
+        let found = step(&mut scanner, *piece, place);
         same(rt, *piece, found, Some(Ok(*wanted)));
     }
     drop(scanner);
@@ -204,7 +208,7 @@ static LEFT: [(&[u8], Stepped); 3] = [
 /// Where an octet ended a token and isn't part of it, the step says so.
 #[test]
 fn left_octets(rt: HostRuntime) {
-    gives(&rt, rt.alloc(), &LEFT);
+    gives(&rt, rt.alloc(), Place::Top, &LEFT);
 }
 
 static LENT: [(&[u8], Stepped); 3] = [
@@ -216,5 +220,17 @@ static LENT: [(&[u8], Stepped); 3] = [
 /// A word whole in its piece is lent, and one that two pieces gave is owned.
 #[test]
 fn lent_words(rt: HostRuntime) {
-    gives(&rt, rt.alloc(), &LENT);
+    gives(&rt, rt.alloc(), Place::Top, &LENT);
+}
+
+static LENT_OPERATORS: [(&[u8], Stepped); 3] = [
+    (b"+ ", (1, Given::LentOperator, true)),
+    (b" -", (2, Given::Nothing, false)),
+    (b" ", (0, Given::OwnedOperator, true)),
+];
+
+/// An operator whole in its piece is lent too, and one that began in an earlier piece is owned.
+#[test]
+fn lent_operators(rt: HostRuntime) {
+    gives(&rt, rt.alloc(), Place::Sexp, &LENT_OPERATORS);
 }
