@@ -5,6 +5,8 @@
 #[cfg(test)]
 mod alike;
 #[cfg(test)]
+mod alike_texts;
+#[cfg(test)]
 mod answers;
 #[cfg(test)]
 mod devices;
