@@ -30,8 +30,8 @@ impl Display for Decimal {
     }
 }
 
-/// To the precision: `2007T`, `2007-02T`, `2007-02-23`, `2007-02-23T12:14Z`; behind `Z`'s place the offset as in
-/// `+01:00`, and `-00:00` where it is unknown.
+/// To the precision: `2007T`, `2007-02T`, `2007-02-23`, `2007-02-23T12:14Z`. In place of `Z` stands another offset, as in
+/// `+01:00`, or `-00:00` where it is unknown.
 impl Display for Timestamp {
     ghost output = { λ timestamp. Some (timestamp_text timestamp) };
 
