@@ -1,5 +1,5 @@
 #!/usr/bin/env python3
-"""Where the gate's processor time goes, by crate: bench/gate.py [COMMAND..], `rt ci --anew` at the top if none is given.
+"""Where the gate's processor time goes, by crate: bench/gate.py [COMMAND..], at the top; `.ci/run` if none is given.
 
 Runs the command, looks once a second at the processes that it started, and prints minutes of processor time: of the proof
 of each crate, of its tests, of the second proof with which its edits begin, and of its edits. What ends within a second is
@@ -71,7 +71,7 @@ def sampled(command):
 
 def main():
     begun, before = time.monotonic(), machine()
-    status, rows = sampled(sys.argv[1:] or ["rt", "ci", "--anew"])
+    status, rows = sampled(sys.argv[1:] or ["sh", ".ci/run"])
     sums = collections.defaultdict(collections.Counter)
     for (crate, kind), spent in rows:
         sums[crate][kind] += spent / TICKS / 60
