@@ -2,9 +2,9 @@
 """Does what the documents cite stand where they say? Of docs/PROVED.md each row's functions, clauses and definitions in the
 files of the row; of README and all of docs/ each path. Prints what it doesn't find, and ends with 1 then."""
 import functools
-import glob
 import os
 import re
+import subprocess
 import sys
 
 ROOT = os.path.dirname(os.path.dirname(os.path.abspath(__file__)))
@@ -13,13 +13,14 @@ PATH = re.compile(r"(^[\w.-]*/[\w./-]*$)|\.(rt|antt|py|sh|md|txt|rs|yml|h|c|10n|
 FUNCTION = re.compile(r"\s*(?:pub(?:\([a-z]+\))? )?(?:const )?(?:extern \"C\" )?fn (\w+)")
 
 
-def committed_files():
-    found = [p for top in ("crates", "docs", "tests", "tools", "bench", "bindings", "examples", ".ci")
-             for p in glob.glob(f"{ROOT}/{top}/**/*", recursive=True)]
-    return {os.path.relpath(p, ROOT) + ("/" if os.path.isdir(p) else "") for p in found + glob.glob(f"{ROOT}/*")}
+def files_and_folders():
+    words = ["git", "-C", ROOT, "ls-files", "--cached", "--others", "--exclude-standard"]
+    found = set(subprocess.run(words, check=True, stdout=subprocess.PIPE, text=True).stdout.split())
+    parts = [path.split("/")[:-1] for path in found]
+    return found | {"/".join(part[:n]) + "/" for part in parts for n in range(1, len(part) + 1)}
 
 
-FILES = committed_files()
+FILES = files_and_folders()
 
 
 @functools.lru_cache(maxsize=None)
