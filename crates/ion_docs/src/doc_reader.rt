@@ -232,6 +232,8 @@ impl Items for DocReader<'_> {
 
     ghost no_tables = { λ g l u. (promised g l u).no_tables };
 
+    ghost ends_values = { λ g l u. (promised g l u).ends_values };
+
     fn step(&mut self, piece: &[u8]) -> Result<Step, Refusal> {
         match &mut self.format {
             Format::Refused(refusal) => Err(*refusal),

@@ -96,3 +96,8 @@ NoTables (v ∷ vs) = (is_table v ≡ false) × NoTables vs
 pub record GivesNoTable (t : Trace) : Type 0 where
   pub given : NoTables (plain t.given)
   pub last : (v : Value) → t.ends ≡ Ok (Some v) → is_table v ≡ false
+
+-- where the end of these octets would give a value, the value that the octet behind them gives came before that octet
+abbrev pub EndsValues : (List ℕ → Trace) → List ℕ → Type 0
+EndsValues trace u = (o : ℕ) (last v : Value) (total : ℕ) (later : List (Value × ℕ)) → (trace u).ends ≡ Ok (Some last)
+    → (trace (u ++ o ∷ [])).given ≡ (trace u).given ++ (v, total) ∷ later → total ≡ length u

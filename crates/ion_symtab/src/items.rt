@@ -5,7 +5,7 @@ ghost use Rattle.ion_model.specs.Measures.{nodes};
 ghost use Rattle.ion_model.specs.Outlines.{outline_of};
 ghost use Rattle.ion_atoms.specs.declared.refusal.Reason.TheVariants.{Memory};
 ghost use Rattle.ion_symtab.specs.Trace.{Trace, Answers, Finishes, UsesAll, Grows, Streams, IsFront, plain, given_at};
-ghost use Rattle.ion_symtab.specs.Promises.{Refuses, IsFirst, HasPieces, Shown, Shows, IsSmall, HasReasons, GivesNoTable};
+ghost use Rattle.ion_symtab.specs.Promises.{Refuses, IsFirst, HasPieces, Shown, Shows, IsSmall, HasReasons, GivesNoTable, EndsValues};
 
 use ion_model::{Outline, Refusal, Value};
 
@@ -308,4 +308,8 @@ pub trait Items: Sized {
 
     /// A local symbol table where one may stand is no value: it changes what symbol ids stand for.
     ghost no_tables: { (g : Catalog) (l : Limits) (u : List ℕ) → GivesNoTable (trace g l u) };
+
+    /// A value comes with its last octet, or before the one that shows its end: where the end of the
+    /// octets would give a value, the value that the next octet gives came before that octet.
+    ghost ends_values: { (g : Catalog) (l : Limits) (u : List ℕ) → EndsValues (trace g l) u };
 }

@@ -10,7 +10,7 @@ ghost use Rattle.ion_model.specs.Measures.{nodes};
 ghost use Rattle.ion_symtab.specs.declared.limits.Limits.{Limits};
 ghost use Rattle.ion_symtab.specs.Slots.{Slot};
 ghost use Rattle.ion_symtab.specs.Tables.{Table};
-ghost use Rattle.ion_symtab.specs.Promises.{GivesNoTable, HasPieces, HasReasons, IsFirst, IsSmall, NoTables, Refuses, Shown, Shows};
+ghost use Rattle.ion_symtab.specs.Promises.{EndsValues, GivesNoTable, HasPieces, HasReasons, IsFirst, IsSmall, NoTables, Refuses, Shown, Shows};
 ghost use Rattle.ion_symtab.specs.Trace.{Grows, Streams, plain};
 ghost use Rattle.ion_symtab.specs.laws.ContextTexts.{AreTextTables};
 ghost use Rattle.ion_tokens.specs.declared.mode.Place.{Place};
@@ -98,10 +98,7 @@ pub fn reading_is_small()
 /// A value comes with its last octet, or before the one that shows its end: where the end of the octets would
 /// give a value, the value that the next octet gives came before that octet.
 pub fn reading_ends_values()
-    ensures { (g : List Table) (l : Limits) (u : List ℕ) (o : ℕ) (last v : Value)
-        (total : ℕ) (later : List (Value × ℕ)) → (trace g l u).ends ≡ Ok (Some last) →
-        (trace g l (u ++ o ∷ [])).given ≡ (trace g l u).given ++ (v, total) ∷ later →
-        total ≡ length u }
+    ensures { (g : List Table) (l : Limits) (u : List ℕ) → EndsValues (trace g l) u }
 {}
 
 /// Octets show one stream: the values of the longest whole pieces at their front, whatever follows.

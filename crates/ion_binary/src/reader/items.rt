@@ -103,7 +103,7 @@ impl Items for BinaryReader<'_> {
     ghost use Rattle.ion_binary.specs.Grammar.{Document, Whole, OpenRest};
     ghost use Rattle.ion_binary.specs.machine.Run.{trace};
     ghost use Rattle.ion_binary.specs.machine.Views.{Stands, body_so_far};
-    ghost use Rattle.ion_binary.specs.laws.reading.Promises.{exact, one_stream, one_shown, refused, decided, documents_are_pieces, pieces_are_documents, shown, unfinished, reasons, small, grows, no_tables};
+    ghost use Rattle.ion_binary.specs.laws.reading.Promises.{exact, one_stream, one_shown, refused, decided, documents_are_pieces, pieces_are_documents, shown, unfinished, reasons, small, grows, no_tables, ends_values};
     ghost use Rattle.ion_binary.specs.laws.reading.Apart.{nodes_between};
     ghost use Rattle.ion_binary.specs.laws.reading.Standing.{given_of, not_failed, not_refused, bounded};
 
@@ -170,6 +170,8 @@ impl Items for BinaryReader<'_> {
     ghost nodes_between = { λ g l front span behind. nodes_between g l front span };
 
     ghost no_tables = { no_tables };
+
+    ghost ends_values = { ends_values };
 
     fn step(&mut self, piece: &[u8]) -> Result<Step, Refusal> {
         if let Some(refusal) = self.failed {

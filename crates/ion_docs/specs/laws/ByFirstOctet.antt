@@ -3,7 +3,7 @@ use Rattle.std.proofs.Common.{◌≡◌, ◌↔◌, ℕ, zero, suc, List, [], �
 use Rattle.ion_model.specs.declared.value.Value.{Value}
 use Rattle.ion_atoms.specs.declared.refusal.Refusal.{Refusal}
 use Rattle.ion_symtab.specs.Trace.{Trace, Streams, Grows, plain}
-use Rattle.ion_symtab.specs.Promises.{Refuses, BeginsNone, IsFirst, Shown, Shows, IsSmall, HasReasons, GivesNoTable}
+use Rattle.ion_symtab.specs.Promises.{Refuses, BeginsNone, IsFirst, Shown, Shows, IsSmall, HasReasons, GivesNoTable, EndsValues}
 use Rattle.ion_streams.specs.Formats.{Format}
 
 -- what is promised of these octets, of which a reader of the format says t
@@ -17,6 +17,7 @@ pub record Promised (F : Format) (open_after : List ℕ → List ℕ → Type 0)
   pub reasons : HasReasons t
   pub small : IsSmall item u t
   pub no_tables : GivesNoTable t
+  pub ends_values : EndsValues F.trace u
 
 module _ (F D : Format) (open_f open_d : List ℕ → List ℕ → Type 0) (first : ℕ) where
   -- octets that begin with this one mean the same in both formats, and the first format has documents
@@ -77,6 +78,12 @@ module _ (F D : Format) (open_f open_d : List ℕ → List ℕ → Type 0) (firs
     shows_there : (w : List ℕ) (s : List Value) → Shows F.pieces open_f (first ∷ w) s → Shows D.pieces open_d (first ∷ w) s
     shows_there w s h = record { shown = shown_there w s h.shown; rest = alike.rests h.shown.front h.shown.open_rest w (sym h.shown.parts) h.rest }
 
+    ends_values_there : (w : List ℕ) → EndsValues F.trace (first ∷ w) → EndsValues D.trace (first ∷ w)
+    ends_values_there w h o last v total later ends given =
+        let before = alike.same w in
+        h o last v total later (ap (λ (t : Trace). t.ends) before ∙ ends)
+        (ap (λ (t : Trace). t.given) (alike.same (w ++ o ∷ [])) ∙ (given ∙ ap (λ (t : Trace). t.given ++ (v, total) ∷ later) (sym before)))
+
     -- the promises carry over
     pub carried : (item : ℕ) (w : List ℕ) → Promised F open_f item (first ∷ w) (F.trace (first ∷ w)) → Promised D open_d item (first ∷ w) (D.trace (first ∷ w))
     carried item w h = subst (Promised D open_d item (first ∷ w)) (alike.same w) (record {
@@ -89,4 +96,5 @@ module _ (F D : Format) (open_f open_d : List ℕ → List ℕ → Type 0) (firs
       reasons = h.reasons;
       small = h.small;
       no_tables = h.no_tables;
+      ends_values = ends_values_there w h.ends_values;
     })

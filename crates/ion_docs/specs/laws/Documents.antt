@@ -22,6 +22,7 @@ use Rattle.ion_text.specs.laws.showing.Once as text_once
 use Rattle.ion_text.specs.laws.showing.Apart as text_apart
 use Rattle.ion_text.specs.laws.showing.Given as text_given
 use Rattle.ion_text.specs.laws.showing.Refusing as text_refusing
+use Rattle.ion_text.specs.laws.showing.Unused as text_unused
 use Rattle.ion_docs.specs.Documents.{is_binary, Denotes, in_binary, in_text, Pieces, binary_pieces, text_pieces, OpenAfter, binary_rest, text_rest}
 use Rattle.ion_docs.specs.reading.Chosen.{chosen}
 use Rattle.ion_docs.specs.Formats.{documents}
@@ -66,6 +67,7 @@ module _ (g : Catalog) (l : Limits) where
     reasons = binary_laws.reasons g l u;
     small = binary_laws.small g l u;
     no_tables = binary_laws.no_tables g l u;
+    ends_values = binary_laws.ends_values g l u;
   }
 
   text_promised : (u : List ℕ) → Promised in_text_alone (λ front rest. text.OpenRest l rest) l.item u (text_run.trace g l u)
@@ -79,6 +81,7 @@ module _ (g : Catalog) (l : Limits) where
     reasons = text_laws.has_reasons g l u;
     small = text_small.is_small g l u;
     no_tables = text_stops.no_tables g l u;
+    ends_values = text_unused.at_its_end g l u;
   }
 
   -- 3. Of octets that begin with E0, and of those that begin with another.
@@ -167,6 +170,7 @@ module _ (g : Catalog) (l : Limits) where
         reasons = h.reasons;
         small = h.small;
         no_tables = h.no_tables;
+        ends_values = λ o last v total later ends given. absurd cc;
       }
 
   -- 5. So of all octets.

@@ -95,6 +95,7 @@ impl Items for TextReader<'_> {
     ghost use Rattle.ion_text.specs.laws.showing.Once.{one_shown};
     ghost use Rattle.ion_text.specs.laws.showing.Given.{shown};
     ghost use Rattle.ion_text.specs.laws.showing.Refusing.{refuses};
+    ghost use Rattle.ion_text.specs.laws.showing.Unused.{at_its_end};
 
     ghost catalog = { λ r. r.catalog.now };
 
@@ -159,6 +160,8 @@ impl Items for TextReader<'_> {
     ghost nodes_between = { nodes_between };
 
     ghost no_tables = { no_tables };
+
+    ghost ends_values = { at_its_end };
 
     fn step(&mut self, piece: &[u8]) -> Result<Step, Refusal> {
         if let Some(refusal) = self.failure() {

@@ -10,7 +10,7 @@ use Rattle.ion_symtab.specs.declared.limits.Limits.{Limits}
 use Rattle.ion_symtab.specs.declared.catalog.Catalog.{Catalog}
 use Rattle.ion_symtab.specs.Slots.{Slot}
 use Rattle.ion_symtab.specs.Trace.{Streams, Grows, plain}
-use Rattle.ion_symtab.specs.Promises.{Refuses, BeginsNone, IsFirst, HasPieces, Shown, Shows, IsSmall, Spaced, IsReadersReason, HasReasons, NoTables, GivesNoTable}
+use Rattle.ion_symtab.specs.Promises.{Refuses, BeginsNone, IsFirst, HasPieces, Shown, Shows, IsSmall, Spaced, IsReadersReason, HasReasons, NoTables, GivesNoTable, EndsValues}
 use Rattle.ion_symtab.specs.laws.Promises.{first_refused, shown_once}
 use Rattle.ion_symtab.specs.Decided.{IsDecided}
 use Rattle.ion_binary.specs.declared.state.Frame.{Frame}
@@ -334,3 +334,7 @@ values_now g l u (Err r) e = let p = stop_of g l 0 initial u r e in given_values
 -- no value given is a local symbol table
 pub no_tables : (g : Catalog) (l : Limits) (u : List ℕ) → GivesNoTable (trace g l u)
 no_tables g l u = record { given = values_now g l u (run g l 0 initial u).now refl; last = λ v h. absurd (no_last (run g l 0 initial u).now v h) }
+
+-- a value comes with its last octet, so the end gives none
+pub ends_values : (g : Catalog) (l : Limits) (u : List ℕ) → EndsValues (trace g l) u
+ends_values g l u o last v total later ends given = absurd (no_last (run g l 0 initial u).now last ends)
