@@ -157,7 +157,7 @@ impl<S: BuildHasher + Drop> BinaryWriter<S> {
     pub fn finish<W: Outlet>(self, out: &mut W) -> Result<(), Fault>
         ensures ok { OnOk result (Took W.took W.written out.old out.new (opening self.progress.begun)) }
         ensures passed_on { OnOk result (W.passed out.new ≡ W.written out.new) }
-        ensures fine { OnOk result (W.has_failed out.new ≡ false) }
+        ensures no_write_failed { OnOk result (W.has_failed out.new ≡ false) }
         ensures front { OnErr result (TookFront W.took W.written out.old out.new (opening self.progress.begun)) }
         ensures cause { self.failed ≡ None → IfErr result (λ fault. (fault ≡ faults.Write) × (W.has_failed out.new ≡ true)) }
         ensures again { (fault : AnyFault) → self.failed ≡ Some fault → (result ≡ Err fault) × (out.new ≡ out.old) }

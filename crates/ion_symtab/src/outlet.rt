@@ -1,6 +1,7 @@
 //! Devices that octets go to.
 ghost use Rattle.std.specs.Prelude.{◌≡◌, ℕ, ◌<◌, ◌≤◌, Bool, true, false, Option, List, [], length, take, IfOk, OnOk, OnErr, is_err, IsErr};
 ghost use Rattle.ion_symtab.specs.Took.{Took};
+ghost use Rattle.ion_symtab.specs.kept.ToWrite.{writer_of};
 
 use crate::history::History;
 use crate::inlet::Failed;
@@ -70,6 +71,7 @@ pub struct ToWrite<W> {
 impl<W: Write> ToWrite<W> {
     /// The device that passes on to `inner`; no write is made yet.
     pub fn new(inner: W) -> ToWrite<W>
+        ensures writer { writer_of result ≡ inner }
         ensures took { ⟦<ToWrite<W> as Outlet>⟧.took result ≡ W.contents inner }
         ensures written { ⟦<ToWrite<W> as Outlet>⟧.written result ≡ [] }
         ensures passed { ⟦<ToWrite<W> as Outlet>⟧.passed result ≡ [] }
@@ -85,7 +87,8 @@ impl<W: Write> ToWrite<W> {
 
     /// The writer, with what it took.
     pub fn into_inner(self) -> W
-        ensures { W.contents result ≡ ⟦<ToWrite<W> as Outlet>⟧.took self }
+        ensures writer { result ≡ writer_of self }
+        ensures took { W.contents result ≡ ⟦<ToWrite<W> as Outlet>⟧.took self }
     {
         let ToWrite {
             inner,
@@ -98,7 +101,7 @@ impl<W: Write> ToWrite<W> {
 }
 
 impl<W: Write> Outlet for ToWrite<W> {
-    ghost use Rattle.ion_symtab.specs.kept.ToWrite.{writer_of, failed_of, written_of, passed_of};
+    ghost use Rattle.ion_symtab.specs.kept.ToWrite.{failed_of, written_of, passed_of};
 
     ghost took = { λ device. W.contents (writer_of device) };
 

@@ -11,6 +11,8 @@ use crate::outlet::Outlet;
 /// them, and nothing else.
 pub fn write_whole<W: Outlet>(writer: &mut W, octets: &[u8]) -> Result<(), Fault>
     ensures whole { OnOk result (Took W.took W.written writer.old writer.new octets.now) }
+    ensures no_write_failed { OnOk result (W.has_failed writer.old ≡ false →
+        W.has_failed writer.new ≡ false) }
     ensures front { OnErr result (TookFront W.took W.written writer.old writer.new octets.now) }
     ensures not_passed { W.passed writer.new ≡ W.passed writer.old }
     ensures cause { IfErr result (λ fault. (fault ≡ Fault.Write) × (W.has_failed writer.new ≡ true)) }
@@ -30,7 +32,7 @@ pub fn write_whole<W: Outlet>(writer: &mut W, octets: &[u8]) -> Result<(), Fault
 /// `Write`, and no other fault, where the flush failed. On both answers what was taken stays.
 pub fn flushed<W: Outlet>(writer: &mut W) -> Result<(), Fault>
     ensures passed_on { OnOk result (W.passed writer.new ≡ W.written writer.new) }
-    ensures fine { OnOk result (W.has_failed writer.new ≡ false) }
+    ensures no_write_failed { OnOk result (W.has_failed writer.new ≡ false) }
     ensures kept { Took W.took W.written writer.old writer.new [] }
     ensures not_passed { OnErr result (W.passed writer.new ≡ W.passed writer.old) }
     ensures cause { IfErr result (λ fault. (fault ≡ Fault.Write) × (W.has_failed writer.new ≡ true)) }

@@ -82,7 +82,7 @@ impl TextWriter {
     pub fn finish<W: Outlet>(self, out: &mut W) -> Result<(), Fault>
         ensures kept { Took W.took W.written out.old out.new [] }
         ensures passed_on { OnOk result (W.passed out.new ≡ W.written out.new) }
-        ensures fine { OnOk result (W.has_failed out.new ≡ false) }
+        ensures no_write_failed { OnOk result (W.has_failed out.new ≡ false) }
         ensures cause { self ≡ None
             → IfErr result (λ fault. (fault ≡ faults.Write) × (W.has_failed out.new ≡ true)) }
         ensures again { (fault : AnyFault) → self ≡ Some fault
