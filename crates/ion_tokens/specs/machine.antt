@@ -4,6 +4,7 @@ pub mod Bounds
 pub mod AtOnce
 pub mod Foreseen
 pub mod Lent
+pub mod Machines
 pub mod Rests
 pub mod Said
 pub mod Scanned

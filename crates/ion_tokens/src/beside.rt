@@ -71,7 +71,7 @@ impl TokenReader {
 }
 
 impl Machine {
-    ghost use Rattle.ion_tokens.specs.machine.Views.{known, lexeme_in};
+    ghost use Rattle.ion_tokens.specs.machine.Machines.{known, lexeme_in};
 
     // The token at the front of octets, where it rests. Then no octets are kept of an open one.
     fn token(&mut self, place: Place, rest: Rest, octets: &[u8]) -> Option<FoundToken>

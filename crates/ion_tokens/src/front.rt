@@ -4,7 +4,7 @@ ghost use Rattle.std.specs.List.{take_while};
 ghost use Rattle.ion_tokens.specs.Octets.{is_white, is_word_octet};
 ghost use Rattle.ion_tokens.specs.Lexemes.{Each};
 ghost use Rattle.ion_tokens.specs.machine.AtOnce.{is_between, is_plain, is_raw, is_numeric, goes_on, keeps_them, gone_on, AreKept, GoesOver};
-ghost use Rattle.ion_tokens.specs.machine.Views.{known};
+ghost use Rattle.ion_tokens.specs.machine.Machines.{known};
 
 use crate::lanes::{number_ends, raw_ends, text_ends, word_ends};
 use crate::machine::{Machine, start_of};

@@ -4,7 +4,7 @@ ghost use Rattle.ion_atoms.specs.declared.refusal.Reason.TheVariants.{Memory};
 ghost use Rattle.ion_tokens.specs.machine.Scanning.{feed, run, at_end, kept_after, start_of, left_of, takes_colon, cut, past, go_to, initial, acts, blob_ends, split_at};
 ghost use Rattle.ion_tokens.specs.Blobs.{blob_of};
 ghost use Rattle.ion_tokens.specs.machine.Bounds.{IsSteady, StaysSteady, taken_up};
-ghost use Rattle.ion_tokens.specs.machine.Views.{known, lexeme_in, outcome_in, found_in};
+ghost use Rattle.ion_tokens.specs.machine.Machines.{known, lexeme_in, outcome_in, found_in};
 
 use crate::blob::decoded;
 use crate::mode::{Action, End, Keep, Lob, Mode, Place, TokenKind};

@@ -1,25 +1,13 @@
 //! The scanner, to which the octets come in pieces.
-ghost use Rattle.std.specs.Prelude.{◌≡◌, ◌≢◌, ◌+◌, ◌-◌, ◌*◌, ◌≤◌, ◌<◌, ◌^◌, length, ◌++◌, [], OnOk, IfOk, IfErr, IfSome, IfNone, IsNone, None, List, ℕ, true, false, take, min};
-ghost use Rattle.ion_atoms.specs.declared.refusal.Reason.TheVariants.{Memory};
-ghost use Rattle.ion_tokens.specs.declared.mode.Place.{Place};
-ghost use Rattle.ion_tokens.specs.machine.Scanning.{Known, Next, run, at_end, initial, cut, acts, feed, start_of};
-ghost use Rattle.ion_tokens.specs.machine.Bounds.{is_idle, debt, IsSteady, StaysSteady};
-ghost use Rattle.ion_tokens.specs.Bodies.{content, IsBody};
-ghost use Rattle.ion_tokens.specs.machine.Views.{known, lexeme_in, scanned, failure, left_in, looks, behind, form_of, begun_in, held_in, open_in, foresight};
-ghost use Rattle.ion_tokens.specs.machine.AtOnce.{GoesOver};
-ghost use Rattle.ion_tokens.specs.Lexed.{Placed};
-ghost use Rattle.ion_tokens.specs.machine.Foreseen.{Foresees};
-ghost use Rattle.ion_tokens.specs.machine.Lent.{StandIn, BorrowsAt, LendsWhole, OwnsLast};
-ghost use Rattle.ion_tokens.specs.machine.Rests.{resting};
-ghost use Rattle.ion_tokens.specs.machine.Scanned.{Scanned, Goes, RefusesAt, EndsWith, NeverEnds, EndsFor, AlwaysShows};
-ghost use Rattle.ion_tokens.specs.machine.Traces.{Places, IsTraced, AnswersTrace, EndsTrace};
-ghost use Rattle.ion_tokens.specs.machine.Steps.{answered, stepped, Answers, Ends, IsToken, GivesToken, RefusesToken, IsWithin, deciding, is_step_reason};
+ghost use Rattle.std.specs.Prelude.{◌≡◌, None};
+ghost use Rattle.ion_tokens.specs.machine.Bounds.{IsSteady};
+ghost use Rattle.ion_tokens.specs.machine.Machines.{known};
 
-use crate::body::body_of;
-use crate::machine::{Lexeme, Machine, Taken, start_of};
-use crate::mode::{Action, Mark, Mode, Place, Style, TokenKind};
+use crate::begun::{is_idle, shown};
+use crate::machine::{Machine, start_of};
+use crate::mode::{Mode, Place};
 use crate::table::next;
-use crate::token::{Begun, Body, Foresight, Form, Scan, Token};
+use crate::token::{Begun, Foresight, Scan, Token};
 use crate::whole::Rest;
 use ion_atoms::{Reason, Refusal};
 use std::alloc::Global;
@@ -34,6 +22,8 @@ pub struct Scanner {
     machine: Machine,
     /// The refusal that each call answers from now on.
     failed: Option<Refusal>,
+    /// What the machine knows, with the octets that it took up, unless a call was refused.
+    pub ghost steady: { failed ≡ None → IsSteady (known machine) machine.looked },
 }
 
 impl Debug for Scanner {
@@ -42,170 +32,21 @@ impl Debug for Scanner {
     }
 }
 
-// Where a token's octets stand in the piece behind `before` octets, if they stand there.
-fn lent<'p>(piece: &'p [u8], before: u64, lexeme: Lexeme) -> &'p [u8]
-    ensures { StandIn before lexeme.start lexeme.end piece.now result.now }
-{
-    match (
-        lexeme.start.checked_sub(before),
-        lexeme.end.checked_sub(before),
-    ) {
-        (Some(start), Some(end)) => piece.get(start as usize..end as usize).unwrap_or(&[]),
-        _ => &[],
-    }
-}
-
-impl Machine {
-    // Judges the token that ended last, at the octet `decided`. It needs much room, for which marks are not to pay.
-    #[inline(never)]
-    fn judged<'p>(
-        &mut self,
-        lexeme: Lexeme,
-        before: u64,
-        decided: u64,
-        piece: &'p [u8],
-    ) -> Result<Token<'p>, Refusal>
-        ensures ok { IfOk result (λ token. IsToken (lexeme_in lexeme self.old) token) }
-        ensures err { IfErr result (λ refusal. refusal.reason ≢ Memory →
-            RefusesToken (lexeme_in lexeme self.old) decided refusal) }
-        ensures memory { IfErr result (λ refusal. refusal.reason ≡ Memory →
-            refusal.offset ≡ before) }
-        ensures known { known self.new ≡ known self.old }
-        ensures looked { self.new.looked ≡ self.old.looked }
-        ensures left { self.new.left ≡ self.old.left }
-        ensures lends { IfOk result (λ token.
-            BorrowsAt before token.start token.end piece.now token.body) }
-    {
-        let Lexeme { start, end, kind } = lexeme;
-        let lent = lent(piece, before, lexeme);
-        match body_of(self.alloc, kind, &mut self.ended, lent) {
-            Ok(body) => Ok(Token { start, end, body }),
-            Err(Reason::Memory) => Err(Refusal {
-                offset: before,
-                reason: Reason::Memory,
-            }),
-            Err(reason) => Err(Refusal {
-                offset: decided,
-                reason,
-            }),
-        }
-    }
-
-    // Judges the token to which a step led, and which an octet ended that is left or not.
-    fn given<'p>(
-        &mut self,
-        lexeme: Lexeme,
-        before: u64,
-        left: bool,
-        piece: &'p [u8],
-    ) -> Result<Scan<'p>, Refusal>
-        requires before { before ≤ self.old.used }
-        requires room { self.old.used < 2 ^ 63 }
-        ensures ok { IfOk result (λ scan. GivesToken (lexeme_in lexeme self.old) scan.token ×
-            (self.old.used ≡ before + scan.used)) }
-        ensures err { IfErr result (λ refusal. refusal.reason ≢ Memory →
-            RefusesToken (lexeme_in lexeme self.old) (deciding self.old.used left) refusal) }
-        ensures memory { IfErr result (λ refusal. refusal.reason ≡ Memory →
-            refusal.offset ≡ before) }
-        ensures known { known self.new ≡ known self.old }
-        ensures looked { self.new.looked ≡ self.old.looked }
-        ensures left { self.new.left ≡ left }
-        ensures lends { IfOk result (λ scan. IfSome scan.token (λ token.
-            BorrowsAt before token.start token.end piece.now token.body)) }
-    {
-        self.left = left;
-        let used = (self.used - before) as usize;
-        if let TokenKind::Mark(mark) = lexeme.kind {
-            let token = Token {
-                start: lexeme.start,
-                end: lexeme.end,
-                body: Body::Mark(mark),
-            };
-            return Ok(Scan {
-                used,
-                token: Some(token),
-            });
-        }
-        let decided = if left { self.used + 1 } else { self.used };
-        let token = self.judged(lexeme, before, decided, piece)?;
-        Ok(Scan {
-            used,
-            token: Some(token),
-        })
-    }
-
-    // Takes up octets of a piece up to the first token, and judges it.
-    fn scan<'p>(&mut self, piece: &'p [u8], place: Place) -> Result<Scan<'p>, Refusal>
-        requires { self.old.used + length piece.now < 2 ^ 63 }
-        ensures answers { Answers self.old.used (run place piece.now (known self.old))
-            (answered result self.new.left) (known self.new) }
-        ensures steady { IfOk result (λ _. IsSteady (known self.old) self.old.looked →
-            IsSteady (known self.new) self.new.looked) }
-        ensures lends { IfOk result (λ scan. IfSome scan.token (λ token.
-            BorrowsAt self.old.used token.start token.end piece.now token.body)) }
-        ensures looked { IfOk result (λ scan. self.new.looked
-            ≡ min (self.old.looked + deciding scan.used self.new.left) (2 ^ 64 - 1)) }
-        ensures looked_at { IfErr result (λ refusal. refusal.reason ≢ Memory → self.new.looked
-            ≡ min (self.old.looked + (refusal.offset - self.old.used)) (2 ^ 64 - 1)) }
-        ensures memory { IfErr result (λ refusal. refusal.reason ≡ Memory →
-            refusal.offset ≡ self.old.used) }
-    {
-        let before = self.used;
-        match self.run(place, piece) {
-            Err(_) => Err(Refusal {
-                offset: before,
-                reason: Reason::Memory,
-            }),
-            Ok(Taken::Next) => {
-                self.left = false;
-                Ok(Scan {
-                    used: piece.len(),
-                    token: None,
-                })
-            }
-            Ok(Taken::Given(lexeme)) => self.given(lexeme, before, false, piece),
-            Ok(Taken::Left(lexeme)) => self.given(lexeme, before, true, piece),
-            Ok(Taken::Refused(refusal)) => Err(refusal),
-        }
-    }
-}
-
-impl Machine {
-    // The token that has begun.
-    fn begun(&self) -> Option<Begun>
-        ensures { result ≡ begun_in (known self.now) }
-    {
-        if is_idle(self.mode) {
-            return None;
-        }
-        Some(Begun {
-            start: self.start,
-            end: self.used.saturating_sub(behind(self.mode)),
-            form: form_of(self.mode),
-        })
-    }
-
-    // Judges the token that the end of the octets shows to be whole, if one is open.
-    fn finish<'p>(&mut self, place: Place) -> Result<Option<Token<'p>>, Refusal>
-        ensures ends { Ends self.old.used (at_end place (known self.old)) result }
-        ensures memory { IfErr result (λ refusal. refusal.reason ≡ Memory →
-            refusal.offset ≡ self.old.used) }
-        ensures lends { IfOk result (λ token. IfSome token (λ token.
-            BorrowsAt self.old.used token.start token.end [] token.body)) }
-    {
-        let used = self.used;
-        match self.end(place) {
-            Ok(None) => Ok(None),
-            Ok(Some(lexeme)) => Ok(Some(self.judged(lexeme, used, used, &[])?)),
-            Err(reason) => Err(Refusal {
-                offset: used,
-                reason,
-            }),
-        }
-    }
-}
-
 impl Scanner {
+    ghost use Rattle.std.specs.Prelude.{◌≢◌, ◌+◌, ◌-◌, ◌*◌, ◌≤◌, ◌<◌, ◌^◌, length, [], OnOk, IfOk, IfErr, IfSome, IsNone, List, ℕ, true, false, take, min};
+    ghost use Rattle.ion_atoms.specs.declared.refusal.Reason.TheVariants.{Memory};
+    ghost use Rattle.ion_tokens.specs.machine.Scanning.{Next, run, at_end, initial, feed, start_of};
+    ghost use Rattle.ion_tokens.specs.machine.Bounds.{debt};
+    ghost use Rattle.ion_tokens.specs.machine.Views.{scanned, failure, left_in, looks, begun_in, held_in, open_in, foresight};
+    ghost use Rattle.ion_tokens.specs.machine.AtOnce.{GoesOver};
+    ghost use Rattle.ion_tokens.specs.Lexed.{Placed};
+    ghost use Rattle.ion_tokens.specs.machine.Foreseen.{Foresees};
+    ghost use Rattle.ion_tokens.specs.machine.Lent.{LendsWhole, OwnsLast};
+    ghost use Rattle.ion_tokens.specs.machine.Rests.{resting};
+    ghost use Rattle.ion_tokens.specs.machine.Scanned.{Scanned, Goes, RefusesAt, EndsWith, NeverEnds, EndsFor, AlwaysShows};
+    ghost use Rattle.ion_tokens.specs.machine.Traces.{Places, IsTraced, AnswersTrace, EndsTrace};
+    ghost use Rattle.ion_tokens.specs.machine.Steps.{answered, stepped, Answers, Ends, IsWithin, deciding, is_step_reason};
+
     /// A scanner of no octets yet. It takes no memory.
     pub fn new(alloc: Global) -> Scanner
         ensures known { scanned result ≡ initial }
@@ -435,10 +276,8 @@ impl Scanner {
     /// How many octets were taken up, each as often as it was: at least as many as were used, and at most twice as many.
     pub fn looked(&self) -> u64
         ensures looks { result ≡ looks self.now }
-        ensures each { IsSteady (scanned self.now) (looks self.now) →
-            (scanned self.now).used ≤ result }
-        ensures twice { IsSteady (scanned self.now) (looks self.now) →
-            result ≤ 2 * (scanned self.now).used }
+        ensures each { IsNone (failure self.now) → (scanned self.now).used ≤ result }
+        ensures twice { IsNone (failure self.now) → result ≤ 2 * (scanned self.now).used }
     {
         self.machine.looked
     }
@@ -446,8 +285,7 @@ impl Scanner {
     /// How many octets are kept of the open token.
     pub fn held(&self) -> usize
         ensures held { result ≡ held_in (scanned self.now) }
-        ensures open { IsSteady (scanned self.now) (looks self.now) →
-            result ≤ open_in (scanned self.now) }
+        ensures open { IsNone (failure self.now) → result ≤ open_in (scanned self.now) }
     {
         if is_idle(self.machine.mode) {
             0
@@ -470,60 +308,5 @@ impl Scanner {
         ensures shows { AlwaysShows (scanned self.now) result }
     {
         self.machine.begun()
-    }
-}
-
-// No token has begun that surely is one.
-fn is_idle(mode: Mode) -> bool
-    ensures { result ≡ is_idle mode }
-{
-    matches!(
-        mode,
-        Mode::Blank
-            | Mode::Slash
-            | Mode::LineComment
-            | Mode::BlockComment
-            | Mode::BlockCommentStar
-            | Mode::Colon
-    )
-}
-
-// A `/` behind the open token, which may open a comment.
-fn behind(mode: Mode) -> u64
-    ensures { result ≡ behind mode }
-{
-    if matches!(mode, Mode::NumberSlash | Mode::OperatorSlash) {
-        1
-    } else {
-        0
-    }
-}
-
-// What is known of the open token.
-fn form_of(mode: Mode) -> Form
-    ensures { result ≡ form_of mode }
-{
-    match mode {
-        Mode::Quote | Mode::Quotes => Form::Quote,
-        Mode::Text(Style::LongString, _) => Form::Long,
-        _ => Form::Other,
-    }
-}
-
-// What an octet shows of a token that may go on, by what the table says of it.
-fn shown(action: Action) -> Foresight
-    ensures { (place : Place) (s : Known) (octet : ℕ) →
-        result ≡ foresight (acts place s octet action) }
-{
-    match action {
-        Action::Go(mode, _) if is_idle(mode) => Foresight::Blank,
-        Action::Go(mode, _) => match form_of(mode) {
-            Form::Other => Foresight::Other,
-            Form::Quote | Form::Long => Foresight::Long,
-        },
-        Action::Give(TokenKind::Mark(Mark::Colons), _) => Foresight::Colons,
-        Action::Give(TokenKind::LongString, _) => Foresight::Long,
-        Action::Before(TokenKind::QuotedSymbol, _, _) => Foresight::Empty,
-        _ => Foresight::Other,
     }
 }

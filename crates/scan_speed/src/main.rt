@@ -1,9 +1,8 @@
 //! Counts the tokens of Ion text on the standard input: the program that `bench/texts.sh` times.
 #![tactic(auto)]
 
-ghost use Rattle.std.specs.Prelude.{◌≤◌, length, IfOk};
-ghost use Rattle.ion_tokens.specs.machine.Views.{scanned, looks};
-ghost use Rattle.ion_tokens.specs.machine.Bounds.{IsSteady};
+ghost use Rattle.std.specs.Prelude.{◌≡◌, ◌≤◌, None, length, OnOk};
+ghost use Rattle.ion_tokens.specs.machine.Views.{failure};
 
 use ion_atoms::Refusal;
 use ion_tokens::{Body, Mark, Place, Scan, Scanner};
@@ -55,9 +54,9 @@ enum Fault {
 }
 
 fn count_piece(scanner: &mut Scanner, count: &mut Count, piece: &[u8]) -> Result<(), Fault>
-    requires steady { IsSteady (scanned scanner.old) (looks scanner.old) }
+    requires going { failure scanner.old ≡ None }
     requires short { length piece.now ≤ 4096 }
-    ensures steady { IfOk result (λ _. IsSteady (scanned scanner.new) (looks scanner.new)) }
+    ensures going { OnOk result (failure scanner.new ≡ None) }
 {
     let mut at = 0usize;
     while at < piece.len() {

@@ -1,9 +1,5 @@
 -- What a scanner in memory stands for.
 use Rattle.std.specs.Prelude.{ℕ, Bool, ◌-◌, length, Option, Some, None, if◌then◌else◌, List}
-use Rattle.ion_tokens.specs.declared.machine.Machine.{Machine}
-use Rattle.ion_tokens.specs.declared.machine.Lexeme.{Lexeme as Found}
-use Rattle.ion_tokens.specs.declared.machine.Taken.{Taken}
-use Rattle.ion_tokens.specs.declared.machine.Taken.TheVariants as taken
 use Rattle.ion_atoms.specs.declared.refusal.Refusal.{Refusal}
 use Rattle.ion_tokens.specs.declared.mode.Mode.{Mode}
 use Rattle.ion_tokens.specs.declared.mode.Mode.TheVariants as modes
@@ -19,25 +15,8 @@ use Rattle.ion_tokens.specs.declared.mode.TokenKind.TheVariants as kinds
 use Rattle.ion_tokens.specs.declared.scanner.Scanner.{Scanner}
 use Rattle.ion_tokens.specs.declared.beside.TokenReader.{TokenReader}
 use Rattle.ion_tokens.specs.machine.Bounds.{is_idle}
-use Rattle.ion_tokens.specs.machine.Scanning.{Known, Lexeme, Outcome, Next, Given, Left, Refused}
-
-abbrev pub known : Machine → Known
-known m = record { mode = m.mode; kept = m.kept.items; colon = m.colon; start = m.start; used = m.used }
-
--- a token that ended last
-abbrev pub lexeme_in : Found → Machine → Lexeme
-lexeme_in l m = record { start = l.start; end = l.end; kind = l.kind; octets = m.ended.items }
-
--- what the code answers, with what the machine knows then
-abbrev pub outcome_in : Taken → Machine → Outcome
-outcome_in taken.Next m = Next (known m)
-outcome_in (taken.Given l) m = Given (lexeme_in l m) (known m)
-outcome_in (taken.Left l) m = Left (lexeme_in l m) (known m)
-outcome_in (taken.Refused r) m = Refused r.offset r.reason
-
-abbrev pub found_in : Option Found → Machine → Option Lexeme
-found_in None m = None
-found_in (Some l) m = Some (lexeme_in l m)
+use Rattle.ion_tokens.specs.machine.Machines.{known}
+use Rattle.ion_tokens.specs.machine.Scanning.{Known, Outcome, Next, Given, Left, Refused}
 
 -- what a reader beside a scanner keeps of the token that it found last
 abbrev pub octets_in : TokenReader → List ℕ

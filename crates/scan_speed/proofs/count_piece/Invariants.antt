@@ -1,11 +1,11 @@
-use Rattle.std.proofs.Common.{◌+◌, ◌-◌, ◌*◌, ◌≤◌, length}
-use Rattle.ion_tokens.specs.machine.Views.{scanned, looks}
-use Rattle.ion_tokens.specs.machine.Bounds.{IsSteady, debt}
+use Rattle.std.proofs.Common.{◌≡◌, ◌+◌, ◌-◌, ◌*◌, ◌≤◌, length, None}
+use Rattle.ion_tokens.specs.machine.Views.{scanned, failure}
+use Rattle.ion_tokens.specs.machine.Bounds.{debt}
 use Rattle.scan_speed.proofs.count_piece.Given as goal
 
 abbrev pub invariant-loop-at : goal.invariant-loop-at
 invariant-loop-at l = record {
-  steady : IsSteady (scanned l.scanner) (looks l.scanner);
+  going : failure l.scanner ≡ None;
   at : l.at ≤ length l.piece;
 }
 

@@ -1,7 +1,7 @@
 use Rattle.std.proofs.Common.{◌≡◌, ap, subst, sym, ◌∙◌, arith, get_or, length-drop}
 use Rattle.ion_tokens.specs.machine.Scanning.{feed, Next}
 use Rattle.ion_tokens.specs.machine.Bounds.{StaysSteady}
-use Rattle.ion_tokens.specs.machine.Views.{known, outcome_in}
+use Rattle.ion_tokens.specs.machine.Machines.{known, outcome_in}
 use Rattle.ion_tokens.specs.machine.Table.{next}
 use Rattle.ion_tokens.proofs.Runs.{Between, acts_between, feed_used, run_more}
 use Rattle.ion_tokens.proofs.Pending.{took_one}

@@ -1,7 +1,7 @@
 use Rattle.std.proofs.Common.{◌≡◌, ◌+◌, ◌-◌, ◌^◌, ◌≤◌, min, length, drop}
 use Rattle.ion_tokens.specs.machine.Scanning.{run}
 use Rattle.ion_tokens.specs.machine.Bounds.{IsSteady}
-use Rattle.ion_tokens.specs.machine.Views.{known}
+use Rattle.ion_tokens.specs.machine.Machines.{known}
 use Rattle.ion_tokens.proofs.machine.Machine.run.Given as goal
 
 -- what is left of the piece leads where the whole piece leads

@@ -4,7 +4,7 @@ use Rattle.ion_atoms.specs.declared.refusal.Refusal.{Refusal}
 use Rattle.ion_atoms.specs.declared.refusal.Reason.TheVariants.{Memory}
 use Rattle.ion_tokens.specs.declared.token.Scan.{Scan}
 use Rattle.ion_tokens.specs.machine.Scanning.{Lexeme, Outcome}
-use Rattle.ion_tokens.specs.machine.Views.{known, lexeme_in}
+use Rattle.ion_tokens.specs.machine.Machines.{known, lexeme_in}
 use Rattle.ion_tokens.specs.machine.Steps.{Answers, RefusesToken}
 use Rattle.ion_tokens.proofs.Runs.{next_used, given_used, left_used}
 use Rattle.ion_tokens.proofs.Causes.{refused_fair}

@@ -1,5 +1,5 @@
 use Rattle.std.proofs.Common.{subst, sym}
-use Rattle.ion_tokens.specs.machine.Views.{known}
+use Rattle.ion_tokens.specs.machine.Machines.{known}
 use Rattle.ion_tokens.specs.machine.Scanned.{ShowsBegun}
 use Rattle.ion_tokens.proofs.Begins.{begun_right}
 use Rattle.ion_tokens.proofs.scanner.Scanner.begun.Goals as goal

@@ -8,7 +8,7 @@ use Rattle.ion_tokens.specs.Lexed.{Placed}
 use Rattle.ion_tokens.specs.machine.Scanned.{Scanned, EndsSo, NoEnd, EndsFor}
 use Rattle.ion_tokens.specs.machine.Lent.{BorrowsAt, OwnsLast}
 use Rattle.ion_tokens.specs.machine.Steps.{Ends}
-use Rattle.ion_tokens.specs.machine.Views.{known}
+use Rattle.ion_tokens.specs.machine.Machines.{known}
 use Rattle.ion_tokens.proofs.EndCauses.{end_fair, end_reason}
 use Rattle.ion_tokens.proofs.Lendings.{end_owns}
 use Rattle.ion_tokens.proofs.Stepped.{end_goes, end_refuses}

@@ -9,7 +9,7 @@ use Rattle.ion_tokens.specs.machine.Lent.{BorrowsAt, LendsWhole}
 use Rattle.ion_tokens.specs.machine.Scanned.{Scanned, Continues, Goes, GoesWith, RefusesAt}
 use Rattle.ion_tokens.specs.machine.Steps.{Stepped, answered, stepped, Answers}
 use Rattle.ion_tokens.specs.machine.Scanning.{Known, run}
-use Rattle.ion_tokens.specs.machine.Views.{known}
+use Rattle.ion_tokens.specs.machine.Machines.{known}
 use Rattle.ion_tokens.proofs.Runs.{run_between}
 use Rattle.ion_tokens.proofs.Causes.{answer_reason, run_fair}
 use Rattle.ion_tokens.proofs.Answered.{used_within, used_whole, refused_within}

@@ -1,0 +1,26 @@
+-- What a machine in memory stands for.
+use Rattle.std.specs.Prelude.{Option, Some, None}
+use Rattle.ion_tokens.specs.declared.machine.Machine.{Machine}
+use Rattle.ion_tokens.specs.declared.machine.Lexeme.{Lexeme as Found}
+use Rattle.ion_tokens.specs.declared.machine.Taken.{Taken}
+use Rattle.ion_tokens.specs.declared.machine.Taken.TheVariants as taken
+use Rattle.ion_tokens.specs.machine.Scanning.{Known, Lexeme, Outcome, Next, Given, Left, Refused}
+
+-- what it knows between two octets
+abbrev pub known : Machine → Known
+known m = record { mode = m.mode; kept = m.kept.items; colon = m.colon; start = m.start; used = m.used }
+
+-- a token that ended last
+abbrev pub lexeme_in : Found → Machine → Lexeme
+lexeme_in l m = record { start = l.start; end = l.end; kind = l.kind; octets = m.ended.items }
+
+-- what the code answers, with what the machine knows then
+abbrev pub outcome_in : Taken → Machine → Outcome
+outcome_in taken.Next m = Next (known m)
+outcome_in (taken.Given l) m = Given (lexeme_in l m) (known m)
+outcome_in (taken.Left l) m = Left (lexeme_in l m) (known m)
+outcome_in (taken.Refused r) m = Refused r.offset r.reason
+
+abbrev pub found_in : Option Found → Machine → Option Lexeme
+found_in None m = None
+found_in (Some l) m = Some (lexeme_in l m)
