@@ -25,6 +25,7 @@ pub mod LaneRuns
 pub mod LastOctets
 pub mod LeftSymbols
 pub mod Lendings
+pub mod Moved
 pub mod Moves
 pub mod OneBegun
 pub mod Opens

@@ -24,7 +24,7 @@ use Rattle.ion_tokens.proofs.Splits.{GivenSplit, LeftSplit, given_split, left_sp
 use Rattle.ion_tokens.proofs.LastOctets.{RefusedSplit, refused_split}
 
 -- at most one octet is left
-at_most_one : (s : Known) (u : List ℕ) (ts : List Placed) (ahead : List ℕ) → Stands s u ts ahead → length ahead ≤ 1
+pub at_most_one : (s : Known) (u : List ℕ) (ts : List Placed) (ahead : List ℕ) → Stands s u ts ahead → length ahead ≤ 1
 at_most_one s u ts ahead Begun = omega arith
 at_most_one s u ts ahead (Gave s0 u0 ts0 ahead0 t octets more0 s' h e f n) = omega arith
 at_most_one s u ts ahead (Leaved s0 u0 ts0 ahead0 t octets more0 x s' h e f n) = omega arith

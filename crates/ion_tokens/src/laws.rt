@@ -1,5 +1,5 @@
 //! What the definitions that this crate's contracts name have to do with the specification. A law is called for its clause alone.
-ghost use Rattle.std.specs.Prelude.{◌≡◌, ◌↔◌, ◌+◌, ◌<◌, ◌^◌, ◌++◌, ◌∷◌, ℕ, List, [], Some, Result, length, false};
+ghost use Rattle.std.specs.Prelude.{◌≡◌, ◌↔◌, ◌+◌, ◌<◌, ◌^◌, ◌++◌, ◌∷◌, ℕ, List, [], Bool, Some, Result, length, take, false};
 ghost use Rattle.std.specs.List.{flat_map};
 ghost use Rattle.ion_atoms.specs.declared.refusal.Reason.{Reason};
 ghost use Rattle.ion_tokens.specs.declared.mode.Place.{Place};
@@ -7,9 +7,11 @@ ghost use Rattle.ion_tokens.specs.declared.mode.TokenKind.{TokenKind};
 ghost use Rattle.ion_tokens.specs.Blobs.{AreOctets, base64_of, blob_of};
 ghost use Rattle.ion_tokens.specs.Bodies.{Content, IsBody};
 ghost use Rattle.ion_tokens.specs.declared.token.Begun.{Begun};
-ghost use Rattle.ion_tokens.specs.Lexed.{Placed, Lexes, LooksIn};
-ghost use Rattle.ion_tokens.specs.machine.Scanned.{Scanned, ShowsBegun};
+ghost use Rattle.ion_tokens.specs.Lexed.{Placed, Lexes, LooksIn, Passes};
+ghost use Rattle.ion_tokens.specs.machine.Scanned.{Scanned, Continues, ShowsBegun};
 ghost use Rattle.ion_tokens.specs.machine.Scanning.{Known, feed, follow, run, start_of};
+ghost use Rattle.ion_tokens.specs.declared.whole.Rest.{Rest};
+ghost use Rattle.ion_tokens.specs.machine.Rests.{resting, past_blank, past_token, lexeme_at, left_after, IsPassed, IsFound};
 ghost use Rattle.ion_tokens.specs.machine.Traces.{Told, Places, over, over_pieces, IsTraced};
 ghost use Rattle.ion_tokens.specs.laws.Tokens.{TellsRightly, ToldAll, OneBegun, TracesTokens};
 ghost use Rattle.ion_tokens.specs.laws.TokensTraced.{TokensTraced};
@@ -73,4 +75,18 @@ pub fn told_all()
 /// What `begun` shows is determined by the octets: where a document goes on with them, no other answer meets its clause.
 pub fn one_begun()
     ensures { OneBegun }
+{}
+
+/// What is promised of a scanner that rests goes on where `move_to` sets it behind octets that were found: behind a blank the same tokens
+/// are told, and behind a token that one, too. An octet that showed the token's end and isn't part of it must come next.
+pub fn moved()
+    ensures blank { (p : Place) (r : Rest) (u octets : List ℕ) (ts : List Placed) (ahead : List ℕ) (n : ℕ) →
+        Scanned p (resting r) u ts ahead → Continues (take n octets) ahead → IsPassed octets n →
+        Scanned p (resting (past_blank r n)) (u ++ take n octets) ts [] }
+    ensures token { (p q : Place) (r : Rest) (u octets : List ℕ) (ts : List Placed) (ahead : List ℕ)
+        (kind : TokenKind) (kept : List ℕ) (n : ℕ) (left : Bool) →
+        Scanned p (resting r) u ts ahead → Continues octets ahead →
+        IsFound p r octets kind kept n left → Passes kind kept →
+        Scanned q (resting (past_token p r kind n)) (u ++ take n octets)
+        (ts ++ record { place = p; lexeme = lexeme_at r kind kept n } ∷ []) (left_after left n octets) }
 {}

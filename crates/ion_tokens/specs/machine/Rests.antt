@@ -1,5 +1,5 @@
 -- Blanks and tokens that lie whole in memory, read where a scanner rests.
-use Rattle.std.specs.Prelude.{◌≡◌, ℕ, ◌+◌, ◌-◌, ◌<◌, ◌==◌, Bool, true, false, if◌then◌else◌, List, [], length, take, slice_index}
+use Rattle.std.specs.Prelude.{◌≡◌, ℕ, ◌+◌, ◌-◌, ◌<◌, ◌==◌, Bool, true, false, if◌then◌else◌, List, [], ◌∷◌, length, take, slice_index}
 use Rattle.ion_tokens.specs.declared.mode.Place.{Place}
 use Rattle.ion_tokens.specs.declared.mode.Mode.TheVariants as modes
 use Rattle.ion_tokens.specs.declared.mode.TokenKind.{TokenKind}
@@ -31,6 +31,11 @@ before_end false n = n - 1
 abbrev pub ended : Bool → Lexeme → Known → Outcome
 ended true = Left
 ended false = Given
+
+-- the octet that was left behind a token of n octets, and must come next, or none
+abbrev pub left_after : Bool → ℕ → List ℕ → List ℕ
+left_after true n octets = slice_index octets n ∷ []
+left_after false n octets = []
 
 -- Octets begin with so many of a blank.
 abbrev pub IsPassed : List ℕ → ℕ → Type 0
