@@ -1,5 +1,5 @@
 -- What the fields of a symbol table say (Ion 1.0, "Symbols").
-use Rattle.std.specs.Prelude.{if◌then◌else◌, ℕ, ℤ, pos, negsuc, max, List, [], ◌∷◌, Option, None, Some, Bool, false, not, ◌&&◌, ◌==◌, Result, Ok, Err, codes, length}
+use Rattle.std.specs.Prelude.{if◌then◌else◌, ℕ, ℤ, pos, negsuc, max, List, [], ◌∷◌, Option, None, Some, Bool, not, ◌&&◌, ◌==◌, Result, Ok, Err, codes, length}
 use Rattle.std.specs.Str.{bytes_eq}
 use Rattle.ion_atoms.specs.declared.refusal.Reason.{Reason}
 use Rattle.ion_atoms.specs.declared.refusal.Reason.TheVariants as reasons

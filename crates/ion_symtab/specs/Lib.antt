@@ -9,6 +9,7 @@ pub mod Slots
 pub mod Fields
 pub mod Tables
 pub mod Next
+pub mod LocalTables
 pub mod Shared
 pub mod Trace
 pub mod Promises

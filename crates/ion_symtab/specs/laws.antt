@@ -7,4 +7,5 @@ pub mod Promises
 pub mod Tables
 pub mod Reasons
 pub mod Contexts
+pub mod LocalTables
 pub mod ContextTexts

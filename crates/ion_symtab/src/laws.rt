@@ -1,11 +1,12 @@
 //! Laws of catalogs and contexts. Each stands on an empty function: its contract is the law.
-ghost use Rattle.std.specs.Prelude.{◌≡◌, ◌≤◌, ◌⊎◌, ◌++◌, ◌∷◌, [], ℕ, List, length, Option, Some, IsSome, Ok, IfErr, Contains};
+ghost use Rattle.std.specs.Prelude.{◌≡◌, ◌↔◌, ◌≤◌, ◌⊎◌, ◌++◌, ◌∷◌, [], ℕ, List, length, Option, Some, IsSome, Ok, IfErr, Contains};
 ghost use Rattle.ion_model.specs.declared.value.Value.{Value};
 ghost use Rattle.ion_model.specs.Kept.{IsText, IsKept};
 ghost use Rattle.ion_symtab.specs.Slots.{Slot, greatest_id, system_slots, resolve};
 ghost use Rattle.ion_symtab.specs.Tables.{Table, find, find_best, newest};
 ghost use Rattle.ion_symtab.specs.laws.Tables.{IsAtLeast};
 ghost use Rattle.ion_symtab.specs.Next.{next};
+ghost use Rattle.ion_symtab.specs.LocalTables.{MakesContext};
 ghost use Rattle.ion_symtab.specs.Shared.{shared_table};
 ghost use Rattle.ion_symtab.specs.Reasons.{IsIdReason, IsTableReason, IsSharedReason};
 ghost use Rattle.ion_symtab.specs.laws.Contexts.{Begins};
@@ -49,6 +50,13 @@ pub fn behind_a_table()
         next c v g ≡ Ok d → Begins system_slots c → Begins system_slots d }
     ensures bounded { (c d : List Slot) (v : Value) (g : List Table) →
         next c v g ≡ Ok d → length d ≤ greatest_id }
+{}
+
+/// What is behind a local symbol table is what the symbols chapter says, and nothing else (Ion 1.0, "Symbols"): the base, then for each element
+/// of `imports` its table's slots, cut or filled, then one slot for each element of `symbols`.
+pub fn local_tables()
+    ensures { (c d : List Slot) (v : Value) (g : List Table) →
+        (next c v g ≡ Ok d) ↔ MakesContext g c v d }
 {}
 
 /// An id keeps its symbol where slots are added.

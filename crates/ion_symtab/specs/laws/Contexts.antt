@@ -24,7 +24,7 @@ begins_self c = ([], sym (append-nil c))
 begins_trans : (c d e : List Slot) → Begins c d → Begins d e → Begins c e
 begins_trans c d e p q = (p.0 ++ q.0, q.1 ∙ ap (λ xs. xs ++ q.0) p.1 ∙ append_assoc c p.0 q.0)
 
-and_then_ok : {A B : Type 0} (r : Result A Reason) (f : A → Result B Reason) (y : B) → and_then r f ≡ Ok y → (x : A) × (r ≡ Ok x) × (f x ≡ Ok y)
+pub and_then_ok : {A B : Type 0} (r : Result A Reason) (f : A → Result B Reason) (y : B) → and_then r f ≡ Ok y → (x : A) × (r ≡ Ok x) × (f x ≡ Ok y)
 and_then_ok (Ok x) f y e = (x, refl, e)
 and_then_ok (Err reason) f y e = absurd (cc)
 
