@@ -11,4 +11,6 @@ pub mod Comings
 pub mod Tokens
 pub mod Waiting
 pub mod Ends
+pub mod Agree
+pub mod OneOctet
 pub mod Rows

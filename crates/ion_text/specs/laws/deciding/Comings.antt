@@ -24,7 +24,7 @@ use Rattle.ion_text.specs.laws.reading.Sound.{Opened, Receives, ReadyFor, value_
 use Rattle.ion_text.specs.laws.reading.Tokens.{neither}
 use Rattle.ion_text.specs.laws.showing.Stays.{ready_outer, token_behind, name_there}
 use Rattle.ion_text.specs.laws.deciding.Openings.{containers, place_same, levels_same}
-use Rattle.ion_text.specs.laws.deciding.Fronts.{origin, Came, stands_read}
+use Rattle.ion_text.specs.laws.deciding.Fronts.{origin, Came, Settled, stands_read, stands_settled}
 
 -- What stands open is what the reader would hold.
 pub record Framed (l : Limits) (c : List Slot) (ks : List Container) (ts : List Placed) : Type 0 where
@@ -204,6 +204,9 @@ module _ (g : Catalog) (l : Limits) where
       pub came : Came g l before (place_of ks)
       came = subst (Came g l before) (sym here) (stands_read g l c h.front h.values f.held h.symbols nows.Ready item h.pieces f.deep ready h.apart)
 
+      pub none_waits : Settled g l before
+      none_waits = stands_settled g l c h.front h.values f.held h.symbols nows.Ready item h.pieces f.deep ready h.apart (λ w. w)
+
       -- A token that comes there is read there.
       pub go_on : (t : Placed) (d : Content) (more : List Placed) → Says (place_of ks) t d → Apart d → (s : ℕ) × (reads g l (origin g l) (before ++ t ∷ more) ≡ adds h.values (reads g l (at s c f.held h.symbols nows.Ready) (t ∷ more)))
       unfolding ready
@@ -252,6 +255,9 @@ module _ (g : Catalog) (l : Limits) where
 
     pub came_name : Came g l up_to places.Name
     came_name = stands_read g l c h.front h.values (frames.Fields struct.notes struct.fields ∷ struct.outer) [] nows.Name h.item h.pieces struct.deep (struct.opened, tt) apart
+
+    pub no_name_waits : Settled g l up_to
+    no_name_waits = stands_settled g l c h.front h.values (frames.Fields struct.notes struct.fields ∷ struct.outer) [] nows.Name h.item h.pieces struct.deep (struct.opened, tt) apart (λ w. w)
 
     pub go_on_name : (t : Placed) (d : Content) → Says places.Name t d → Apart d → (s : ℕ) × (reads g l (origin g l) (up_to ++ t ∷ []) ≡ adds h.values (reads g l (at s c (frames.Fields struct.notes struct.fields ∷ struct.outer) [] nows.Name) (t ∷ [])))
     go_on_name t d says a =

@@ -18,18 +18,19 @@ use Rattle.ion_tokens.proofs.Histories.{begins_completes, stands_found, given_fr
 use Rattle.ion_text.specs.declared.state.Frame.{Frame}
 use Rattle.ion_text.specs.declared.state.Now.{Now}
 use Rattle.ion_text.specs.Grammar.{Pieces, ends_long, begins_as_long}
-use Rattle.ion_text.specs.machine.EachToken.{Reading, Symbols, at, fresh, place, place_in}
+use Rattle.ion_text.specs.machine.EachToken.{Reading, goes, Symbols, at, fresh, place, place_in, settle}
 use Rattle.ion_text.specs.machine.Run.{State, is_fresh}
 use Rattle.ion_text.specs.machine.Passed.{said_body}
-use Rattle.ion_text.specs.machine.TokenLists.{Walk, walked, stopped, adds, then_walk, reads, reads-append}
+use Rattle.ion_text.specs.machine.TokenLists.{Walk, walked, stopped, adds, done, on_turn, then_walk, reads, reads-append}
 use Rattle.ion_text.specs.laws.reading.Admits.{fresh_empty}
-use Rattle.ion_text.specs.laws.reading.Complete.{Begins}
+use Rattle.ion_text.specs.laws.reading.Complete.{Begins, starts}
 use Rattle.ion_text.specs.laws.reading.Depths.{Deep}
 use Rattle.ion_text.specs.laws.reading.Found.{next_is}
 use Rattle.ion_text.specs.laws.reading.Going.{says_so, mark_kind}
 use Rattle.ion_text.specs.laws.reading.Held.{none_open}
 use Rattle.ion_text.specs.laws.reading.Pieces.{pieces_read, more_read, top_now, walked_now}
 use Rattle.ion_text.specs.laws.reading.Sound.{NowStands}
+use Rattle.ion_text.specs.laws.reading.Spans.{IsWaiting}
 use Rattle.ion_text.specs.laws.reading.Steps.{Stood}
 use Rattle.ion_text.specs.laws.reading.Stops.{stood_used}
 use Rattle.ion_text.specs.laws.showing.Compare.{Found', alone, placed_same}
@@ -43,11 +44,11 @@ abbrev pub Any : Known → List ℕ → Type 0
 Any s octets = Unit {0}
 
 -- the last of tokens
-abbrev last_of : Placed → List Placed → Placed
+abbrev pub last_of : Placed → List Placed → Placed
 last_of t [] = t
 last_of t (u ∷ us) = last_of u us
 
-last_behind : (front : List Placed) (x : Placed) (ts : List Placed) (d : Placed) → last_of d (front ++ x ∷ ts) ≡ last_of x ts
+pub last_behind : (front : List Placed) (x : Placed) (ts : List Placed) (d : Placed) → last_of d (front ++ x ∷ ts) ≡ last_of x ts
 last_behind [] x ts d = refl
 last_behind (y ∷ front) x ts d = last_behind front x ts y
 
@@ -56,7 +57,7 @@ none_there [] x after e = cc
 none_there (y ∷ front) x after e = cc
 
 -- one of tokens and one behind them: that one, or one of those
-split : (before : List Placed) (t : Placed) (front : List Placed) (x : Placed) (after : List Placed) → before ++ t ∷ [] ≡ front ++ x ∷ after → ((before ≡ front) × (t ≡ x)) ⊎ ((more : List Placed) × (before ≡ front ++ x ∷ more))
+pub split : (before : List Placed) (t : Placed) (front : List Placed) (x : Placed) (after : List Placed) → before ++ t ∷ [] ≡ front ++ x ∷ after → ((before ≡ front) × (t ≡ x)) ⊎ ((more : List Placed) × (before ≡ front ++ x ∷ more))
 split [] t [] x after e = inl (refl, let h : t ≡ x = cc in h)
 split [] t (y ∷ front) x after e = absurd (none_there front x after (let h : [] ≡ front ++ x ∷ after = cc in h))
 split (y ∷ before) t [] x after e = inr (before, let h : y ≡ x = cc in ap (λ z. z ∷ before) h)
@@ -164,7 +165,7 @@ module _ (g : Catalog) (l : Limits) where
     pub closed : (p : Place) (s : Known) → s.used ≡ length u → at_end p s ≡ Ok (Some t.lexeme) → ⊥
 
   -- it isn't open
-  found_open : (u : List ℕ) (t : Placed) → HasEnded u t → (s n : Known) (octets : List ℕ) (x : Placed) (ms : List Placed) → Found' Any s octets (x ∷ ms) → run x.place octets s ≡ Next n → n.used ≡ length u → last_of x ms ≡ t → ⊥
+  pub found_open : (u : List ℕ) (t : Placed) → HasEnded u t → (s n : Known) (octets : List ℕ) (x : Placed) (ms : List Placed) → Found' Any s octets (x ∷ ms) → run x.place octets s ≡ Next n → n.used ≡ length u → last_of x ms ≡ t → ⊥
   found_open u t h s n _ _ _ (Last _ octets x s' f e) ran used is =
       let same : s' ≡ n = next_is s' n (sym f ∙ ran) in
       h.closed x.place n used (ap (at_end x.place) (sym same) ∙ (e ∙ ap (λ (y : Placed). Ok (Some y.lexeme)) is))
@@ -219,6 +220,30 @@ module _ (g : Catalog) (l : Limits) where
   stands_read c front vs fs ss now (x ∷ xs) pieces deep d apart =
       let a = item_arrived c fs ss now x xs deep d in
       record { values = vs ++ []; now = a.r; read = item_read c front vs fs ss now x xs pieces d apart a; here = a.here }
+
+  -- nothing waits behind the tokens that is refused if they go on with nothing
+  abbrev pub Settled : List Placed → Type 0
+  Settled ts = (vs : List Value) (n : Reading) → reads g l origin ts ≡ walked vs n → on_turn (settle g l n) done ≡ stopped → ⊥
+
+  -- where nothing waits
+  pub stands_settled : (c : List Slot) (front : List Placed) (vs : List Value) (fs : List Frame) (ss : Symbols) (now : Now) (item : List Placed) → Pieces g l front vs c → Deep l.depth fs → NowStands c fs ss item now → (ends_long front && begins_as_long item) ≡ false
+      → (IsWaiting g l now → ⊥) → Settled (front ++ item)
+  stands_settled c front vs fs ss now [] pieces deep d apart free ws n e refused =
+      let r = pieces_read g l front vs c pieces in
+      let same = walked_now g l r.given ws r.now n (sym r.read ∙ (ap (reads g l origin) (sym (append-nil front)) ∙ e)) in
+      let never : walked r.later (fresh c) ≡ stopped = sym r.settles ∙ (ap (λ k. on_turn (settle g l k) done) same.1 ∙ refused) in
+      cc
+  stands_settled c front vs fs ss now (x ∷ xs) pieces deep d apart free ws n e refused = by a.is
+    where
+      a : Arrived g l c fs ss now (x ∷ xs)
+      a = item_arrived c fs ss now x xs deep d
+
+      same : a.r ≡ n
+      same = (walked_now g l (vs ++ []) ws a.r n (sym (item_read c front vs fs ss now x xs pieces d apart a) ∙ e)).1
+
+      by : ((m : Reading) × (settle g l a.r ≡ goes m) × (is_fresh m ≡ false) × (m.start ≡ starts g l 0 [] (x ∷ xs))) ⊎ (IsWaiting g l now × IsWaiting g l a.r.now × (a.r.start ≡ starts g l 0 [] (x ∷ xs))) → ⊥
+      by (inl (m, settles, k, i)) = let never : walked [] m ≡ stopped = sym (ap (λ y. on_turn y done) settles) ∙ (ap (λ k. on_turn (settle g l k) done) same ∙ refused) in cc
+      by (inr (w, k, i)) = free w
 
   module _ (u : List ℕ) (vs : List Value) (m : State) (b : Stood g l u vs m) where
     -- what the reader told of the octets was read

@@ -53,8 +53,8 @@ use Rattle.ion_text.specs.laws.showing.Cuts.{lexed_front}
 use Rattle.ion_text.specs.laws.deciding.AtEnd.{last_ends}
 use Rattle.ion_text.specs.laws.deciding.Openings.{begins_so}
 use Rattle.ion_text.specs.laws.deciding.Shows.{IsBare, BareSaid, said_bare}
-use Rattle.ion_text.specs.laws.deciding.Fronts.{origin, Came, HasEnded, stands_read}
-use Rattle.ion_text.specs.laws.deciding.Comings.{Apart, same_levels, before, cut, f, here, came, go_on, struct, up_to, cut_name, came_name, go_on_name}
+use Rattle.ion_text.specs.laws.deciding.Fronts.{origin, Came, HasEnded, Settled, stands_read, stands_settled}
+use Rattle.ion_text.specs.laws.deciding.Comings.{Apart, same_levels, before, cut, f, here, came, none_waits, go_on, struct, up_to, cut_name, came_name, no_name_waits, go_on_name}
 
 -- 1. Tokens that have ended.
 
@@ -162,6 +162,8 @@ pub record Stops (g : Catalog) (l : Limits) (ts : List Placed) (t : Placed) : Ty
   pub is : ts ≡ front ++ t ∷ []
   pub came : Came g l front t.place
   pub stops : reads g l (origin g l) ts ≡ stopped
+  -- what waits behind the others isn't refused, or goes on with it
+  pub settled : Settled g l front ⊎ (t.lexeme.kind ≡ kinds.Mark marks.Colons)
 
 module _ (g : Catalog) (l : Limits) where
   -- 3. A token where a value may come.
@@ -181,6 +183,7 @@ module _ (g : Catalog) (l : Limits) where
           is = is;
           came = subst (Came g l front) (sym h.says.place) (came g l c ks said ts h takes);
           stops = ap (reads g l (origin g l)) is ∙ (x.1 ∙ ap (adds h.values) (first_token g l (place_of ks) (at x.0 c held h.symbols nows.Ready) h.token said [] h.says (here g l c ks said ts h takes) (inr refl) ∙ refused x.0));
+          settled = inl (none_waits g l c ks said ts h takes);
         }
 
     -- a container that would be too deep
@@ -239,6 +242,7 @@ module _ (g : Catalog) (l : Limits) where
                 ∙ (x.1 ∙ ap (adds h.values)
                 (first_token g l (place_of ks) (pending x.0) colons (Mark' marks.Colons) [] says (at_pending x.0) (inl refl)
                 ∙ ap (λ y. on_turn (noted (begun_at x.0 h.token.lexeme.start held h.symbols) c held h.symbols y) done) none));
+            settled = inr (mark_kind colons.lexeme.kind colons.lexeme.octets marks.Colons says.body);
           }
 
   -- 4. A token where a name may come.
@@ -257,6 +261,7 @@ module _ (g : Catalog) (l : Limits) where
           is = is;
           came = subst (Came g l front) (sym h.says.place) (came_name g l c ks said ts h);
           stops = ap (reads g l (origin g l)) is ∙ (x.1 ∙ ap (adds h.values) (first_token g l places.Name (at x.0 c inside [] nows.Name) h.token said [] h.says refl (inr refl) ∙ refused x.0));
+          settled = inl (no_name_waits g l c ks said ts h);
         }
 
   -- 5. The rows of one token.
@@ -304,7 +309,7 @@ module _ (g : Catalog) (l : Limits) where
 
       struct' : (notes body : List Placed) (rs : Symbols) (open' close : Placed) (more : Bool) → rs ≡ ss → Annotations c places.Top notes rs → Says places.Top open' (Mark' marks.FieldsOpen) → Members c body ms more → Says (close_place more) close (Mark' marks.FieldsClose)
           → h.item ≡ notes ++ open' ∷ (body ++ close ∷ []) → TableStops ts
-      struct' notes body rs open' close more same a opens members closes cut = record { close = close; more = more; closes = closes; at_close = record { front = front; is = whole; came = subst (Came g l front) (sym closes.place) (came' more members closes); stops = stops } }
+      struct' notes body rs open' close more same a opens members closes cut = record { close = close; more = more; closes = closes; at_close = record { front = front; is = whole; came = subst (Came g l front) (sym closes.place) (came' more members closes); stops = stops; settled = inl (settled' more members) } }
         where
           inner : List Placed
           inner = notes ++ open' ∷ body
@@ -330,6 +335,10 @@ module _ (g : Catalog) (l : Limits) where
           came' : (more : Bool) → Members c body ms more → Says (close_place more) close (Mark' marks.FieldsClose) → Came g l front (close_place more)
           came' true members closes = stands_read g l c h.front h.values (frames.Fields rs ms ∷ []) [] nows.Name inner h.pieces deep (opened true members, tt) apart
           came' false members closes = stands_read g l c h.front h.values (frames.Fields rs ms ∷ []) [] nows.After inner h.pieces deep (opened false members, refl, tt) apart
+
+          settled' : (more : Bool) → Members c body ms more → Settled g l front
+          settled' true members = stands_settled g l c h.front h.values (frames.Fields rs ms ∷ []) [] nows.Name inner h.pieces deep (opened true members, tt) apart (λ w. w)
+          settled' false members = stands_settled g l c h.front h.values (frames.Fields rs ms ∷ []) [] nows.After inner h.pieces deep (opened false members, refl, tt) apart (λ w. w)
 
           s : ℕ
           s = begun_at (starts g l 0 [] notes) open'.lexeme.start [] rs
