@@ -150,18 +150,20 @@ pub fn first_refused()
 /// Where an octet is refused for a symbol, a symbol table, a version or a level, the octets up to it are such as
 /// the table of the format names for that reason, and the last of them shows it (`octet`). Where the end refuses
 /// for one of these reasons, they are all the octets, and the end shows it (`end`). Octets begin with such as the
-/// table names up to one octet at most (`one_octet`). That one is refused, or one before it for a reason that has no
-/// row here (`refuses`). Where all are such as the end shows, it refuses (`ends`).
+/// table names up to one octet at most, and for one reason (`one_octet`). That octet is refused for it, or for a
+/// reason that has no row here, which may also refuse an octet before it (`refuses`). Where all are such as the end
+/// shows, it refuses (`ends`).
 pub fn deciding()
     ensures octet { (g : List Table) (l : Limits) (u : List ℕ) (r : Refusal) →
         (trace g l u).refused ≡ Some r → HasRow r.reason → Decides g l (take r.offset u) r.reason }
     ensures end { (g : List Table) (l : Limits) (u : List ℕ) (r : Refusal) → (trace g l u).refused ≡ None →
         (trace g l u).ends ≡ Err r → HasRow r.reason → EndDecides g l u r.reason }
     ensures one_octet { (g : List Table) (l : Limits) (u : List ℕ) (j k : ℕ) (e f : Reason) →
-        j ≤ length u → k ≤ length u → Decides g l (take j u) e → Decides g l (take k u) f → j ≡ k }
+        j ≤ length u → k ≤ length u → Decides g l (take j u) e → Decides g l (take k u) f →
+        (j ≡ k) × (e ≡ f) }
     ensures refuses { (g : List Table) (l : Limits) (u : List ℕ) (k : ℕ) (e : Reason) → k ≤ length u →
         Decides g l (take k u) e → (r : Refusal) × ((trace g l u).refused ≡ Some r) × (r.offset ≤ k) ×
-        (HasRow r.reason → r.offset ≡ k) }
+        (HasRow r.reason → (r.offset ≡ k) × (r.reason ≡ e)) }
     ensures ends { (g : List Table) (l : Limits) (u : List ℕ) (e : Reason) →
         EndDecides g l u e → (r : Refusal) × ((trace g l u).ends ≡ Err r) }
 {}

@@ -24,7 +24,7 @@ use Rattle.ion_text.specs.laws.reading.Sound.{Opened, Receives, ReadyFor, value_
 use Rattle.ion_text.specs.laws.reading.Tokens.{neither}
 use Rattle.ion_text.specs.laws.showing.Stays.{ready_outer, token_behind, name_there}
 use Rattle.ion_text.specs.laws.deciding.Openings.{containers, place_same, levels_same}
-use Rattle.ion_text.specs.laws.deciding.Fronts.{origin, Came, Settled, stands_read, stands_settled}
+use Rattle.ion_text.specs.laws.deciding.Fronts.{origin, Came, SettlesTo, stands_read, ready_settles, struct_settles}
 
 -- What stands open is what the reader would hold.
 pub record Framed (l : Limits) (c : List Slot) (ks : List Container) (ts : List Placed) : Type 0 where
@@ -204,8 +204,8 @@ module _ (g : Catalog) (l : Limits) where
       pub came : Came g l before (place_of ks)
       came = subst (Came g l before) (sym here) (stands_read g l c h.front h.values f.held h.symbols nows.Ready item h.pieces f.deep ready h.apart)
 
-      pub none_waits : Settled g l before
-      none_waits = stands_settled g l c h.front h.values f.held h.symbols nows.Ready item h.pieces f.deep ready h.apart (λ w. w)
+      pub settles : (s : ℕ) × SettlesTo g l before (at s c f.held h.symbols nows.Ready)
+      settles = ready_settles g l c h.front h.values f.held h.symbols item h.pieces f.deep ready h.apart
 
       -- A token that comes there is read there.
       pub go_on : (t : Placed) (d : Content) (more : List Placed) → Says (place_of ks) t d → Apart d → (s : ℕ) × (reads g l (origin g l) (before ++ t ∷ more) ≡ adds h.values (reads g l (at s c f.held h.symbols nows.Ready) (t ∷ more)))
@@ -256,8 +256,8 @@ module _ (g : Catalog) (l : Limits) where
     pub came_name : Came g l up_to places.Name
     came_name = stands_read g l c h.front h.values (frames.Fields struct.notes struct.fields ∷ struct.outer) [] nows.Name h.item h.pieces struct.deep (struct.opened, tt) apart
 
-    pub no_name_waits : Settled g l up_to
-    no_name_waits = stands_settled g l c h.front h.values (frames.Fields struct.notes struct.fields ∷ struct.outer) [] nows.Name h.item h.pieces struct.deep (struct.opened, tt) apart (λ w. w)
+    pub settles_name : (s : ℕ) × SettlesTo g l up_to (at s c (frames.Fields struct.notes struct.fields ∷ struct.outer) [] nows.Name)
+    settles_name = struct_settles g l c h.front h.values struct.notes struct.fields struct.outer h.item true h.pieces struct.deep struct.opened apart
 
     pub go_on_name : (t : Placed) (d : Content) → Says places.Name t d → Apart d → (s : ℕ) × (reads g l (origin g l) (up_to ++ t ∷ []) ≡ adds h.values (reads g l (at s c (frames.Fields struct.notes struct.fields ∷ struct.outer) [] nows.Name) (t ∷ [])))
     go_on_name t d says a =

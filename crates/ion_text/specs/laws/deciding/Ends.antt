@@ -1,6 +1,7 @@
 -- Octets of which the end decides are no document.
 use Rattle.std.proofs.Common.{◌≡◌, ℕ, Bool, false, List, [], ◌∷◌, ◌++◌, refl, sym, ap, ◌∙◌, subst, append_assoc, append-nil, Ok, Some, None, inl, inr}
 use Rattle.ion_model.specs.declared.value.Value.{Value}
+use Rattle.ion_atoms.specs.declared.refusal.Reason.{Reason}
 use Rattle.ion_symtab.specs.declared.limits.Limits.{Limits}
 use Rattle.ion_symtab.specs.declared.catalog.Catalog.{Catalog}
 use Rattle.ion_tokens.specs.declared.mode.Mode.TheVariants as modes
@@ -24,7 +25,7 @@ use Rattle.ion_text.specs.laws.showing.Once.{begins_lexed}
 use Rattle.ion_text.specs.laws.showing.Walks.{Met, walking_said, behind_read, meet}
 use Rattle.ion_text.specs.laws.deciding.Fronts.{origin, Any}
 use Rattle.ion_text.specs.laws.deciding.Tokens.{Stops}
-use Rattle.ion_text.specs.laws.deciding.Waiting.{Pends, pend, colons_shown, colons_next}
+use Rattle.ion_text.specs.laws.deciding.Waiting.{Pends, pend, settling_stops, colons_shown, colons_next}
 
 -- the tokens up to the end, and the blank behind them
 pub record UpToEnd (u : List ℕ) (ts : List Placed) : Type 0 where
@@ -82,8 +83,8 @@ module _ (g : Catalog) (l : Limits) (u : List ℕ) (s : List Value) (d : Documen
           go (x ∷ xs) e = absurd (none_behind x xs colon end rest (subst (λ y. LexesTo false 0 u y colon end rest) e lexes))
 
   -- None of its tokens is refused.
-  pub stops_never : (ts : List Placed) (t : Placed) (rest : List ℕ) → Are u ts rest → Stops g l ts t → (t.lexeme.kind ≡ kinds.Operator → ⊥) → ⊥
-  stops_never ts t rest (colon, end, lexes) x plain = go f.0 f.1
+  pub stops_never : (ts : List Placed) (t : Placed) (e : Reason) (rest : List ℕ) → Are u ts rest → Stops g l ts t e → (t.lexeme.kind ≡ kinds.Operator → ⊥) → ⊥
+  stops_never ts t reason rest (colon, end, lexes) x plain = go f.0 f.1
     where
       y : Parted false 0 u x.front (t ∷ []) colon end rest
       y = parted x.front (t ∷ []) false 0 u colon end rest (subst (λ z. LexesTo false 0 u z colon end rest) x.is lexes)
@@ -105,17 +106,17 @@ module _ (g : Catalog) (l : Limits) (u : List ℕ) (s : List Value) (d : Documen
           cc
 
   -- Nothing that waits at its end is.
-  pub pends_never : (ts : List Placed) → AwaitsColons u ts → Pends g l ts → ⊥
-  pends_never ts a p = go f.0 f.1
+  pub pends_never : (ts : List Placed) (e : Reason) → AwaitsColons u ts → Pends g l ts e → ⊥
+  pends_never ts reason a p = go f.0 f.1
     where
       f : (more : List Placed) × (d.tokens ≡ ts ++ more)
-      f = front_of ts a.are.0 a.are.1 a.rest p.values (pend g l ts p) a.are.2 p.read
+      f = front_of ts a.are.0 a.are.1 a.rest p.values (pend g l ts reason p) a.are.2 p.read
 
       go : (more : List Placed) → d.tokens ≡ ts ++ more → ⊥
       go [] e =
-          let same = walked_now g l r.given p.values r.now (pend g l ts p) (sym r.read ∙ (ap (reads g l (origin g l)) (e ∙ append-nil ts) ∙ p.read)) in
-          let n : walked r.later (fresh d.context) ≡ stopped = sym r.settles ∙ (ap (λ q. on_turn (settle g l q) done) same.1 ∙ p.refused done) in
+          let same = walked_now g l r.given p.values r.now (pend g l ts reason p) (sym r.read ∙ (ap (reads g l (origin g l)) (e ∙ append-nil ts) ∙ p.read)) in
+          let n : walked r.later (fresh d.context) ≡ stopped = sym r.settles ∙ (ap (λ q. on_turn (settle g l q) done) same.1 ∙ settling_stops g l ts reason p done) in
           cc
       go (x ∷ xs) e =
           a.after (colons_shown u ts x xs a.are.0 theirs.colon a.are.1 theirs.end a.rest theirs.rest a.are.2 (subst (λ q. LexesTo false 0 u q theirs.colon theirs.end theirs.rest) e theirs.lexes)
-          (colons_next g l ts p x xs r.given r.now (ap (reads g l (origin g l)) (sym e) ∙ r.read)))
+          (colons_next g l ts reason p x xs r.given r.now (ap (reads g l (origin g l)) (sym e) ∙ r.read)))

@@ -2,6 +2,7 @@
 -- that the reader looks in; and behind them none of it is open still, if its last token has ended.
 use Rattle.std.proofs.Common.{◌≡◌, ℕ, Bool, true, false, ◌&&◌, List, [], ◌∷◌, ◌++◌, length, refl, sym, ap, ◌∙◌, subst, append_assoc, append-nil, Ok, Some, ◌⊎◌, inl, inr}
 use Rattle.ion_model.specs.declared.value.Value.{Value}
+use Rattle.ion_model.specs.declared.value.Field.{Field}
 use Rattle.ion_symtab.specs.declared.limits.Limits.{Limits}
 use Rattle.ion_symtab.specs.declared.catalog.Catalog.{Catalog}
 use Rattle.ion_symtab.specs.Slots.{Slot, system_slots}
@@ -16,7 +17,9 @@ use Rattle.ion_tokens.specs.machine.Scanned.{IsAhead}
 use Rattle.ion_tokens.proofs.Found.{Last, Gives, Leaves, Unclosed}
 use Rattle.ion_tokens.proofs.Histories.{begins_completes, stands_found, given_front, left_front}
 use Rattle.ion_text.specs.declared.state.Frame.{Frame}
+use Rattle.ion_text.specs.declared.state.Frame.TheVariants as frames
 use Rattle.ion_text.specs.declared.state.Now.{Now}
+use Rattle.ion_text.specs.declared.state.Now.TheVariants as nows
 use Rattle.ion_text.specs.Grammar.{Pieces, ends_long, begins_as_long}
 use Rattle.ion_text.specs.machine.EachToken.{Reading, goes, Symbols, at, fresh, place, place_in, settle}
 use Rattle.ion_text.specs.machine.Run.{State, is_fresh}
@@ -27,17 +30,16 @@ use Rattle.ion_text.specs.laws.reading.Complete.{Begins, starts}
 use Rattle.ion_text.specs.laws.reading.Depths.{Deep}
 use Rattle.ion_text.specs.laws.reading.Found.{next_is}
 use Rattle.ion_text.specs.laws.reading.Going.{says_so, mark_kind}
-use Rattle.ion_text.specs.laws.reading.Held.{none_open}
+use Rattle.ion_text.specs.laws.reading.Held.{none_open, opened_some}
 use Rattle.ion_text.specs.laws.reading.Pieces.{pieces_read, more_read, top_now, walked_now}
-use Rattle.ion_text.specs.laws.reading.Sound.{NowStands}
-use Rattle.ion_text.specs.laws.reading.Spans.{IsWaiting}
+use Rattle.ion_text.specs.laws.reading.Sound.{NowStands, Opened}
 use Rattle.ion_text.specs.laws.reading.Steps.{Stood}
 use Rattle.ion_text.specs.laws.reading.Stops.{stood_used}
 use Rattle.ion_text.specs.laws.showing.Compare.{Found', alone, placed_same}
 use Rattle.ion_text.specs.laws.showing.Cuts.{Is, finds_is}
 use Rattle.ion_text.specs.laws.showing.Firsts.{opens_item, now_first}
 use Rattle.ion_text.specs.laws.showing.Once.{begins_lexed}
-use Rattle.ion_text.specs.laws.showing.Stays.{Arrived, arrived}
+use Rattle.ion_text.specs.laws.showing.Stays.{Arrived, arrived, opened_read}
 use Rattle.ion_text.specs.laws.showing.Walks.{walking_said, adds_is, behind_read}
 
 abbrev pub Any : Known → List ℕ → Type 0
@@ -221,29 +223,52 @@ module _ (g : Catalog) (l : Limits) where
       let a = item_arrived c fs ss now x xs deep d in
       record { values = vs ++ []; now = a.r; read = item_read c front vs fs ss now x xs pieces d apart a; here = a.here }
 
-  -- nothing waits behind the tokens that is refused if they go on with nothing
-  abbrev pub Settled : List Placed → Type 0
-  Settled ts = (vs : List Value) (n : Reading) → reads g l origin ts ≡ walked vs n → on_turn (settle g l n) done ≡ stopped → ⊥
+  -- behind the tokens the reader comes to this, once it has settled what waits
+  abbrev pub SettlesTo : List Placed → Reading → Type 0
+  SettlesTo ts m = (vs : List Value) (n : Reading) → reads g l origin ts ≡ walked vs n → (later : List Value) × (on_turn (settle g l n) done ≡ walked later m)
 
-  -- where nothing waits
-  pub stands_settled : (c : List Slot) (front : List Placed) (vs : List Value) (fs : List Frame) (ss : Symbols) (now : Now) (item : List Placed) → Pieces g l front vs c → Deep l.depth fs → NowStands c fs ss item now → (ends_long front && begins_as_long item) ≡ false
-      → (IsWaiting g l now → ⊥) → Settled (front ++ item)
-  stands_settled c front vs fs ss now [] pieces deep d apart free ws n e refused =
-      let r = pieces_read g l front vs c pieces in
-      let same = walked_now g l r.given ws r.now n (sym r.read ∙ (ap (reads g l origin) (sym (append-nil front)) ∙ e)) in
-      let never : walked r.later (fresh c) ≡ stopped = sym r.settles ∙ (ap (λ k. on_turn (settle g l k) done) same.1 ∙ refused) in
-      cc
-  stands_settled c front vs fs ss now (x ∷ xs) pieces deep d apart free ws n e refused = by a.is
-    where
-      a : Arrived g l c fs ss now (x ∷ xs)
-      a = item_arrived c fs ss now x xs deep d
+  item_settles : (c : List Slot) (front : List Placed) (vs : List Value) (fs : List Frame) (ss : Symbols) (now : Now) (x : Placed) (xs : List Placed) (m : Reading) → Pieces g l front vs c → NowStands c fs ss (x ∷ xs) now → (ends_long front && begins_as_long (x ∷ xs)) ≡ false
+      → (a : Arrived g l c fs ss now (x ∷ xs)) → settle g l a.r ≡ goes m → SettlesTo (front ++ x ∷ xs) m
+  item_settles c front vs fs ss now x xs m pieces d apart a e ws n read =
+      let same = walked_now g l (vs ++ []) ws a.r n (sym (item_read c front vs fs ss now x xs pieces d apart a) ∙ read) in
+      ([], ap (λ k. on_turn (settle g l k) done) (sym same.1) ∙ ap (λ y. on_turn y done) e)
 
-      same : a.r ≡ n
-      same = (walked_now g l (vs ++ []) ws a.r n (sym (item_read c front vs fs ss now x xs pieces d apart a) ∙ e)).1
+  -- where a value may come
+  pub ready_settles : (c : List Slot) (front : List Placed) (vs : List Value) (fs : List Frame) (ss : Symbols) (item : List Placed) → Pieces g l front vs c → Deep l.depth fs → NowStands c fs ss item nows.Ready → (ends_long front && begins_as_long item) ≡ false
+      → (s : ℕ) × SettlesTo (front ++ item) (at s c fs ss nows.Ready)
+  ready_settles c front vs fs ss [] pieces deep d apart =
+      let none = none_open c fs ss nows.Ready d in (
+        0,
+        λ ws n e.
+            let r = pieces_read g l front vs c pieces in
+            let same = walked_now g l r.given ws r.now n (sym r.read ∙ (ap (reads g l origin) (sym (append-nil front)) ∙ e)) in
+            (r.later, ap (λ k. on_turn (settle g l k) done) (sym same.1) ∙ (r.settles ∙ (ap (λ y. walked r.later (at 0 c y [] nows.Ready)) (sym none.0) ∙ ap (λ y. walked r.later (at 0 c fs y nows.Ready)) (sym none.1)))),
+      )
+  ready_settles c front vs fs ss (x ∷ xs) pieces deep d apart =
+      let a = item_arrived c fs ss nows.Ready x xs deep d in
+      (starts g l 0 [] (x ∷ xs), item_settles c front vs fs ss nows.Ready x xs (at (starts g l 0 [] (x ∷ xs)) c fs ss nows.Ready) pieces d apart a (a.ready refl))
 
-      by : ((m : Reading) × (settle g l a.r ≡ goes m) × (is_fresh m ≡ false) × (m.start ≡ starts g l 0 [] (x ∷ xs))) ⊎ (IsWaiting g l now × IsWaiting g l a.r.now × (a.r.start ≡ starts g l 0 [] (x ∷ xs))) → ⊥
-      by (inl (m, settles, k, i)) = let never : walked [] m ≡ stopped = sym (ap (λ y. on_turn y done) settles) ∙ (ap (λ k. on_turn (settle g l k) done) same ∙ refused) in cc
-      by (inr (w, k, i)) = free w
+  -- what a struct waits for: a name, or what stands behind a field
+  abbrev pub struct_now : Bool → Now
+  struct_now true = nows.Name
+  struct_now false = nows.After
+
+  -- in a struct
+  pub struct_settles : (c : List Slot) (front : List Placed) (vs : List Value) (rs : Symbols) (ms : List Field) (fs : List Frame) (item : List Placed) (more : Bool) → Pieces g l front vs c → Deep l.depth (frames.Fields rs ms ∷ fs) → Opened c (frames.Fields rs ms ∷ fs) item more
+      → (ends_long front && begins_as_long item) ≡ false → (s : ℕ) × SettlesTo (front ++ item) (at s c (frames.Fields rs ms ∷ fs) [] (struct_now more))
+  struct_settles c front vs rs ms fs [] more pieces deep o apart = absurd (let e = opened_some c (frames.Fields rs ms ∷ fs) more o in cc)
+  struct_settles c front vs rs ms fs (x ∷ xs) true pieces deep o apart =
+      let a = item_arrived c (frames.Fields rs ms ∷ fs) [] nows.Name x xs deep (o, tt) in
+      let r = opened_read g l c (frames.Fields rs ms ∷ fs) (x ∷ xs) true deep o in
+      let same = walked_now g l [] [] r.now a.r (sym r.read ∙ a.read) in
+      let there = at (starts g l 0 [] (x ∷ xs)) c (frames.Fields rs ms ∷ fs) [] nows.Name in
+      (starts g l 0 [] (x ∷ xs), item_settles c front vs (frames.Fields rs ms ∷ fs) [] nows.Name x xs there pieces (o, tt) apart a (subst (λ k. settle g l k ≡ goes there) same.1 r.settles))
+  struct_settles c front vs rs ms fs (x ∷ xs) false pieces deep o apart =
+      let a = item_arrived c (frames.Fields rs ms ∷ fs) [] nows.After x xs deep (o, refl, tt) in
+      let r = opened_read g l c (frames.Fields rs ms ∷ fs) (x ∷ xs) false deep o in
+      let same = walked_now g l [] [] r.now a.r (sym r.read ∙ a.read) in
+      let there = at (starts g l 0 [] (x ∷ xs)) c (frames.Fields rs ms ∷ fs) [] nows.After in
+      (starts g l 0 [] (x ∷ xs), item_settles c front vs (frames.Fields rs ms ∷ fs) [] nows.After x xs there pieces (o, refl, tt) apart a (subst (λ k. settle g l k ≡ goes there) same.1 r.settles))
 
   module _ (u : List ℕ) (vs : List Value) (m : State) (b : Stood g l u vs m) where
     -- what the reader told of the octets was read

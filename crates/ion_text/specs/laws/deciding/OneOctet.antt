@@ -1,8 +1,10 @@
--- Rows of the table exclude each other: octets begin with those of a row up to one octet at most.
+-- Rows of the table exclude each other: octets begin with those of a row up to one octet at most, and for one reason.
 use Rattle.std.proofs.Common.{◌≡◌, ℕ, ◌+◌, ◌<◌, ◌≤◌, Bool, true, false, List, [], ◌∷◌, ◌++◌, length, take, drop, refl, sym, ap, ◌∙◌, subst, append_assoc, append-nil, arith, ◌⊎◌, inl, inr, codes}
-use Rattle.std.proofs.lemmas.Bool.{cases_order}
+use Rattle.std.proofs.Math.Nat.{eq-zero-or-pos}
+use Rattle.std.proofs.lemmas.Bool.{cases_lt}
 use Rattle.std.proofs.lemmas.List.{length-append, length-drop, take-append-drop, take-append-le, length-take-le}
 use Rattle.ion_atoms.specs.declared.refusal.Reason.{Reason}
+use Rattle.ion_atoms.specs.declared.refusal.Reason.TheVariants.{Depth, KeywordAsName}
 use Rattle.ion_symtab.specs.declared.limits.Limits.{Limits}
 use Rattle.ion_symtab.specs.declared.catalog.Catalog.{Catalog}
 use Rattle.ion_symtab.specs.Slots.{Slot}
@@ -16,16 +18,18 @@ use Rattle.ion_tokens.specs.Bodies.{Content, Word, Id, TypedNull, Mark'}
 use Rattle.ion_tokens.specs.Lexed.{Placed, BeginsLexed, LexesTo}
 use Rattle.ion_text.specs.Grammar.{Says, BlankThen, close_place}
 use Rattle.ion_text.specs.Deciding.{Decides, Are, NoColons, Comes, Container, InStruct, place_of, IsKeyword, no_symbol, keyword_as_name, keyword_as_annotation, other_version, null_table, too_deep, struct_too_deep, bad_table}
+use Rattle.ion_text.specs.machine.EachToken.{settle}
 use Rattle.ion_text.specs.machine.TokenLists.{walked, stopped, done, then_walk, reads, reads-append}
 use Rattle.ion_text.specs.laws.reading.Going.{mark_kind}
+use Rattle.ion_text.specs.laws.reading.Pieces.{walked_now}
 use Rattle.ion_text.specs.laws.showing.Cuts.{parted, parts_meet, parts_same, lexed_front}
 use Rattle.ion_text.specs.laws.showing.Once.{begins_lexed}
 use Rattle.ion_text.specs.laws.deciding.Agree.{agreed}
 use Rattle.ion_text.specs.laws.deciding.AtEnd.{last_ends}
-use Rattle.ion_text.specs.laws.deciding.Fronts.{origin, Came, Either, HasEnded, Settled, split}
+use Rattle.ion_text.specs.laws.deciding.Fronts.{origin, Came, Either, HasEnded, split}
 use Rattle.ion_text.specs.laws.deciding.Shows.{IsBare, BareSaid, said_bare}
-use Rattle.ion_text.specs.laws.deciding.Tokens.{Stops, ended_by_rest, bare_ended, mark_ended, id_stops, keyword_stops, keyword_note_stops, open_stops, table_stops}
-use Rattle.ion_text.specs.laws.deciding.Waiting.{Pends, pend, colons_next, colons_shown, version_pends, null_pends}
+use Rattle.ion_text.specs.laws.deciding.Tokens.{Refusing, one_refusing, Why, by_itself, as_colons, why_once, Stops, ended_by_rest, bare_ended, mark_ended, id_stops, keyword_stops, keyword_note_stops, open_stops, table_stops}
+use Rattle.ion_text.specs.laws.deciding.Waiting.{Pends, pend, settling_stops, colons_next, colons_shown, version_pends, null_pends}
 
 -- 1. What octets show, where a row stands.
 
@@ -43,9 +47,9 @@ bare_behind (kinds.Mark marks.FieldsOpen) h = refl
 bare_behind _ h = absurd h
 
 -- the last token is refused, or it waits for `::`, which doesn't follow
-pub data Seen (g : Catalog) (l : Limits) (u : List ℕ) : Type 0 where
-  refused : (ts : List Placed) (t : Placed) (rest : List ℕ) → (s : Stops g l ts t) → Are u (s.front ++ t ∷ []) rest → HasEnded g l u t → length rest ≡ behind t.lexeme.kind → Seen g l u
-  unfollowed : (ts : List Placed) → Pends g l ts → NoColons u ts → Seen g l u
+pub data Seen (g : Catalog) (l : Limits) (u : List ℕ) (e : Reason) : Type 0 where
+  refused : (ts : List Placed) (t : Placed) (rest : List ℕ) → (s : Stops g l ts t e) → Are u (s.front ++ t ∷ []) rest → HasEnded g l u t → length rest ≡ behind t.lexeme.kind → Seen g l u e
+  unfollowed : (ts : List Placed) → Pends g l ts e → NoColons u ts → Seen g l u e
 
 pub keyword_bare : (said : Content) → IsKeyword said → BareSaid said
 keyword_bare (Word w) k = tt
@@ -53,36 +57,36 @@ keyword_bare (TypedNull k) i = tt
 keyword_bare _ k = absurd k
 
 module _ (g : Catalog) (l : Limits) (u : List ℕ) where
-  token_seen : (ts : List Placed) (t : Placed) (rest : List ℕ) → Are u ts rest → Stops g l ts t → ((front : List Placed) → Are u (front ++ t ∷ []) rest → HasEnded g l u t) → length rest ≡ behind t.lexeme.kind → Seen g l u
-  token_seen ts t rest are s ended size =
+  token_seen : (ts : List Placed) (t : Placed) (e : Reason) (rest : List ℕ) → Are u ts rest → Stops g l ts t e → ((front : List Placed) → Are u (front ++ t ∷ []) rest → HasEnded g l u t) → length rest ≡ behind t.lexeme.kind → Seen g l u e
+  token_seen ts t e rest are s ended size =
       let all = subst (λ y. Are u y rest) s.is are in
       refused ts t rest s all (ended s.front all) size
 
   -- a word, or the brace of a struct, with the octet behind it
-  bare_seen : (ts : List Placed) (c : List Slot) (ks : List Container) (said : Content) → (o : ℕ) × Are u ts (o ∷ []) → (h : Comes g l c ks said ts) → BareSaid said → Stops g l ts h.token → Seen g l u
-  bare_seen ts c ks said (o, are) h bare s =
-      token_seen ts h.token (o ∷ []) are s (λ front all. bare_ended g l u front h.token (place_of ks) said o [] h.says bare all)
+  bare_seen : (ts : List Placed) (c : List Slot) (ks : List Container) (said : Content) (e : Reason) → (o : ℕ) × Are u ts (o ∷ []) → (h : Comes g l c ks said ts) → BareSaid said → Stops g l ts h.token e → Seen g l u e
+  bare_seen ts c ks said e (o, are) h bare s =
+      token_seen ts h.token e (o ∷ []) are s (λ front all. bare_ended g l u front h.token (place_of ks) said o [] h.says bare all)
       (sym (bare_behind h.token.lexeme.kind (said_bare h.token.lexeme.kind h.token.lexeme.octets said h.says.body bare)))
 
   -- a mark
-  mark_seen : (ts : List Placed) (t : Placed) (p : Place) (x : Mark) → Are u ts [] → Says p t (Mark' x) → is_closing (kinds.Mark x) ≡ true → (x ≡ marks.Colon → ⊥) → behind (kinds.Mark x) ≡ 0 → Stops g l ts t → Seen g l u
-  mark_seen ts t p x are says closing n none s =
-      token_seen ts t [] are s (λ front all. mark_ended g l u p t x says closing n) (sym (ap behind (mark_kind t.lexeme.kind t.lexeme.octets x says.body) ∙ none))
+  mark_seen : (ts : List Placed) (t : Placed) (p : Place) (x : Mark) (e : Reason) → Are u ts [] → Says p t (Mark' x) → is_closing (kinds.Mark x) ≡ true → (x ≡ marks.Colon → ⊥) → behind (kinds.Mark x) ≡ 0 → Stops g l ts t e → Seen g l u e
+  mark_seen ts t p x e are says closing n none s =
+      token_seen ts t e [] are s (λ front all. mark_ended g l u p t x says closing n) (sym (ap behind (mark_kind t.lexeme.kind t.lexeme.octets x says.body) ∙ none))
 
-  pub seen : (e : Reason) → Decides g l u e → Seen g l u
-  seen _ (no_symbol ts c ks id e shown h fails) = bare_seen ts c ks (Id id) shown h tt (id_stops g l ts c ks id e h fails)
-  seen _ (keyword_as_name ts c ks said shown h k) = bare_seen ts c (InStruct ∷ ks) said shown h (keyword_bare said k) (keyword_stops g l ts c ks said h k)
-  seen _ (keyword_as_annotation ts colons c ks said shown h takes k says) = mark_seen (ts ++ colons ∷ []) colons (place_of ks) marks.Colons shown says refl (λ e. cc) refl (keyword_note_stops g l ts colons c ks said h takes k says)
+  pub seen : (e : Reason) → Decides g l u e → Seen g l u e
+  seen _ (no_symbol ts c ks id e shown h fails) = bare_seen ts c ks (Id id) e shown h tt (id_stops g l ts c ks id e h fails)
+  seen _ (keyword_as_name ts c ks said shown h k) = bare_seen ts c (InStruct ∷ ks) said KeywordAsName shown h (keyword_bare said k) (keyword_stops g l ts c ks said h k)
+  seen _ (keyword_as_annotation ts colons c ks said shown h takes k says) = mark_seen (ts ++ colons ∷ []) colons (place_of ks) marks.Colons KeywordAsName shown says refl (λ e. cc) refl (keyword_note_stops g l ts colons c ks said h takes k says)
   seen _ (other_version ts c w shown h none version other) = unfollowed ts (version_pends g l ts c w h none version other) shown
   seen _ (null_table ts c ss k e shown h table fails) = unfollowed ts (null_pends g l ts c ss k e h table fails) shown
   seen _ (too_deep ts c ks said shown h takes (inl i) deep) =
-      mark_seen ts h.token (place_of ks) marks.ListOpen shown (subst (Says (place_of ks) h.token) i h.says) refl (λ e. cc) refl (open_stops g l c ks said ts h takes marks.ListOpen i tt deep)
+      mark_seen ts h.token (place_of ks) marks.ListOpen Depth shown (subst (Says (place_of ks) h.token) i h.says) refl (λ e. cc) refl (open_stops g l c ks said ts h takes marks.ListOpen i tt deep)
   seen _ (too_deep ts c ks said shown h takes (inr i) deep) =
-      mark_seen ts h.token (place_of ks) marks.SexpOpen shown (subst (Says (place_of ks) h.token) i h.says) refl (λ e. cc) refl (open_stops g l c ks said ts h takes marks.SexpOpen i tt deep)
-  seen _ (struct_too_deep ts c ks shown h takes deep) = bare_seen ts c ks (Mark' marks.FieldsOpen) shown h tt (open_stops g l c ks (Mark' marks.FieldsOpen) ts h takes marks.FieldsOpen refl tt deep)
+      mark_seen ts h.token (place_of ks) marks.SexpOpen Depth shown (subst (Says (place_of ks) h.token) i h.says) refl (λ e. cc) refl (open_stops g l c ks said ts h takes marks.SexpOpen i tt deep)
+  seen _ (struct_too_deep ts c ks shown h takes deep) = bare_seen ts c ks (Mark' marks.FieldsOpen) Depth shown h tt (open_stops g l c ks (Mark' marks.FieldsOpen) ts h takes marks.FieldsOpen refl tt deep)
   seen _ (bad_table ts c ss ms e shown h table fails) =
       let s = table_stops g l ts c ss ms e h table fails in
-      mark_seen ts s.close (close_place s.more) marks.FieldsClose shown s.closes refl (λ e. cc) refl s.at_close
+      mark_seen ts s.close (close_place s.more) marks.FieldsClose e shown s.closes refl (λ e. cc) refl s.at_close
 
 -- 2. Octets behind tokens.
 
@@ -115,35 +119,43 @@ module _ (g : Catalog) (l : Limits) where
       by (inr (more, i)) = beyond ts stops front t.place came (x ∷ more) i
 
   -- behind one that waits `::` is
-  pends_beyond : (ts : List Placed) (p : Pends g l ts) (front : List Placed) (t x : Placed) (xs : List Placed) → Came g l front t.place → Settled g l front ⊎ (t.lexeme.kind ≡ kinds.Mark marks.Colons) → front ++ t ∷ [] ≡ ts ++ x ∷ xs → x.lexeme.kind ≡ kinds.Mark marks.Colons
-  pends_beyond ts p front t x xs came settled e = by (split front t ts x xs e) settled
+  pends_beyond : (ts : List Placed) (e f : Reason) (p : Pends g l ts e) (front : List Placed) (t x : Placed) (xs : List Placed) → Came g l front t.place → Why g l front t f → front ++ t ∷ [] ≡ ts ++ x ∷ xs → x.lexeme.kind ≡ kinds.Mark marks.Colons
+  pends_beyond ts e f p front t x xs came why cut = by (split front t ts x xs cut) why
     where
-      by : ((front ≡ ts) × (t ≡ x)) ⊎ ((more : List Placed) × (front ≡ ts ++ x ∷ more)) → Settled g l front ⊎ (t.lexeme.kind ≡ kinds.Mark marks.Colons) → x.lexeme.kind ≡ kinds.Mark marks.Colons
-      by (inl (same, i)) (inl rests) = absurd (rests p.values (pend g l ts p) (ap (reads g l (origin g l)) same ∙ p.read) (p.refused done))
-      by (inl (same, i)) (inr k) = ap (λ (y : Placed). y.lexeme.kind) (sym i) ∙ k
-      by (inr (more, i)) s = colons_next g l ts p x more came.values came.now (ap (reads g l (origin g l)) (sym i) ∙ came.read)
+      by : ((front ≡ ts) × (t ≡ x)) ⊎ ((more : List Placed) × (front ≡ ts ++ x ∷ more)) → Why g l front t f → x.lexeme.kind ≡ kinds.Mark marks.Colons
+      by (inl (same, i)) (by_itself m c settles k n h) =
+          absurd
+          (let s = settles p.values (pend g l ts e p) (ap (reads g l (origin g l)) same ∙ p.read) in
+          let never : walked s.0 m ≡ stopped = sym s.1 ∙ settling_stops g l ts e p done in
+          cc)
+      by (inl (same, i)) (as_colons n vs r k h) = ap (λ (y : Placed). y.lexeme.kind) (sym i) ∙ k
+      by (inr (more, i)) w = colons_next g l ts e p x more came.values came.now (ap (reads g l (origin g l)) (sym i) ∙ came.read)
 
   -- 4. Two rows.
 
-  module _ (u v : List ℕ) (some : 0 < length v) where
+  module _ (u v : List ℕ) where
     -- where `::` doesn't follow it doesn't in more octets
-    none_later : (ts : List Placed) (p : Pends g l ts) → NoColons u ts → (x : Placed) (xs : List Placed) (d : Bool) (f : ℕ) (left : List ℕ) → LexesTo false 0 (u ++ v) (ts ++ x ∷ xs) d f left → x.lexeme.kind ≡ kinds.Mark marks.Colons → ⊥
-    none_later ts p none x xs d f left lexes k =
+    none_later : (ts : List Placed) (e : Reason) (p : Pends g l ts e) → NoColons u ts → (x : Placed) (xs : List Placed) (d : Bool) (f : ℕ) (left : List ℕ) → LexesTo false 0 (u ++ v) (ts ++ x ∷ xs) d f left → x.lexeme.kind ≡ kinds.Mark marks.Colons → ⊥
+    none_later ts e p none x xs d f left lexes k =
         let y = parted ts (x ∷ xs) false 0 (u ++ v) d f left lexes in
         let same = left_same p.front p.token u v none.are.0 y.flag none.are.1 y.mid (none.rest ++ none.o ∷ []) y.left (subst (λ z. LexesTo false 0 u z none.are.0 none.are.1 (none.rest ++ none.o ∷ [])) p.is none.are.2) (subst (λ z. LexesTo false 0 (u ++ v) z y.flag y.mid y.left) p.is y.first) in
         none.after v
         (subst (BlankThen (codes "::")) (sym same ∙ append_assoc none.rest (none.o ∷ []) v) (colons_shown (u ++ v) ts x xs y.flag d y.mid f y.left left y.first lexes k))
 
     -- nor did it in fewer
-    none_before : (ts : List Placed) (p : Pends g l ts) → NoColons (u ++ v) ts → (x : Placed) (xs : List Placed) (d : Bool) (f : ℕ) (left : List ℕ) → LexesTo false 0 u (ts ++ x ∷ xs) d f left → x.lexeme.kind ≡ kinds.Mark marks.Colons → ⊥
-    none_before ts p none x xs d f left lexes k =
+    none_before : (ts : List Placed) (e : Reason) (p : Pends g l ts e) → NoColons (u ++ v) ts → (x : Placed) (xs : List Placed) (d : Bool) (f : ℕ) (left : List ℕ) → LexesTo false 0 u (ts ++ x ∷ xs) d f left → x.lexeme.kind ≡ kinds.Mark marks.Colons → ⊥
+    none_before ts e p none x xs d f left lexes k =
         let y = parted ts (x ∷ xs) false 0 u d f left lexes in
         let same = left_same p.front p.token u v y.flag none.are.0 y.mid none.are.1 y.left (none.rest ++ none.o ∷ []) (subst (λ z. LexesTo false 0 u z y.flag y.mid y.left) p.is y.first) (subst (λ z. LexesTo false 0 (u ++ v) z none.are.0 none.are.1 (none.rest ++ none.o ∷ [])) p.is none.are.2) in
         none.after [] (subst (BlankThen (codes "::")) same (colons_on y.left v (colons_shown u ts x xs y.flag d y.mid f y.left left y.first lexes k)))
 
-    -- one octet shows it
-    shown_once : (ts : List Placed) → Pends g l ts → NoColons u ts → NoColons (u ++ v) ts → ⊥
-    shown_once ts p a b = by (parts_meet b.rest (b.o ∷ []) (a.rest ++ a.o ∷ []) v (sym same))
+    -- the same octets, for one reason
+    abbrev Once : Reason → Reason → Type 0
+    Once e f = (length v ≡ 0) × (e ≡ f)
+
+    -- one octet shows that `::` doesn't follow
+    shown_once : (ts : List Placed) (e : Reason) → Pends g l ts e → NoColons u ts → NoColons (u ++ v) ts → length v ≡ 0
+    shown_once ts e p a b = go (eq-zero-or-pos (length v))
       where
         same : (a.rest ++ a.o ∷ []) ++ v ≡ b.rest ++ b.o ∷ []
         same = left_same p.front p.token u v a.are.0 b.are.0 a.are.1 b.are.1 (a.rest ++ a.o ∷ []) (b.rest ++ b.o ∷ []) (subst (λ z. LexesTo false 0 u z a.are.0 a.are.1 (a.rest ++ a.o ∷ [])) p.is a.are.2) (subst (λ z. LexesTo false 0 (u ++ v) z b.are.0 b.are.1 (b.rest ++ b.o ∷ [])) p.is b.are.2)
@@ -153,133 +165,129 @@ module _ (g : Catalog) (l : Limits) where
             a.after (y ++ b.before.0)
             (subst (BlankThen (codes "::")) (ap (λ z. z ++ b.before.0) e ∙ (append_assoc (a.rest ++ a.o ∷ []) y b.before.0 ∙ append_assoc a.rest (a.o ∷ []) (y ++ b.before.0))) b.before.1)
 
-        none : (z : List ℕ) → length z + length v ≡ 1 → z ≡ []
-        none [] e = refl
-        none (x ∷ z) e = absurd (omega (arith, e, some))
+        none : 0 < length v → (z : List ℕ) → length z + length v ≡ 1 → z ≡ []
+        none some [] e = refl
+        none some (x ∷ z) e = absurd (omega (arith, e, some))
 
-        by : ((y : List ℕ) × (b.rest ≡ (a.rest ++ a.o ∷ []) ++ y) × (y ++ b.o ∷ [] ≡ v)) ⊎ ((z : List ℕ) × (a.rest ++ a.o ∷ [] ≡ b.rest ++ z) × (z ++ v ≡ b.o ∷ [])) → ⊥
-        by (inl (y, e, f)) = behind_it y e
-        by (inr (z, e, f)) =
-            let n = none z (omega (arith, ap length f, length-append z v)) in
+        by : 0 < length v → ((y : List ℕ) × (b.rest ≡ (a.rest ++ a.o ∷ []) ++ y) × (y ++ b.o ∷ [] ≡ v)) ⊎ ((z : List ℕ) × (a.rest ++ a.o ∷ [] ≡ b.rest ++ z) × (z ++ v ≡ b.o ∷ [])) → ⊥
+        by some (inl (y, e, f)) = behind_it y e
+        by some (inr (z, e, f)) =
+            let n = none some z (omega (arith, ap length f, length-append z v)) in
             behind_it [] (sym (e ∙ (ap (λ y. b.rest ++ y) n ∙ append-nil b.rest)) ∙ sym (append-nil (a.rest ++ a.o ∷ [])))
 
-    -- the same token, refused in two places
-    refused_once : (front back : List Placed) (t w : Placed) (rest left : List ℕ) → Are u (front ++ t ∷ []) rest → Are (u ++ v) (back ++ w ∷ []) left → length rest ≡ behind t.lexeme.kind → length left ≡ behind w.lexeme.kind → front ++ t ∷ [] ≡ back ++ w ∷ [] → ⊥
-    refused_once front back t w rest left (c, e, a) (d, f, b) m n same = by (split front t back w [] same)
+        go : (length v ≡ 0) ⊎ (0 < length v) → length v ≡ 0
+        go (inl n) = n
+        go (inr some) = absurd (by some (parts_meet b.rest (b.o ∷ []) (a.rest ++ a.o ∷ []) v (sym same)))
+
+    -- the same tokens, of which the last one is refused
+    refused_once : (front back : List Placed) (t w : Placed) (e f : Reason) (rest left : List ℕ) → Are u (front ++ t ∷ []) rest → Are (u ++ v) (back ++ w ∷ []) left → length rest ≡ behind t.lexeme.kind → length left ≡ behind w.lexeme.kind
+        → Came g l front t.place → Why g l front t e → Why g l back w f → front ++ t ∷ [] ≡ back ++ w ∷ [] → Once e f
+    refused_once front back t w e f rest left (c, i, a) (d, j, b) m n came why why' same = by (split front t back w [] same)
       where
-        by : ((front ≡ back) × (t ≡ w)) ⊎ ((more : List Placed) × (front ≡ back ++ w ∷ more)) → ⊥
-        by (inl (i, j)) =
-            let x = lexed_front (front ++ t ∷ []) false 0 u c e rest a in
-            let y = lexed_front (back ++ w ∷ []) false 0 (u ++ v) d f left b in
-            omega (
-              arith,
-              some,
-              x.2,
-              y.2,
-              last_ends front t false 0 u c e rest a,
-              last_ends back w false 0 (u ++ v) d f left b,
-              m,
-              n,
-              ap (λ (z : Placed). z.lexeme.end) j,
-              ap (λ (z : Placed). behind z.lexeme.kind) j,
-              ap length x.1,
-              ap length y.1,
-              length-append x.0 rest,
-              length-append y.0 left,
-              length-append u v,
+        longer : (more : List Placed) → front ≡ back ++ w ∷ more → ⊥
+        longer more h = omega (arith, ap length same, ap length h, length-append front (t ∷ []), length-append back (w ∷ []), length-append back (w ∷ more))
+
+        by : ((front ≡ back) × (t ≡ w)) ⊎ ((more : List Placed) × (front ≡ back ++ w ∷ more)) → Once e f
+        by (inl (h, k)) =
+            let x = lexed_front (front ++ t ∷ []) false 0 u c i rest a in
+            let y = lexed_front (back ++ w ∷ []) false 0 (u ++ v) d j left b in (
+              omega (
+                arith,
+                x.2,
+                y.2,
+                last_ends front t false 0 u c i rest a,
+                last_ends back w false 0 (u ++ v) d j left b,
+                m,
+                n,
+                ap (λ (z : Placed). z.lexeme.end) k,
+                ap (λ (z : Placed). behind z.lexeme.kind) k,
+                ap length x.1,
+                ap length y.1,
+                length-append x.0 rest,
+                length-append y.0 left,
+                length-append u v,
+              ),
+              why_once g l front t e f t.place came why (subst (λ z. Why g l front z f) (sym k) (subst (λ z. Why g l z w f) (sym h) why')),
             )
-        by (inr (more, i)) = longer front back w more t same i
-          where
-            longer : (front back : List Placed) (w : Placed) (more : List Placed) (t : Placed) → front ++ t ∷ [] ≡ back ++ w ∷ [] → front ≡ back ++ w ∷ more → ⊥
-            longer front back w more t e i = let n = ap length e in absurd (omega (arith, n, ap length i, length-append front (t ∷ []), length-append back (w ∷ []), length-append back (w ∷ more)))
+        by (inr (more, h)) = absurd (longer more h)
 
     lexes_front : (ts : List Placed) (w : List ℕ) (rest : List ℕ) → Are w ts rest → BeginsLexed false 0 w ts
     lexes_front ts w rest (c, e, a) = begins_lexed ts false 0 w c e rest a
 
-    apart : Seen g l u → Seen g l (u ++ v) → ⊥
-    apart (refused ts t rest s are ended size) (refused ws w left s' are' ended' size') =
+    stops_so : (ts : List Placed) (t : Placed) (e : Reason) (s : Stops g l ts t e) → reads g l (origin g l) (s.front ++ t ∷ []) ≡ stopped
+    stops_so ts t e s = ap (reads g l (origin g l)) (sym s.is) ∙ s.stops
+
+    -- no token is refused among those that are read
+    read_on : (ts : List Placed) (e : Reason) (p : Pends g l ts e) (front more : List Placed) → reads g l (origin g l) front ≡ stopped → p.front ++ p.token ∷ [] ≡ front ++ more → ⊥
+    read_on ts e p front more stops cut =
+        let never : walked p.values (pend g l ts e p) ≡ stopped = sym p.read ∙ (ap (reads g l (origin g l)) (p.is ∙ cut) ∙ (reads-append g l front more (origin g l) ∙ ap (λ y. then_walk y (λ k. reads g l k more)) stops)) in
+        cc
+
+    waited_ended : (ts : List Placed) (e : Reason) (p : Pends g l ts e) → NoColons u ts → HasEnded g l u p.token
+    waited_ended ts e p n = ended_by_rest g l u p.front p.token n.o n.rest p.plain (subst (λ z. Are u z (n.rest ++ n.o ∷ [])) p.is n.are)
+
+    met : (e f : Reason) → Seen g l u e → Seen g l (u ++ v) f → Once e f
+    met e f (refused ts t rest s are ended size) (refused ws w left s' are' ended' size') =
         by (agreed g l u v s.front s'.front t w ended s.came s'.came (lexes_front (s.front ++ t ∷ []) u rest are) (lexes_front (s'.front ++ w ∷ []) (u ++ v) left are'))
       where
-        stops : reads g l (origin g l) (s.front ++ t ∷ []) ≡ stopped
-        stops = ap (reads g l (origin g l)) (sym s.is) ∙ s.stops
+        same : s.front ++ t ∷ [] ≡ s'.front ++ w ∷ [] → Once e f
+        same = refused_once s.front s'.front t w e f rest left are are' size size' s.came s.why s'.why
 
-        stops' : reads g l (origin g l) (s'.front ++ w ∷ []) ≡ stopped
-        stops' = ap (reads g l (origin g l)) (sym s'.is) ∙ s'.stops
-
-        by : Either g l (s.front ++ t ∷ []) (s'.front ++ w ∷ []) → ⊥
-        by (inl ([], e)) = refused_once s.front s'.front t w rest left are are' size size' (sym (e ∙ append-nil (s.front ++ t ∷ [])))
-        by (inl (x ∷ xs, e)) = stops_beyond (s.front ++ t ∷ []) stops s'.front w x xs s'.came e
-        by (inr ([], e)) = refused_once s.front s'.front t w rest left are are' size size' (e ∙ append-nil (s'.front ++ w ∷ []))
-        by (inr (x ∷ xs, e)) = stops_beyond (s'.front ++ w ∷ []) stops' s.front t x xs s.came e
-    apart (refused ts t rest s are ended size) (unfollowed ws p none) =
-        by (agreed g l u v s.front p.front t p.token ended s.came p.came (lexes_front (s.front ++ t ∷ []) u rest are) (subst (BeginsLexed false 0 (u ++ v)) p.is (lexes_front ws (u ++ v) (none.rest ++ none.o ∷ []) none.are)))
+        by : Either g l (s.front ++ t ∷ []) (s'.front ++ w ∷ []) → Once e f
+        by (inl ([], i)) = same (sym (i ∙ append-nil (s.front ++ t ∷ [])))
+        by (inl (x ∷ xs, i)) = absurd (stops_beyond (s.front ++ t ∷ []) (stops_so ts t e s) s'.front w x xs s'.came i)
+        by (inr ([], i)) = same (i ∙ append-nil (s'.front ++ w ∷ []))
+        by (inr (x ∷ xs, i)) = absurd (stops_beyond (s'.front ++ w ∷ []) (stops_so ws w f s') s.front t x xs s.came i)
+    met e f (refused ts t rest s are ended size) (unfollowed ws p none) =
+        absurd (by (agreed g l u v s.front p.front t p.token ended s.came p.came (lexes_front (s.front ++ t ∷ []) u rest are) (subst (BeginsLexed false 0 (u ++ v)) p.is (lexes_front ws (u ++ v) (none.rest ++ none.o ∷ []) none.are))))
       where
-        stops : reads g l (origin g l) (s.front ++ t ∷ []) ≡ stopped
-        stops = ap (reads g l (origin g l)) (sym s.is) ∙ s.stops
-
-        read : (more : List Placed) → p.front ++ p.token ∷ [] ≡ (s.front ++ t ∷ []) ++ more → ⊥
-        read more e =
-            let never : walked p.values (pend g l ws p) ≡ stopped = sym p.read ∙ (ap (reads g l (origin g l)) (p.is ∙ e) ∙ (reads-append g l (s.front ++ t ∷ []) more (origin g l) ∙ ap (λ y. then_walk y (λ k. reads g l k more)) stops)) in
-            cc
-
         later : (x : Placed) (xs : List Placed) → s.front ++ t ∷ [] ≡ ws ++ x ∷ xs → ⊥
-        later x xs e = none_before ws p none x xs are.0 are.1 rest (subst (λ z. LexesTo false 0 u z are.0 are.1 rest) e are.2) (pends_beyond ws p s.front t x xs s.came s.settled e)
+        later x xs i = none_before ws f p none x xs are.0 are.1 rest (subst (λ z. LexesTo false 0 u z are.0 are.1 rest) i are.2) (pends_beyond ws f e p s.front t x xs s.came s.why i)
 
         by : Either g l (s.front ++ t ∷ []) (p.front ++ p.token ∷ []) → ⊥
-        by (inl (more, e)) = read more e
-        by (inr ([], e)) = read [] (sym (e ∙ append-nil (p.front ++ p.token ∷ [])) ∙ sym (append-nil (s.front ++ t ∷ [])))
-        by (inr (x ∷ xs, e)) = later x xs (e ∙ ap (λ z. z ++ x ∷ xs) (sym p.is))
-    apart (unfollowed ts p none) (refused ws w left s are ended size) =
-        by (agreed g l u v p.front s.front p.token w (waited_ended none) p.came s.came (subst (BeginsLexed false 0 u) p.is (lexes_front ts u (none.rest ++ none.o ∷ []) none.are)) (lexes_front (s.front ++ w ∷ []) (u ++ v) left are))
+        by (inl (more, i)) = read_on ws f p (s.front ++ t ∷ []) more (stops_so ts t e s) i
+        by (inr ([], i)) = read_on ws f p (s.front ++ t ∷ []) [] (stops_so ts t e s) (sym (i ∙ append-nil (p.front ++ p.token ∷ [])) ∙ sym (append-nil (s.front ++ t ∷ [])))
+        by (inr (x ∷ xs, i)) = later x xs (i ∙ ap (λ z. z ++ x ∷ xs) (sym p.is))
+    met e f (unfollowed ts p none) (refused ws w left s are ended size) =
+        absurd (by (agreed g l u v p.front s.front p.token w (waited_ended ts e p none) p.came s.came (subst (BeginsLexed false 0 u) p.is (lexes_front ts u (none.rest ++ none.o ∷ []) none.are)) (lexes_front (s.front ++ w ∷ []) (u ++ v) left are)))
       where
-        waited_ended : NoColons u ts → HasEnded g l u p.token
-        waited_ended n = ended_by_rest g l u p.front p.token n.o n.rest p.plain (subst (λ z. Are u z (n.rest ++ n.o ∷ [])) p.is n.are)
-
-        stops : reads g l (origin g l) (s.front ++ w ∷ []) ≡ stopped
-        stops = ap (reads g l (origin g l)) (sym s.is) ∙ s.stops
-
-        read : (more : List Placed) → p.front ++ p.token ∷ [] ≡ (s.front ++ w ∷ []) ++ more → ⊥
-        read more e =
-            let never : walked p.values (pend g l ts p) ≡ stopped = sym p.read ∙ (ap (reads g l (origin g l)) (p.is ∙ e) ∙ (reads-append g l (s.front ++ w ∷ []) more (origin g l) ∙ ap (λ y. then_walk y (λ k. reads g l k more)) stops)) in
-            cc
-
         later : (x : Placed) (xs : List Placed) → s.front ++ w ∷ [] ≡ ts ++ x ∷ xs → ⊥
-        later x xs e = none_later ts p none x xs are.0 are.1 left (subst (λ z. LexesTo false 0 (u ++ v) z are.0 are.1 left) e are.2) (pends_beyond ts p s.front w x xs s.came s.settled e)
+        later x xs i = none_later ts e p none x xs are.0 are.1 left (subst (λ z. LexesTo false 0 (u ++ v) z are.0 are.1 left) i are.2) (pends_beyond ts e f p s.front w x xs s.came s.why i)
 
         by : Either g l (p.front ++ p.token ∷ []) (s.front ++ w ∷ []) → ⊥
-        by (inl ([], e)) = read [] (sym (e ∙ append-nil (p.front ++ p.token ∷ [])) ∙ sym (append-nil (s.front ++ w ∷ [])))
-        by (inl (x ∷ xs, e)) = later x xs (e ∙ ap (λ z. z ++ x ∷ xs) (sym p.is))
-        by (inr (more, e)) = read more e
-    apart (unfollowed ts p none) (unfollowed ws q none') =
-        by (agreed g l u v p.front q.front p.token q.token ended p.came q.came (subst (BeginsLexed false 0 u) p.is (lexes_front ts u (none.rest ++ none.o ∷ []) none.are)) (subst (BeginsLexed false 0 (u ++ v)) q.is (lexes_front ws (u ++ v) (none'.rest ++ none'.o ∷ []) none'.are)))
+        by (inl ([], i)) = read_on ts e p (s.front ++ w ∷ []) [] (stops_so ws w f s) (sym (i ∙ append-nil (p.front ++ p.token ∷ [])) ∙ sym (append-nil (s.front ++ w ∷ [])))
+        by (inl (x ∷ xs, i)) = later x xs (i ∙ ap (λ z. z ++ x ∷ xs) (sym p.is))
+        by (inr (more, i)) = read_on ts e p (s.front ++ w ∷ []) more (stops_so ws w f s) i
+    met e f (unfollowed ts p none) (unfollowed ws q none') =
+        by (agreed g l u v p.front q.front p.token q.token (waited_ended ts e p none) p.came q.came (subst (BeginsLexed false 0 u) p.is (lexes_front ts u (none.rest ++ none.o ∷ []) none.are)) (subst (BeginsLexed false 0 (u ++ v)) q.is (lexes_front ws (u ++ v) (none'.rest ++ none'.o ∷ []) none'.are)))
       where
-        ended : HasEnded g l u p.token
-        ended = ended_by_rest g l u p.front p.token none.o none.rest p.plain (subst (λ z. Are u z (none.rest ++ none.o ∷ [])) p.is none.are)
-
-        same : ts ≡ ws → ⊥
-        same e = shown_once ts p none (subst (NoColons (u ++ v)) (sym e) none')
+        same : ts ≡ ws → Once e f
+        same i =
+            let one = walked_now g l p.values q.values (pend g l ts e p) (pend g l ws f q) (sym p.read ∙ (ap (reads g l (origin g l)) i ∙ q.read)) in
+            (shown_once ts e p none (subst (NoColons (u ++ v)) (sym i) none'), one_refusing e f (settle g l (pend g l ws f q)) (subst (λ k. Refusing e (settle g l k)) one.1 p.why) q.why)
 
         later : (x : Placed) (xs : List Placed) → ws ≡ ts ++ x ∷ xs → ⊥
-        later x xs e =
-            none_later ts p none x xs none'.are.0 none'.are.1 (none'.rest ++ none'.o ∷ []) (subst (λ z. LexesTo false 0 (u ++ v) z none'.are.0 none'.are.1 (none'.rest ++ none'.o ∷ [])) e none'.are.2)
-            (colons_next g l ts p x xs q.values (pend g l ws q) (ap (reads g l (origin g l)) (sym e) ∙ q.read))
+        later x xs i =
+            none_later ts e p none x xs none'.are.0 none'.are.1 (none'.rest ++ none'.o ∷ []) (subst (λ z. LexesTo false 0 (u ++ v) z none'.are.0 none'.are.1 (none'.rest ++ none'.o ∷ [])) i none'.are.2)
+            (colons_next g l ts e p x xs q.values (pend g l ws f q) (ap (reads g l (origin g l)) (sym i) ∙ q.read))
 
         earlier : (x : Placed) (xs : List Placed) → ts ≡ ws ++ x ∷ xs → ⊥
-        earlier x xs e =
-            none_before ws q none' x xs none.are.0 none.are.1 (none.rest ++ none.o ∷ []) (subst (λ z. LexesTo false 0 u z none.are.0 none.are.1 (none.rest ++ none.o ∷ [])) e none.are.2)
-            (colons_next g l ws q x xs p.values (pend g l ts p) (ap (reads g l (origin g l)) (sym e) ∙ p.read))
+        earlier x xs i =
+            none_before ws f q none' x xs none.are.0 none.are.1 (none.rest ++ none.o ∷ []) (subst (λ z. LexesTo false 0 u z none.are.0 none.are.1 (none.rest ++ none.o ∷ [])) i none.are.2)
+            (colons_next g l ws f q x xs p.values (pend g l ts e p) (ap (reads g l (origin g l)) (sym i) ∙ p.read))
 
-        by : Either g l (p.front ++ p.token ∷ []) (q.front ++ q.token ∷ []) → ⊥
-        by (inl ([], e)) = same (p.is ∙ (sym (e ∙ append-nil (p.front ++ p.token ∷ [])) ∙ sym q.is))
-        by (inl (x ∷ xs, e)) = later x xs (q.is ∙ (e ∙ ap (λ z. z ++ x ∷ xs) (sym p.is)))
-        by (inr ([], e)) = same (p.is ∙ (e ∙ append-nil (q.front ++ q.token ∷ []) ∙ sym q.is))
-        by (inr (x ∷ xs, e)) = earlier x xs (p.is ∙ (e ∙ ap (λ z. z ++ x ∷ xs) (sym q.is)))
+        by : Either g l (p.front ++ p.token ∷ []) (q.front ++ q.token ∷ []) → Once e f
+        by (inl ([], i)) = same (p.is ∙ (sym (i ∙ append-nil (p.front ++ p.token ∷ [])) ∙ sym q.is))
+        by (inl (x ∷ xs, i)) = absurd (later x xs (q.is ∙ (i ∙ ap (λ z. z ++ x ∷ xs) (sym p.is))))
+        by (inr ([], i)) = same (p.is ∙ (i ∙ append-nil (q.front ++ q.token ∷ []) ∙ sym q.is))
+        by (inr (x ∷ xs, i)) = absurd (earlier x xs (p.is ∙ (i ∙ ap (λ z. z ++ x ∷ xs) (sym q.is))))
 
-  before_another : (u : List ℕ) (j k : ℕ) (e f : Reason) → j < k → k ≤ length u → Decides g l (take j u) e → Decides g l (take k u) f → ⊥
-  before_another u j k e f less within d d' = apart (take j u) (drop j (take k u)) some (seen g l (take j u) e d) (subst (Seen g l) cut (seen g l (take k u) f d'))
+  -- in octets and in more of them
+  within : (u : List ℕ) (j k : ℕ) (e f : Reason) → j ≤ k → k ≤ length u → Decides g l (take j u) e → Decides g l (take k u) f → (j ≡ k) × (e ≡ f)
+  within u j k e f less inside d d' = let m = met (take j u) (drop j (take k u)) e f (seen g l (take j u) e d) (subst (λ y. Seen g l y f) cut (seen g l (take k u) f d')) in (omega (arith, m.0, less, size, length-drop j (take k u)), m.1)
     where
       size : length (take k u) ≡ k
-      size = length-take-le k u within
+      size = length-take-le k u inside
 
       front : take j (take k u) ≡ take j u
       front = sym (take-append-le j (take k u) (drop k u) (omega (arith, less, size))) ∙ ap (take j) (take-append-drop k u)
@@ -287,14 +295,10 @@ module _ (g : Catalog) (l : Limits) where
       cut : take k u ≡ take j u ++ drop j (take k u)
       cut = sym (take-append-drop j (take k u)) ∙ ap (λ z. z ++ drop j (take k u)) front
 
-      some : 0 < length (drop j (take k u))
-      some = omega (arith, less, size, length-drop j (take k u))
-
-  -- Octets begin with those of rows up to one octet.
-  pub one_octet : (u : List ℕ) (j k : ℕ) (e f : Reason) → j ≤ length u → k ≤ length u → Decides g l (take j u) e → Decides g l (take k u) f → j ≡ k
-  one_octet u j k e f m n d d' = by (cases_order j k)
+  -- Octets begin with those of rows up to one octet, and for one reason.
+  pub one_octet : (u : List ℕ) (j k : ℕ) (e f : Reason) → j ≤ length u → k ≤ length u → Decides g l (take j u) e → Decides g l (take k u) f → (j ≡ k) × (e ≡ f)
+  one_octet u j k e f m n d d' = by (cases_lt j k)
     where
-      by : (j ≡ k) ⊎ ((j < k) ⊎ (k < j)) → j ≡ k
-      by (inl same) = same
-      by (inr (inl less)) = absurd (before_another u j k e f less n d d')
-      by (inr (inr more)) = absurd (before_another u k j f e more m d' d)
+      by : (j < k) ⊎ (k ≤ j) → (j ≡ k) × (e ≡ f)
+      by (inl less) = within u j k e f (omega (arith, less)) n d d'
+      by (inr more) = let h = within u k j f e more m d' d in (sym h.0, sym h.1)

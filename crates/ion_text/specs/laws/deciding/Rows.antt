@@ -3,6 +3,7 @@ use Rattle.std.proofs.Common.{◌≡◌, ◌≤◌, ℕ, List, [], ◌∷◌, �
 use Rattle.std.proofs.lemmas.List.{take-append-drop, length-take-le}
 use Rattle.ion_model.specs.declared.value.Value.{Value}
 use Rattle.ion_atoms.specs.declared.refusal.Reason.{Reason}
+use Rattle.ion_atoms.specs.declared.refusal.Reason.TheVariants.{Version, KeywordAsName}
 use Rattle.ion_atoms.specs.declared.refusal.Refusal.{Refusal}
 use Rattle.ion_symtab.specs.declared.limits.Limits.{Limits}
 use Rattle.ion_symtab.specs.declared.catalog.Catalog.{Catalog}
@@ -31,23 +32,23 @@ use Rattle.ion_text.specs.laws.deciding.Waiting.{pends_refused, version_pends, n
 -- 1. Octets.
 
 module _ (g : Catalog) (l : Limits) (u : List ℕ) (vs : List Value) (m : State) (b : Stood g l u vs m) (wait : Waits g l m.scan m.reading.now) where
-  row_refused : Seen g l u → ⊥
-  row_refused (refused ts t rest s are ended size) =
+  row_refused : (e : Reason) → Seen g l u e → ⊥
+  row_refused e (refused ts t rest s are ended size) =
       none_refused g l u vs m b s.front t are.0 are.1 rest are.2 (last_in_place g l s.front t s.came) ended (sym (ap (reads g l (origin g l)) s.is) ∙ s.stops)
-  row_refused (unfollowed ts pends none) = pends_refused g l u vs m b wait ts pends none
+  row_refused e (unfollowed ts pends none) = pends_refused g l u vs m b wait ts e pends none
 
--- Where a row stands, that octet is refused, or one before it for a reason that no row has.
-pub refuses : (g : Catalog) (l : Limits) (u : List ℕ) (k : ℕ) (e : Reason) → k ≤ length u → Decides g l (take k u) e → (r : Refusal) × ((trace g l u).refused ≡ Some r) × (r.offset ≤ k) × (HasRow r.reason → r.offset ≡ k)
+-- Where a row stands, that octet is refused for the row's reason, or for one that no row has, and then it may be an octet before it.
+pub refuses : (g : Catalog) (l : Limits) (u : List ℕ) (k : ℕ) (e : Reason) → k ≤ length u → Decides g l (take k u) e → (r : Refusal) × ((trace g l u).refused ≡ Some r) × (r.offset ≤ k) × (HasRow r.reason → (r.offset ≡ k) × (r.reason ≡ e))
 refuses g l u k e within d = go x.given x.now refl (run_ran g l (take k u) [] [] 0 begun (begun_stood g l)) (run_waits g l (take k u) [] [] 0 begun (begun_stood g l) tt)
   where
     x : Run
     x = run g l 0 begun (take k u)
 
-    here : (r : Refusal) → (trace g l u).refused ≡ Some r → r.offset ≤ k → HasRow r.reason → r.offset ≡ k
+    here : (r : Refusal) → (trace g l u).refused ≡ Some r → r.offset ≤ k → HasRow r.reason → (r.offset ≡ k) × (r.reason ≡ e)
     here r stops early row = one_octet g l u r.offset k r.reason e (omega (arith, early, within)) within (deciding g l u r stops row) d
 
-    go : (given : List (Value × ℕ)) (now : Result State Refusal) → x.now ≡ now → Ran g l (take k u) [] (record { given = given; now = now }) → EndsWaiting g l now → (r : Refusal) × ((trace g l u).refused ≡ Some r) × (r.offset ≤ k) × (HasRow r.reason → r.offset ≡ k)
-    go given (Ok m) same b wait = absurd (row_refused g l (take k u) (plain given) m b wait (seen g l (take k u) e d))
+    go : (given : List (Value × ℕ)) (now : Result State Refusal) → x.now ≡ now → Ran g l (take k u) [] (record { given = given; now = now }) → EndsWaiting g l now → (r : Refusal) × ((trace g l u).refused ≡ Some r) × (r.offset ≤ k) × (HasRow r.reason → (r.offset ≡ k) × (r.reason ≡ e))
+    go given (Ok m) same b wait = absurd (row_refused g l (take k u) (plain given) m b wait e (seen g l (take k u) e d))
     go given (Err r) same b wait =
         let front : run g l 0 begun u ≡ on_now x.given x.now (λ n. run g l (length (take k u)) n (drop k u)) = ap (run g l 0 begun) (sym (take-append-drop k u)) ∙ behind_run g l (take k u) (drop k u) in
         let stops : (run g l 0 begun u).now ≡ Err r = ap (λ (y : Run). y.now) front ∙ ap (λ y. (on_now x.given y (λ n. run g l (length (take k u)) n (drop k u))).now) same in
@@ -62,11 +63,11 @@ module _ (g : Catalog) (l : Limits) (u : List ℕ) where
 
   -- octets of which the end decides are no document
   end_never : (e : Reason) → EndDecides g l u e → (s : List Value) → Document g l u s → ⊥
-  end_never _ (no_symbol ts c ks id e shown h fails) s d = stops_never g l u s d ts h.token [] shown (id_stops g l ts c ks id e h fails) (word_plain c ks (Id id) ts h tt)
-  end_never _ (keyword_as_name ts c ks said shown h k) s d = stops_never g l u s d ts h.token [] shown (keyword_stops g l ts c ks said h k) (word_plain c (InStruct ∷ ks) said ts h (keyword_bare said k))
+  end_never _ (no_symbol ts c ks id e shown h fails) s d = stops_never g l u s d ts h.token e [] shown (id_stops g l ts c ks id e h fails) (word_plain c ks (Id id) ts h tt)
+  end_never _ (keyword_as_name ts c ks said shown h k) s d = stops_never g l u s d ts h.token KeywordAsName [] shown (keyword_stops g l ts c ks said h k) (word_plain c (InStruct ∷ ks) said ts h (keyword_bare said k))
   end_never _ (keyword_as_annotation ts colons c ks said shown h takes k says) s d = absurd shown
-  end_never _ (other_version ts c w shown h none version other) s d = pends_never g l u s d ts shown (version_pends g l ts c w h none version other)
-  end_never _ (null_table ts c ss k e shown h table fails) s d = pends_never g l u s d ts shown (null_pends g l ts c ss k e h table fails)
+  end_never _ (other_version ts c w shown h none version other) s d = pends_never g l u s d ts Version shown (version_pends g l ts c w h none version other)
+  end_never _ (null_table ts c ss k e shown h table fails) s d = pends_never g l u s d ts e shown (null_pends g l ts c ss k e h table fails)
   end_never _ (too_deep ts c ks said shown h takes opens deep) s d = absurd shown
   end_never _ (struct_too_deep ts c ks shown h takes deep) s d = absurd shown
   end_never _ (bad_table ts c ss ms e shown h table fails) s d = absurd shown

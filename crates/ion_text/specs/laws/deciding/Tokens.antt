@@ -1,6 +1,6 @@
 -- Where a row of the table stands whose last token is refused, octets are refused.
 use Rattle.std.proofs.Common.{◌≡◌, ℕ, ◌+◌, ◌≤◌, nat_lt, Bool, true, false, ◌&&◌, ◌||◌, List, [], ◌∷◌, ◌++◌, length, refl, sym, ap, ◌∙◌, subst, arith, append_assoc, length-append, Result, Ok, Err, Option, Some, if◌then◌else◌, ◌⊎◌, inl, inr, codes}
-use Rattle.std.proofs.lemmas.Bool.{cond-true, cond-false}
+use Rattle.std.proofs.lemmas.Bool.{cond-true}
 use Rattle.std.proofs.lemmas.Bool.Decides.{nat_tests}
 use Rattle.std.specs.Str.{bytes_eq}
 use Rattle.ion_model.specs.declared.value.Value.{Value}
@@ -27,8 +27,9 @@ use Rattle.ion_tokens.specs.declared.mode.TokenKind.TheVariants as kinds
 use Rattle.ion_tokens.specs.machine.Table.{end_of}
 use Rattle.ion_tokens.specs.machine.Bounds.{is_idle}
 use Rattle.ion_tokens.specs.machine.Ahead.{is_closing}
+use Rattle.ion_tokens.specs.machine.Said.{said}
 use Rattle.ion_tokens.specs.machine.Scanning.{Known, at_end}
-use Rattle.ion_tokens.specs.Bodies.{Content, Word, Id, TypedNull, Mark'}
+use Rattle.ion_tokens.specs.Bodies.{Content, Word, Id, TypedNull, Mark', IsBody}
 use Rattle.ion_tokens.specs.Lexed.{Placed}
 use Rattle.ion_text.specs.declared.state.Held.{Held}
 use Rattle.ion_text.specs.declared.state.Held.TheVariants as helds
@@ -37,15 +38,15 @@ use Rattle.ion_text.specs.declared.state.Frame.TheVariants as frames
 use Rattle.ion_text.specs.declared.state.Now.TheVariants as nows
 use Rattle.ion_text.specs.Grammar.{Says, Annotations, Plain, one_token, long_string, is_list, is_sexp, is_struct, Means, means, Members, IsScalar, is_null, is_typed_null, is_true, is_false, is_int, is_decimal, is_timestamp, is_symbol, is_operator, is_short, is_clob, is_blob, is_keyword, is_version, the_marker, close_place, ends_long, begins_as_long}
 use Rattle.ion_text.specs.Deciding.{Container, InList, InSexp, InStruct, InField, place_of, TakesValue, Comes, Ends, Are, IsKeyword}
-use Rattle.ion_text.specs.machine.EachToken.{under, spot_at, Reading, Turn, goes, refuses, late, Symbols, at, fresh, place, turn, ended, turned, held_word, held_symbol, begun_at, on_ready, resolved, noted}
+use Rattle.ion_text.specs.machine.EachToken.{under, spot_at, Reading, Turn, goes, gives, refuses, late, Symbols, at, fresh, place, turn, ended, turned, held_word, held_symbol, begun_at, on_ready, resolved, noted}
 use Rattle.ion_text.specs.machine.Run.{token_of}
-use Rattle.ion_text.specs.machine.TokenLists.{stopped, adds, done, on_turn, reads, first_token}
+use Rattle.ion_text.specs.machine.TokenLists.{Walk, walked, stopped, adds, done, on_turn, reads, said_ok, first_token}
 use Rattle.ion_text.specs.laws.reading.Admits.{at_end_fine}
 use Rattle.ion_text.specs.laws.reading.Complete.{depth-struct, starts, notes_read, read_behind, opened_struct, members_read, struct_ends, means_begins}
 use Rattle.ion_text.specs.laws.reading.Depths.{Deep}
 use Rattle.ion_text.specs.laws.reading.Going.{mark_kind}
 use Rattle.ion_text.specs.laws.reading.Meets.{end_spans}
-use Rattle.ion_text.specs.laws.reading.Pieces.{pieces_read, more_read}
+use Rattle.ion_text.specs.laws.reading.Pieces.{pieces_read, more_read, walked_now}
 use Rattle.ion_text.specs.laws.reading.Places.{pending_at}
 use Rattle.ion_text.specs.laws.reading.Segments.{never}
 use Rattle.ion_text.specs.laws.reading.Sound.{Opened}
@@ -53,8 +54,8 @@ use Rattle.ion_text.specs.laws.showing.Cuts.{lexed_front}
 use Rattle.ion_text.specs.laws.deciding.AtEnd.{last_ends}
 use Rattle.ion_text.specs.laws.deciding.Openings.{begins_so}
 use Rattle.ion_text.specs.laws.deciding.Shows.{IsBare, BareSaid, said_bare}
-use Rattle.ion_text.specs.laws.deciding.Fronts.{origin, Came, HasEnded, Settled, stands_read, stands_settled}
-use Rattle.ion_text.specs.laws.deciding.Comings.{Apart, same_levels, before, cut, f, here, came, none_waits, go_on, struct, up_to, cut_name, came_name, no_name_waits, go_on_name}
+use Rattle.ion_text.specs.laws.deciding.Fronts.{origin, Came, HasEnded, SettlesTo, struct_now, struct_settles, stands_read}
+use Rattle.ion_text.specs.laws.deciding.Comings.{Apart, same_levels, before, cut, f, here, came, settles, go_on, struct, up_to, cut_name, came_name, settles_name, go_on_name}
 
 -- 1. Tokens that have ended.
 
@@ -130,9 +131,6 @@ OpensOne _ = ⊥
 opens_apart : (m : Mark) → OpensOne m → m ≡ marks.Colons → ⊥
 opens_apart m o e = subst OpensOne e o
 
-resolved_fails : (r : Result (Option (List ℕ)) Reason) (f : Option (List ℕ) → Turn) (e : Reason) → r ≡ Err e → resolved r f ≡ refuses e
-resolved_fails r f e h = ap (λ x. resolved x f) h
-
 too_many : (a b depth : ℕ) → depth ≤ b → a ≡ b → nat_lt a depth ≡ false
 too_many a b depth h e = grind (arith, nat_tests)
 
@@ -156,25 +154,84 @@ keyword_held w h = go (bytes_eq w (codes "null")) (bytes_eq w (codes "true")) (b
     go false false false true h = refl
     go false false false false h = absurd cc
 
--- behind others that are read the last of the tokens is refused
-pub record Stops (g : Catalog) (l : Limits) (ts : List Placed) (t : Placed) : Type 0 where
+-- 3. Why a token is refused.
+
+-- refused for this reason
+abbrev pub Refusing : Reason → Turn → Type 0
+Refusing e (refuses f) = f ≡ e
+Refusing e (late f r) = f ≡ e
+Refusing e _ = ⊥
+
+pub refusing_stops : (e : Reason) (t : Turn) (more : Reading → Walk) → Refusing e t → on_turn t more ≡ stopped
+refusing_stops e (refuses x) more h = refl
+refusing_stops e (late x r) more h = refl
+refusing_stops e (goes r) more h = absurd h
+refusing_stops e (gives v r) more h = absurd h
+
+pub one_refusing : (d e : Reason) (t : Turn) → Refusing d t → Refusing e t → d ≡ e
+one_refusing d e (refuses x) h k = sym h ∙ k
+one_refusing d e (late x r) h k = sym h ∙ k
+one_refusing d e (goes r) h k = absurd h
+one_refusing d e (gives v r) h k = absurd h
+
+pub refusing_is : (e : Reason) (t : Turn) → t ≡ refuses e → Refusing e t
+refusing_is e t h = subst (Refusing e) (sym h) refl
+
+refusing_then : (e : Reason) (b : Bool) (t u : Turn) → b ≡ true → Refusing e t → Refusing e (if b then t else u)
+refusing_then e true t u i h = h
+refusing_then e false t u i h = absurd cc
+
+refusing_else : (e : Reason) (b : Bool) (t u : Turn) → b ≡ false → Refusing e u → Refusing e (if b then t else u)
+refusing_else e false t u i h = h
+refusing_else e true t u i h = absurd cc
+
+refusing_unresolved : (e : Reason) (r : Result (Option (List ℕ)) Reason) (f : Option (List ℕ) → Turn) → r ≡ Err e → Refusing e (resolved r f)
+refusing_unresolved e r f h = subst (λ x. Refusing e (resolved x f)) (sym h) refl
+
+refusing_noted : (e : Reason) (start : ℕ) (c : List Slot) (fs : List Frame) (ss : Symbols) (r : Result (Option (List ℕ)) Reason) → r ≡ Err e → Refusing e (noted start c fs ss r)
+refusing_noted e start c fs ss r h = subst (λ x. Refusing e (noted start c fs ss x)) (sym h) refl
+
+-- a token behind others is refused where it comes by itself, or as the `::` behind what waits
+pub data Why (g : Catalog) (l : Limits) (ts : List Placed) (t : Placed) (e : Reason) : Type 0 where
+  by_itself : (m : Reading) (c : Content) → SettlesTo g l ts m → said t.lexeme.kind t.lexeme.octets ≡ Ok c → (t.lexeme.kind ≡ kinds.Mark marks.Colons → ⊥) → Refusing e (turn g l m (token_of t.lexeme c)) → Why g l ts t e
+  as_colons : (n : Reading) (vs : List Value) → reads g l (origin g l) ts ≡ walked vs n → t.lexeme.kind ≡ kinds.Mark marks.Colons → Refusing e (turn g l n (token_of t.lexeme (Mark' marks.Colons))) → Why g l ts t e
+
+not_colons : (p : Place) (t : Placed) (d : Content) → Says p t d → (d ≡ Mark' marks.Colons → ⊥) → t.lexeme.kind ≡ kinds.Mark marks.Colons → ⊥
+not_colons p t d says n k = let b : IsBody (kinds.Mark marks.Colons) t.lexeme.octets (Ok d) = subst (λ y. IsBody y t.lexeme.octets (Ok d)) k says.body in n (let e : d ≡ Mark' marks.Colons = cc in e)
+
+-- for one reason
+pub why_once : (g : Catalog) (l : Limits) (ts : List Placed) (t : Placed) (d e : Reason) (p : Place) → Came g l ts p → Why g l ts t d → Why g l ts t e → d ≡ e
+why_once g l ts t d e p came (by_itself m c s i n h) (by_itself m' c' s' i' n' h') =
+    let a = s came.values came.now came.read in
+    let b = s' came.values came.now came.read in
+    let same = walked_now g l a.0 b.0 m m' (sym a.1 ∙ b.1) in
+    let k : Ok c ≡ Ok c' = sym i ∙ i' in
+    let one : c ≡ c' = cc in
+    one_refusing d e (turn g l m' (token_of t.lexeme c')) (subst (λ x. Refusing d (turn g l x (token_of t.lexeme c'))) same.1 (subst (λ x. Refusing d (turn g l m (token_of t.lexeme x))) one h)) h'
+why_once g l ts t d e p came (as_colons n vs r k h) (as_colons n' vs' r' k' h') =
+    one_refusing d e (turn g l n' (token_of t.lexeme (Mark' marks.Colons))) (subst (λ x. Refusing d (turn g l x (token_of t.lexeme (Mark' marks.Colons)))) (walked_now g l vs vs' n n' (sym r ∙ r')).1 h) h'
+why_once g l ts t d e p came (by_itself m c s i n h) (as_colons n' vs r k h') = absurd (n k)
+why_once g l ts t d e p came (as_colons n vs r k h) (by_itself m c s i n' h') = absurd (n' k)
+
+-- behind others that are read the last of the tokens is refused for this reason
+pub record Stops (g : Catalog) (l : Limits) (ts : List Placed) (t : Placed) (e : Reason) : Type 0 where
   pub front : List Placed
   pub is : ts ≡ front ++ t ∷ []
   pub came : Came g l front t.place
   pub stops : reads g l (origin g l) ts ≡ stopped
-  -- what waits behind the others isn't refused, or goes on with it
-  pub settled : Settled g l front ⊎ (t.lexeme.kind ≡ kinds.Mark marks.Colons)
+  pub why : Why g l front t e
 
 module _ (g : Catalog) (l : Limits) where
-  -- 3. A token where a value may come.
+  -- 4. A token where a value may come.
 
   module _ (c : List Slot) (ks : List Container) (said : Content) (ts : List Placed) (h : Comes g l c ks said ts) (takes : TakesValue ks) where
     abbrev held : List Frame
     held = (f g l c ks said ts h).held
 
     -- which is refused there
-    value_stops : Apart said → ((s : ℕ) → on_turn (turn g l (at s c held h.symbols nows.Ready) (token_of h.token.lexeme said)) done ≡ stopped) → Stops g l ts h.token
-    value_stops a refused =
+    value_stops : (e : Reason) → Apart said → ((s : ℕ) → Refusing e (turn g l (at s c held h.symbols nows.Ready) (token_of h.token.lexeme said))) → Stops g l ts h.token e
+    value_stops e a refused =
+        let w = settles g l c ks said ts h takes in
         let front = before g l c ks said ts h in
         let is = cut g l c ks said ts h in
         let x = go_on g l c ks said ts h takes h.token said [] h.says a in
@@ -182,26 +239,23 @@ module _ (g : Catalog) (l : Limits) where
           front = front;
           is = is;
           came = subst (Came g l front) (sym h.says.place) (came g l c ks said ts h takes);
-          stops = ap (reads g l (origin g l)) is ∙ (x.1 ∙ ap (adds h.values) (first_token g l (place_of ks) (at x.0 c held h.symbols nows.Ready) h.token said [] h.says (here g l c ks said ts h takes) (inr refl) ∙ refused x.0));
-          settled = inl (none_waits g l c ks said ts h takes);
+          stops = ap (reads g l (origin g l)) is ∙ (x.1 ∙ ap (adds h.values) (first_token g l (place_of ks) (at x.0 c held h.symbols nows.Ready) h.token said [] h.says (here g l c ks said ts h takes) (inr refl) ∙ refusing_stops e (turn g l (at x.0 c held h.symbols nows.Ready) (token_of h.token.lexeme said)) done (refused x.0)));
+          why = by_itself (at w.0 c held h.symbols nows.Ready) said w.1 (said_ok g l (place_of ks) h.token said h.says) (not_colons (place_of ks) h.token said h.says a.colons) (refused w.0);
         }
 
     -- a container that would be too deep
-    deep_stops : (t : Turn) → nat_lt (length held) l.depth ≡ false → (deep : Turn) → on_turn deep done ≡ stopped → on_turn (if nat_lt (length held) l.depth then t else deep) done ≡ stopped
-    deep_stops t e deep h = ap (λ x. on_turn x done) (cond-false _ _ _ e) ∙ h
-
     levels : l.depth ≤ length ks → nat_lt (length held) l.depth ≡ false
     levels deep = too_many (length held) (length ks) l.depth deep (same_levels l c ks held (f g l c ks said ts h).same)
 
-    pub open_stops : (m : Mark) → said ≡ Mark' m → OpensOne m → l.depth ≤ length ks → Stops g l ts h.token
+    pub open_stops : (m : Mark) → said ≡ Mark' m → OpensOne m → l.depth ≤ length ks → Stops g l ts h.token reasons.Depth
     open_stops m e opens deep =
-        value_stops (subst Apart (sym e) (mark_apart m (opens_apart m opens)))
-        (λ s. ap (λ d. on_turn (turn g l (at s c held h.symbols nows.Ready) (token_of h.token.lexeme d)) done) e ∙ by m opens s)
+        value_stops reasons.Depth (subst Apart (sym e) (mark_apart m (opens_apart m opens)))
+        (λ s. subst (λ d. Refusing reasons.Depth (turn g l (at s c held h.symbols nows.Ready) (token_of h.token.lexeme d))) (sym e) (by m opens s))
       where
-        by : (m : Mark) → OpensOne m → (s : ℕ) → on_turn (turn g l (at s c held h.symbols nows.Ready) (token_of h.token.lexeme (Mark' m))) done ≡ stopped
-        by marks.ListOpen o s = deep_stops _ (levels deep) (refuses reasons.Depth) refl
-        by marks.SexpOpen o s = deep_stops _ (levels deep) (refuses reasons.Depth) refl
-        by marks.FieldsOpen o s = deep_stops _ (levels deep) (late reasons.Depth _) refl
+        by : (m : Mark) → OpensOne m → (s : ℕ) → Refusing reasons.Depth (turn g l (at s c held h.symbols nows.Ready) (token_of h.token.lexeme (Mark' m)))
+        by marks.ListOpen o s = refusing_else reasons.Depth (nat_lt (length held) l.depth) _ (refuses reasons.Depth) (levels deep) refl
+        by marks.SexpOpen o s = refusing_else reasons.Depth (nat_lt (length held) l.depth) _ (refuses reasons.Depth) (levels deep) refl
+        by marks.FieldsOpen o s = refusing_else reasons.Depth (nat_lt (length held) l.depth) _ (late reasons.Depth _) (levels deep) refl
         by _ o s = absurd o
 
     -- one that waits for `::`
@@ -229,9 +283,10 @@ module _ (g : Catalog) (l : Limits) where
       came_pending = let x = read_to [] in record { values = h.values ++ []; now = pending x.0; read = x.1; here = sym (at_pending x.0) }
 
       -- an annotation that is a keyword
-      note_stops : (colons : Placed) → Says (place_of ks) colons (Mark' marks.Colons) → held_symbol word ≡ Err reasons.KeywordAsName → Stops g l (ts ++ colons ∷ []) colons
+      note_stops : (colons : Placed) → Says (place_of ks) colons (Mark' marks.Colons) → held_symbol word ≡ Err reasons.KeywordAsName → Stops g l (ts ++ colons ∷ []) colons reasons.KeywordAsName
       note_stops colons says none =
           let x = read_to (colons ∷ []) in
+          let y = read_to [] in
           let whole : ts ++ colons ∷ [] ≡ (front ++ h.token ∷ []) ++ colons ∷ [] = ap (λ y. y ++ colons ∷ []) (cut g l c ks said ts h) in
           record {
             front = front ++ h.token ∷ [];
@@ -242,17 +297,20 @@ module _ (g : Catalog) (l : Limits) where
                 ∙ (x.1 ∙ ap (adds h.values)
                 (first_token g l (place_of ks) (pending x.0) colons (Mark' marks.Colons) [] says (at_pending x.0) (inl refl)
                 ∙ ap (λ y. on_turn (noted (begun_at x.0 h.token.lexeme.start held h.symbols) c held h.symbols y) done) none));
-            settled = inr (mark_kind colons.lexeme.kind colons.lexeme.octets marks.Colons says.body);
+            why =
+                as_colons (pending y.0) (h.values ++ []) y.1 (mark_kind colons.lexeme.kind colons.lexeme.octets marks.Colons says.body)
+                (refusing_noted reasons.KeywordAsName (begun_at y.0 h.token.lexeme.start held h.symbols) c held h.symbols (held_symbol word) none);
           }
 
-  -- 4. A token where a name may come.
+  -- 5. A token where a name may come.
 
   module _ (c : List Slot) (ks : List Container) (said : Content) (ts : List Placed) (h : Comes g l c (InStruct ∷ ks) said ts) where
     abbrev inside : List Frame
     inside = let s = struct g l c ks said ts h in frames.Fields s.notes s.fields ∷ s.outer
 
-    name_stops : Apart said → ((s : ℕ) → on_turn (turn g l (at s c inside [] nows.Name) (token_of h.token.lexeme said)) done ≡ stopped) → Stops g l ts h.token
-    name_stops a refused =
+    name_stops : (e : Reason) → Apart said → ((s : ℕ) → Refusing e (turn g l (at s c inside [] nows.Name) (token_of h.token.lexeme said))) → Stops g l ts h.token e
+    name_stops e a refused =
+        let w = settles_name g l c ks said ts h in
         let front = up_to g l c ks said ts h in
         let is = cut_name g l c ks said ts h in
         let x = go_on_name g l c ks said ts h h.token said h.says a in
@@ -260,47 +318,47 @@ module _ (g : Catalog) (l : Limits) where
           front = front;
           is = is;
           came = subst (Came g l front) (sym h.says.place) (came_name g l c ks said ts h);
-          stops = ap (reads g l (origin g l)) is ∙ (x.1 ∙ ap (adds h.values) (first_token g l places.Name (at x.0 c inside [] nows.Name) h.token said [] h.says refl (inr refl) ∙ refused x.0));
-          settled = inl (no_name_waits g l c ks said ts h);
+          stops = ap (reads g l (origin g l)) is ∙ (x.1 ∙ ap (adds h.values) (first_token g l places.Name (at x.0 c inside [] nows.Name) h.token said [] h.says refl (inr refl) ∙ refusing_stops e (turn g l (at x.0 c inside [] nows.Name) (token_of h.token.lexeme said)) done (refused x.0)));
+          why = by_itself (at w.0 c inside [] nows.Name) said w.1 (said_ok g l places.Name h.token said h.says) (not_colons places.Name h.token said h.says a.colons) (refused w.0);
         }
 
-  -- 5. The rows of one token.
+  -- 6. The rows of one token.
 
-  id_value : (ts : List Placed) (c : List Slot) (ks : List Container) (id : ℕ) (e : Reason) → TakesValue ks → (h : Comes g l c ks (Id id) ts) → resolve c id ≡ Err e → Stops g l ts h.token
-  id_value ts c ks id e takes h fails = value_stops c ks (Id id) ts h takes (id_apart id) (λ s. ap (λ x. on_turn x done) (resolved_fails (resolve c id) _ e fails))
+  id_value : (ts : List Placed) (c : List Slot) (ks : List Container) (id : ℕ) (e : Reason) → TakesValue ks → (h : Comes g l c ks (Id id) ts) → resolve c id ≡ Err e → Stops g l ts h.token e
+  id_value ts c ks id e takes h fails = value_stops c ks (Id id) ts h takes e (id_apart id) (λ s. refusing_unresolved e (resolve c id) _ fails)
 
-  pub id_stops : (ts : List Placed) (c : List Slot) (ks : List Container) (id : ℕ) (e : Reason) → (h : Comes g l c ks (Id id) ts) → resolve c id ≡ Err e → Stops g l ts h.token
-  id_stops ts c (InStruct ∷ ks) id e h fails = name_stops c ks (Id id) ts h (id_apart id) (λ s. ap (λ x. on_turn x done) (resolved_fails (resolve c id) _ e fails))
+  pub id_stops : (ts : List Placed) (c : List Slot) (ks : List Container) (id : ℕ) (e : Reason) → (h : Comes g l c ks (Id id) ts) → resolve c id ≡ Err e → Stops g l ts h.token e
+  id_stops ts c (InStruct ∷ ks) id e h fails = name_stops c ks (Id id) ts h e (id_apart id) (λ s. refusing_unresolved e (resolve c id) _ fails)
   id_stops ts c [] id e h fails = id_value ts c [] id e tt h fails
   id_stops ts c (InList ∷ ks) id e h fails = id_value ts c (InList ∷ ks) id e tt h fails
   id_stops ts c (InSexp ∷ ks) id e h fails = id_value ts c (InSexp ∷ ks) id e tt h fails
   id_stops ts c (InField ∷ ks) id e h fails = id_value ts c (InField ∷ ks) id e tt h fails
 
-  pub keyword_stops : (ts : List Placed) (c : List Slot) (ks : List Container) (said : Content) → (h : Comes g l c (InStruct ∷ ks) said ts) → IsKeyword said → Stops g l ts h.token
-  keyword_stops ts c ks (Word w) h k = name_stops c ks (Word w) ts h (word_apart w) (λ s. ap (λ x. on_turn x done) (cond-true _ _ _ k))
-  keyword_stops ts c ks (TypedNull k) h i = name_stops c ks (TypedNull k) ts h (null_apart k) (λ s. refl)
+  pub keyword_stops : (ts : List Placed) (c : List Slot) (ks : List Container) (said : Content) → (h : Comes g l c (InStruct ∷ ks) said ts) → IsKeyword said → Stops g l ts h.token reasons.KeywordAsName
+  keyword_stops ts c ks (Word w) h k = name_stops c ks (Word w) ts h reasons.KeywordAsName (word_apart w) (λ s. refusing_then reasons.KeywordAsName (is_keyword w) _ _ k refl)
+  keyword_stops ts c ks (TypedNull k) h i = name_stops c ks (TypedNull k) ts h reasons.KeywordAsName (null_apart k) (λ s. refl)
   keyword_stops ts c ks _ h k = absurd k
 
-  pub keyword_note_stops : (ts : List Placed) (colons : Placed) (c : List Slot) (ks : List Container) (said : Content) → Comes g l c ks said ts → TakesValue ks → IsKeyword said → Says (place_of ks) colons (Mark' marks.Colons) → Stops g l (ts ++ colons ∷ []) colons
+  pub keyword_note_stops : (ts : List Placed) (colons : Placed) (c : List Slot) (ks : List Container) (said : Content) → Comes g l c ks said ts → TakesValue ks → IsKeyword said → Says (place_of ks) colons (Mark' marks.Colons) → Stops g l (ts ++ colons ∷ []) colons reasons.KeywordAsName
   keyword_note_stops ts colons c ks (Word w) h takes k says = note_stops c ks (Word w) ts h takes (held_word w) (λ start end. refl) (word_apart w) colons says (keyword_held w k)
   keyword_note_stops ts colons c ks (TypedNull k) h takes i says = note_stops c ks (TypedNull k) ts h takes (helds.Null k) (λ start end. refl) (null_apart k) colons says refl
   keyword_note_stops ts colons c ks _ h takes k says = absurd k
 
-  -- 6. A local symbol table.
+  -- 7. A local symbol table.
 
   -- the fields of a value
   payload_same : (ss rs : Symbols) (q r : Payload) → annotated ss q ≡ annotated rs r → (ss ≡ rs) × (q ≡ r)
   payload_same ss rs q r e = (ap (λ (v : Value). v.annotations) e, ap (λ (v : Value). v.payload) e)
 
   -- the tokens end with the close of a struct, at which they are refused
-  pub record TableStops (ts : List Placed) : Type 0 where
+  pub record TableStops (ts : List Placed) (e : Reason) : Type 0 where
     pub close : Placed
     pub more : Bool
     pub closes : Says (close_place more) close (Mark' marks.FieldsClose)
-    pub at_close : Stops g l ts close
+    pub at_close : Stops g l ts close e
 
   pub table_stops : (ts : List Placed) (c : List Slot) (ss : Symbols) (ms : List Field) (e : Reason) → Ends g l c (annotated ss (payloads.Fields ms)) ts → is_table (annotated ss (payloads.Fields ms)) ≡ true
-      → next c (annotated ss (payloads.Fields ms)) g ≡ Err e → TableStops ts
+      → next c (annotated ss (payloads.Fields ms)) g ≡ Err e → TableStops ts e
   table_stops ts c ss ms e h table fails = value places.Top h.item (annotated ss (payloads.Fields ms)) h.means refl refl refl
     where
       -- what has no fields isn't such a value
@@ -308,8 +366,8 @@ module _ (g : Catalog) (l : Limits) where
       other q e n = never (has_fields (views.out-Payload q)) n (ap (λ x. has_fields (views.out-Payload x)) e ∙ ap has_fields (views.outs-Fields ms))
 
       struct' : (notes body : List Placed) (rs : Symbols) (open' close : Placed) (more : Bool) → rs ≡ ss → Annotations c places.Top notes rs → Says places.Top open' (Mark' marks.FieldsOpen) → Members c body ms more → Says (close_place more) close (Mark' marks.FieldsClose)
-          → h.item ≡ notes ++ open' ∷ (body ++ close ∷ []) → TableStops ts
-      struct' notes body rs open' close more same a opens members closes cut = record { close = close; more = more; closes = closes; at_close = record { front = front; is = whole; came = subst (Came g l front) (sym closes.place) (came' more members closes); stops = stops; settled = inl (settled' more members) } }
+          → h.item ≡ notes ++ open' ∷ (body ++ close ∷ []) → TableStops ts e
+      struct' notes body rs open' close more same a opens members closes cut = record { close = close; more = more; closes = closes; at_close = record { front = front; is = whole; came = subst (Came g l front) (sym closes.place) (came' more members closes); stops = stops; why = why } }
         where
           inner : List Placed
           inner = notes ++ open' ∷ body
@@ -336,9 +394,17 @@ module _ (g : Catalog) (l : Limits) where
           came' true members closes = stands_read g l c h.front h.values (frames.Fields rs ms ∷ []) [] nows.Name inner h.pieces deep (opened true members, tt) apart
           came' false members closes = stands_read g l c h.front h.values (frames.Fields rs ms ∷ []) [] nows.After inner h.pieces deep (opened false members, refl, tt) apart
 
-          settled' : (more : Bool) → Members c body ms more → Settled g l front
-          settled' true members = stands_settled g l c h.front h.values (frames.Fields rs ms ∷ []) [] nows.Name inner h.pieces deep (opened true members, tt) apart (λ w. w)
-          settled' false members = stands_settled g l c h.front h.values (frames.Fields rs ms ∷ []) [] nows.After inner h.pieces deep (opened false members, refl, tt) apart (λ w. w)
+          refused : (s : ℕ) → ended (under g l) (spot_at close.lexeme.end s c) [] (annotated rs (payloads.Fields ms)) ≡ refuses e
+          refused s = subst (λ y. ended (under g l) (spot_at close.lexeme.end s c) [] (annotated y (payloads.Fields ms)) ≡ refuses e) (sym same) (cond-true _ _ _ table ∙ ap (turned l.item s close.lexeme.end) fails)
+
+          closed : (more : Bool) (s : ℕ) → Refusing e (turn g l (at s c (frames.Fields rs ms ∷ []) [] (struct_now g l more)) (token_of close.lexeme (Mark' marks.FieldsClose)))
+          closed true s = refusing_is e _ (refused s)
+          closed false s = refusing_is e _ (refused s)
+
+          why : Why g l front close e
+          why =
+              let w = struct_settles g l c h.front h.values rs ms [] inner more h.pieces deep (opened more members) apart in
+              by_itself (at w.0 c (frames.Fields rs ms ∷ []) [] (struct_now g l more)) (Mark' marks.FieldsClose) w.1 (said_ok g l (close_place more) close (Mark' marks.FieldsClose) closes) (not_colons (close_place more) close (Mark' marks.FieldsClose) closes (λ k. cc)) (closed more w.0)
 
           s : ℕ
           s = begun_at (starts g l 0 [] notes) open'.lexeme.start [] rs
@@ -352,10 +418,9 @@ module _ (g : Catalog) (l : Limits) where
               ∙ (read_behind g l (fresh c) (at (starts g l 0 [] notes) c [] rs nows.Ready) notes (open' ∷ (body ++ close ∷ [])) (notes_read g l c places.Top 0 [] notes rs refl a)
               ∙ (opened_struct g l c places.Top (starts g l 0 [] notes) s [] rs open' (body ++ close ∷ []) refl (omega (arith, deep.0)) opens refl
               ∙ (struct_ends g l c s [] rs body ms more close (members_read g l c s [] rs body ms more members deep.0) closes
-              ∙ ap (λ x. on_turn x done)
-              (subst (λ y. ended (under g l) (spot_at close.lexeme.end s c) [] (annotated y (payloads.Fields ms)) ≡ refuses e) (sym same) (cond-true _ _ _ table ∙ ap (turned l.item s close.lexeme.end) fails)))))))
+              ∙ ap (λ x. on_turn x done) (refused s))))))
 
-      plain : (p : Place) (notes us : List Placed) (rs : Symbols) (q : Payload) → p ≡ places.Top → rs ≡ ss → Annotations c p notes rs → Plain c p us q → q ≡ payloads.Fields ms → h.item ≡ notes ++ us → TableStops ts
+      plain : (p : Place) (notes us : List Placed) (rs : Symbols) (q : Payload) → p ≡ places.Top → rs ≡ ss → Annotations c p notes rs → Plain c p us q → q ≡ payloads.Fields ms → h.item ≡ notes ++ us → TableStops ts e
       plain p notes _ rs _ top same a (is_struct p' open' close body fs more opens members closes) is cut =
           let k : fs ≡ ms = sym (ap fields_in (views.outs-Fields fs)) ∙ (ap (λ x. fields_in (views.out-Payload x)) is ∙ ap fields_in (views.outs-Fields ms)) in
           struct' notes body rs open' close more same (subst (λ x. Annotations c x notes rs) top a) (subst (λ x. Says x open' (Mark' marks.FieldsOpen)) top opens) (subst (λ x. Members c body x more) k members) closes cut
@@ -378,7 +443,7 @@ module _ (g : Catalog) (l : Limits) where
       plain p notes _ rs _ top same a (is_list p' open' close body xs more opens items closes) is cut = absurd (other _ is (ap has_fields (views.outs-List xs)))
       plain p notes _ rs _ top same a (is_sexp p' open' close body xs opens items closes) is cut = absurd (other _ is (ap has_fields (views.outs-Sexp xs)))
 
-      value : (p : Place) (us : List Placed) (v : Value) → Means c p us v → p ≡ places.Top → v ≡ annotated ss (payloads.Fields ms) → us ≡ h.item → TableStops ts
+      value : (p : Place) (us : List Placed) (v : Value) → Means c p us v → p ≡ places.Top → v ≡ annotated ss (payloads.Fields ms) → us ≡ h.item → TableStops ts e
       value p _ _ (means p' notes us rs q a d) top is cut =
           let k = payload_same rs ss q (payloads.Fields ms) is in
           plain p notes us rs q top k.0 a d k.1 (sym cut)

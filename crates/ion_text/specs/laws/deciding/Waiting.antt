@@ -13,6 +13,7 @@ use Rattle.ion_model.specs.Kinds.{is_table}
 use Rattle.ion_atoms.specs.declared.kind.Kind.{Kind}
 use Rattle.ion_atoms.specs.declared.kind.Kind.TheVariants as values
 use Rattle.ion_atoms.specs.declared.refusal.Reason.{Reason}
+use Rattle.ion_atoms.specs.declared.refusal.Reason.TheVariants.{Version}
 use Rattle.ion_symtab.specs.declared.limits.Limits.{Limits}
 use Rattle.ion_symtab.specs.declared.catalog.Catalog.{Catalog}
 use Rattle.ion_symtab.specs.Slots.{Slot}
@@ -54,7 +55,7 @@ use Rattle.ion_text.specs.laws.deciding.Openings.{containers, begins_so}
 use Rattle.ion_text.specs.laws.deciding.Shows.{BareSaid, said_bare, awaits_colons, flag, k}
 use Rattle.ion_text.specs.laws.deciding.Fronts.{origin, InPlace, Came, last_in_place, stood_read, item_arrived, item_read, all_told}
 use Rattle.ion_text.specs.laws.deciding.Comings.{Apart, before, cut, came, f}
-use Rattle.ion_text.specs.laws.deciding.Tokens.{bare_plain, ended_by_rest, word_apart, null_apart, read_to}
+use Rattle.ion_text.specs.laws.deciding.Tokens.{Refusing, refusing_stops, refusing_is, bare_plain, ended_by_rest, word_apart, null_apart, read_to}
 
 -- a word of the form of a marker is held as one
 version_held : (w : List ℕ) → is_version w ≡ true → w ≢ the_marker → held_word w ≡ helds.Version false (Some w)
@@ -79,8 +80,8 @@ no_frames : (fs : List Frame) → containers fs ≡ [] → fs ≡ []
 no_frames [] e = refl
 no_frames (f ∷ fs) e = absurd cc
 
--- The last of the tokens, behind others that are read, waits for `::`, and is refused if none follows.
-pub record Pends (g : Catalog) (l : Limits) (ts : List Placed) : Type 0 where
+-- The last of the tokens, behind others that are read, waits for `::`, and is refused for this reason if none follows.
+pub record Pends (g : Catalog) (l : Limits) (ts : List Placed) (e : Reason) : Type 0 where
   pub front : List Placed
   pub token : Placed
   pub is : ts ≡ front ++ token ∷ []
@@ -94,7 +95,7 @@ pub record Pends (g : Catalog) (l : Limits) (ts : List Placed) : Type 0 where
   pub held : Held
   pub values : List Value
   pub read : reads g l (origin g l) ts ≡ walked values (at start context [] notes (nows.Pending held end))
-  pub refused : (f : Reading → Walk) → on_turn (settle g l (at start context [] notes (nows.Pending held end))) f ≡ stopped
+  pub why : Refusing e (settle g l (at start context [] notes (nows.Pending held end)))
 
 -- `::` behind tokens
 pub colons_shown : (u : List ℕ) (ws : List Placed) (x : Placed) (ys : List Placed) (colon after : Bool) (end k : ℕ) (rest left : List ℕ) → LexesTo false 0 u ws colon end rest → LexesTo false 0 u (ws ++ x ∷ ys) after k left → x.lexeme.kind ≡ kinds.Mark marks.Colons → BlankThen (codes "::") rest
@@ -104,9 +105,12 @@ colons_shown u ws x ys colon after end k rest left here lexes kind =
     let b = d.second.1 in
     blank_token (codes "::") [] d.left rest d.second.0 d.flag d.mid x b (colons_token x.place d.flag b.token d.second.0 x.lexeme.kind x.lexeme.octets b.is kind).0 one.2
 
-module _ (g : Catalog) (l : Limits) (ws : List Placed) (p : Pends g l ws) where
+module _ (g : Catalog) (l : Limits) (ws : List Placed) (reason : Reason) (p : Pends g l ws reason) where
   abbrev pub pend : Reading
   pend = at p.start p.context [] p.notes (nows.Pending p.held p.end)
+
+  pub settling_stops : (f : Reading → Walk) → on_turn (settle g l pend) f ≡ stopped
+  settling_stops f = refusing_stops reason (settle g l pend) f p.why
 
   pub pends_in_place : InPlace g l ws
   pends_in_place = subst (InPlace g l) (sym p.is) (last_in_place g l p.front p.token p.came)
@@ -125,7 +129,7 @@ module _ (g : Catalog) (l : Limits) (ws : List Placed) (p : Pends g l ws) where
       go true f =
           let colons = pending_goes g l p.start p.context [] p.notes p.held p.end (token_of x.lexeme q.1) f in
           mark_kind x.lexeme.kind x.lexeme.octets marks.Colons (subst (λ y. IsBody x.lexeme.kind x.lexeme.octets (Ok y)) colons (said_body x.lexeme.kind x.lexeme.octets q.1 q.2))
-      go false f = absurd (let never : walked rest.0 n ≡ stopped = sym rest.1 ∙ (settled_reads g l pend x ys q.1 q.0 q.2 f ∙ p.refused (λ k. reads g l k (x ∷ ys))) in cc)
+      go false f = absurd (let never : walked rest.0 n ≡ stopped = sym rest.1 ∙ (settled_reads g l pend x ys q.1 q.0 q.2 f ∙ settling_stops (λ k. reads g l k (x ∷ ys))) in cc)
 
 module _ (g : Catalog) (l : Limits) (u : List ℕ) (vs : List Value) (m : State) (b : Stood g l u vs m) (wait : Waits g l m.scan m.reading.now) where
   abbrev r : Reading
@@ -134,10 +138,10 @@ module _ (g : Catalog) (l : Limits) (u : List ℕ) (vs : List Value) (m : State)
   abbrev told : List Placed
   told = b.front ++ b.item
 
-  module _ (ws : List Placed) (p : Pends g l ws) (none : NoColons u ws) where
+  module _ (ws : List Placed) (reason : Reason) (p : Pends g l ws reason) (none : NoColons u ws) where
     all : (ms : List Placed) × (told ≡ ws ++ ms)
     all =
-        all_told g l u vs m b ws p.front p.token p.is (begins_lexed ws false 0 u none.are.0 none.are.1 (none.rest ++ none.o ∷ []) none.are.2) (pends_in_place g l ws p)
+        all_told g l u vs m b ws p.front p.token p.is (begins_lexed ws false 0 u none.are.0 none.are.1 (none.rest ++ none.o ∷ []) none.are.2) (pends_in_place g l ws reason p)
         (ended_by_rest g l u p.front p.token none.o none.rest p.plain (subst (λ y. Are u y (none.rest ++ none.o ∷ [])) p.is none.are))
 
     -- the octets go on with no token
@@ -147,7 +151,7 @@ module _ (g : Catalog) (l : Limits) (u : List ℕ) (vs : List Value) (m : State)
         let k = k (place r) m.scan u told [] b.scanned 0 (0 ∷ [], refl) in
         let lexes : LexesTo false 0 u told k.colon k.end k.since = subst (λ y. LexesTo false 0 y told k.colon k.end k.since) (append-nil u) (subst (LexesTo false 0 (u ++ []) told k.colon k.end) (append-nil k.since) (k.lexes [] ([], refl))) in
         none.after [] (colons_shown u ws x ys none.are.0 k.colon none.are.1 k.end (none.rest ++ none.o ∷ []) k.since none.are.2 (subst (λ y. LexesTo false 0 u y k.colon k.end k.since) e lexes)
-        (colons_next g l ws p x ys w.values w.now (ap (reads g l (origin g l)) (sym e) ∙ w.read)))
+        (colons_next g l ws reason p x ys w.values w.now (ap (reads g l (origin g l)) (sym e) ∙ w.read)))
 
     -- where they waited, `::` may follow
     waits_never : told ≡ ws → r.frames ≡ [] → r.now ≡ nows.Pending p.held p.end → ⊥
@@ -164,12 +168,12 @@ module _ (g : Catalog) (l : Limits) (u : List ℕ) (vs : List Value) (m : State)
         a : Arrived g l r.context r.frames r.notes r.now (x ∷ ys)
         a = item_arrived g l r.context r.frames r.notes r.now x ys b.deep d
 
-        same : a.r ≡ pend g l ws p
-        same = (walked_now g l (vs ++ []) p.values a.r (pend g l ws p) (sym (item_read g l r.context b.front vs r.frames r.notes r.now x ys b.pieces d apart a) ∙ (ap (reads g l (origin g l)) (sym f ∙ e) ∙ p.read))).1
+        same : a.r ≡ pend g l ws reason p
+        same = (walked_now g l (vs ++ []) p.values a.r (pend g l ws reason p) (sym (item_read g l r.context b.front vs r.frames r.notes r.now x ys b.pieces d apart a) ∙ (ap (reads g l (origin g l)) (sym f ∙ e) ∙ p.read))).1
 
         by : ((n : Reading) × (settle g l a.r ≡ goes n) × (is_fresh n ≡ false) × (n.start ≡ starts g l 0 [] (x ∷ ys))) ⊎ (IsWaiting g l r.now × IsWaiting g l a.r.now × (a.r.start ≡ starts g l 0 [] (x ∷ ys))) → ⊥
         by (inl (n, settles, fresh, at')) =
-            let k : walked [] n ≡ stopped = sym (ap (λ y. on_turn y done) settles) ∙ (ap (λ y. on_turn (settle g l y) done) same ∙ p.refused done) in
+            let k : walked [] n ≡ stopped = sym (ap (λ y. on_turn y done) settles) ∙ (ap (λ y. on_turn (settle g l y) done) same ∙ settling_stops g l ws reason p done) in
             cc
         by (inr (w, w', at')) =
             let there = sym (a.waited w ends) ∙ same in
@@ -178,8 +182,8 @@ module _ (g : Catalog) (l : Limits) (u : List ℕ) (vs : List Value) (m : State)
     all_never : told ≡ ws → (item : List Placed) → b.item ≡ item → ⊥
     all_never e [] f =
         let d = pieces_read g l b.front vs r.context b.pieces in
-        let same = walked_now g l d.given p.values d.now (pend g l ws p) (sym d.read ∙ (ap (reads g l (origin g l)) (sym (sym e ∙ (ap (λ y. b.front ++ y) f ∙ append-nil b.front))) ∙ p.read)) in
-        let n : walked d.later (fresh r.context) ≡ stopped = sym d.settles ∙ (ap (λ y. on_turn (settle g l y) done) same.1 ∙ p.refused done) in
+        let same = walked_now g l d.given p.values d.now (pend g l ws reason p) (sym d.read ∙ (ap (reads g l (origin g l)) (sym (sym e ∙ (ap (λ y. b.front ++ y) f ∙ append-nil b.front))) ∙ p.read)) in
+        let n : walked d.later (fresh r.context) ≡ stopped = sym d.settles ∙ (ap (λ y. on_turn (settle g l y) done) same.1 ∙ settling_stops g l ws reason p done) in
         cc
     all_never e (x ∷ ys) f =
         item_never x ys (subst (λ y. NowStands r.context r.frames r.notes y r.now) f b.stands) (subst (λ y. (ends_long b.front && begins_as_long y) ≡ false) f b.first) (subst (λ y. EndsAt r.now (end_of 0 y)) f b.ends) e (ap (λ y. b.front ++ y) f)
@@ -196,8 +200,8 @@ module _ (g : Catalog) (l : Limits) where
   -- a token that is held
   module _ (c : List Slot) (said : Content) (ts : List Placed) (h : Comes g l c [] said ts) (bare : BareSaid said) (symbol : symbol_said said ≡ true) (apart : Apart said) (word : Held)
       (waits : (start end : ℕ) → on_ready (under g l) (spot_at end start c) (f g l c [] said ts h).held h.symbols said ≡ goes (at start c (f g l c [] said ts h).held h.symbols (nows.Pending word end)))
-      (refused : (start end : ℕ) (k : Reading → Walk) → on_turn (settle g l (at start c [] h.symbols (nows.Pending word end))) k ≡ stopped) where
-    held_pends : Pends g l ts
+      (reason : Reason) (refused : (start end : ℕ) → Refusing reason (settle g l (at start c [] h.symbols (nows.Pending word end)))) where
+    held_pends : Pends g l ts reason
     held_pends =
         let front = before g l c [] said ts h in
         let is = cut g l c [] said ts h in
@@ -219,19 +223,20 @@ module _ (g : Catalog) (l : Limits) where
           held = word;
           values = h.values ++ [];
           read = ap (reads g l (origin g l)) is ∙ (x.1 ∙ ap (λ fs. walked (h.values ++ []) (at start c fs h.symbols (nows.Pending word end))) (no_frames held (f g l c [] said ts h).same));
-          refused = refused start end;
+          why = refused start end;
         }
 
-  pub version_pends : (ts : List Placed) (c : List Slot) (w : List ℕ) → (h : Comes g l c [] (Word w) ts) → h.notes ≡ [] → is_version w ≡ true → w ≢ the_marker → Pends g l ts
+  pub version_pends : (ts : List Placed) (c : List Slot) (w : List ℕ) → (h : Comes g l c [] (Word w) ts) → h.notes ≡ [] → is_version w ≡ true → w ≢ the_marker → Pends g l ts Version
   version_pends ts c w h bare version other =
       held_pends c (Word w) ts h tt refl (word_apart w) (held_word w) (λ start end. refl)
-      (λ start end k. ap (λ ss. on_turn (settle g l (at start c [] ss (nows.Pending (held_word w) end))) k) (no_notes c places.Top h.notes h.symbols h.noted (sym bare)) ∙ ap (λ x. on_turn (settle g l (at start c [] [] (nows.Pending x end))) k) (version_held w version other))
+      Version
+      (λ start end. subst (λ ss. Refusing Version (settle g l (at start c [] ss (nows.Pending (held_word w) end)))) (sym (no_notes c places.Top h.notes h.symbols h.noted (sym bare))) (subst (λ x. Refusing Version (settle g l (at start c [] [] (nows.Pending x end)))) (sym (version_held w version other)) refl))
 
   abbrev has_null : Layer → Bool
   has_null (Payload-F.Null k) = true
   has_null _ = false
 
-  pub null_pends : (ts : List Placed) (c : List Slot) (ss : Symbols) (k : Kind) (e : Reason) → Ends g l c (annotated ss (payloads.Null k)) ts → is_table (annotated ss (payloads.Null k)) ≡ true → next c (annotated ss (payloads.Null k)) g ≡ Err e → Pends g l ts
+  pub null_pends : (ts : List Placed) (c : List Slot) (ss : Symbols) (k : Kind) (e : Reason) → Ends g l c (annotated ss (payloads.Null k)) ts → is_table (annotated ss (payloads.Null k)) ≡ true → next c (annotated ss (payloads.Null k)) g ≡ Err e → Pends g l ts e
   null_pends ts c ss k e h table fails = value places.Top h.item (annotated ss (payloads.Null k)) h.means refl refl refl
     where
       v : Value
@@ -240,9 +245,9 @@ module _ (g : Catalog) (l : Limits) where
       other : (q : Payload) → q ≡ payloads.Null k → has_null (views.out-Payload q) ≡ false → ⊥
       other q e n = never (has_null (views.out-Payload q)) n (ap (λ x. has_null (views.out-Payload x)) e ∙ ap has_null (views.outs-Null k))
 
-      refused : (rs : Symbols) (kind : Kind) → annotated rs (payloads.Null kind) ≡ v → (start end : ℕ) (f : Reading → Walk) → on_turn (settle g l (at start c [] rs (nows.Pending (helds.Null kind) end))) f ≡ stopped
-      refused rs kind is start end f =
-          ap (λ x. on_turn x f)
+      refused : (rs : Symbols) (kind : Kind) → annotated rs (payloads.Null kind) ≡ v → (start end : ℕ) → Refusing e (settle g l (at start c [] rs (nows.Pending (helds.Null kind) end)))
+      refused rs kind is start end =
+          refusing_is e (settle g l (at start c [] rs (nows.Pending (helds.Null kind) end)))
           (released_paid g l end start c [] rs (helds.Null kind) (λ i j. refl)
           ∙ (ap (λ x. ended (under g l) (spot_at end start c) [] x) is ∙ (cond-true _ _ _ table ∙ ap (turned l.item start end) fails)))
 
@@ -263,9 +268,9 @@ module _ (g : Catalog) (l : Limits) where
         says = says;
       }
 
-      scalar : (notes : List Placed) (t : Placed) (said : Content) (rs : Symbols) (q : Payload) → Annotations c places.Top notes rs → Says places.Top t said → IsScalar c said q → q ≡ payloads.Null k → annotated rs q ≡ v → h.item ≡ notes ++ t ∷ [] → Pends g l ts
-      scalar notes t _ rs _ a says is_null e is whole = held_pends c (Word (codes "null")) ts (comes notes t (Word (codes "null")) rs a says whole) tt refl (word_apart (codes "null")) (helds.Null values.Null) (λ start end. refl) (refused rs values.Null is)
-      scalar notes t _ rs _ a says (is_typed_null kind) e is whole = held_pends c (TypedNull kind) ts (comes notes t (TypedNull kind) rs a says whole) tt refl (null_apart kind) (helds.Null kind) (λ start end. refl) (refused rs kind is)
+      scalar : (notes : List Placed) (t : Placed) (said : Content) (rs : Symbols) (q : Payload) → Annotations c places.Top notes rs → Says places.Top t said → IsScalar c said q → q ≡ payloads.Null k → annotated rs q ≡ v → h.item ≡ notes ++ t ∷ [] → Pends g l ts e
+      scalar notes t _ rs _ a says is_null n is whole = held_pends c (Word (codes "null")) ts (comes notes t (Word (codes "null")) rs a says whole) tt refl (word_apart (codes "null")) (helds.Null values.Null) (λ start end. refl) e (refused rs values.Null is)
+      scalar notes t _ rs _ a says (is_typed_null kind) n is whole = held_pends c (TypedNull kind) ts (comes notes t (TypedNull kind) rs a says whole) tt refl (null_apart kind) (helds.Null kind) (λ start end. refl) e (refused rs kind is)
       scalar notes t _ rs _ a says is_true e is whole = absurd (other _ e (ap has_null (views.outs-Truth true)))
       scalar notes t _ rs _ a says is_false e is whole = absurd (other _ e (ap has_null (views.outs-Truth false)))
       scalar notes t _ rs _ a says (is_int z) e is whole = absurd (other _ e (ap has_null (views.outs-Int z)))
@@ -277,12 +282,12 @@ module _ (g : Catalog) (l : Limits) where
       scalar notes t _ rs _ a says (is_clob w) e is whole = absurd (other _ e (ap has_null (views.outs-Clob w)))
       scalar notes t _ rs _ a says (is_blob w) e is whole = absurd (other _ e (ap has_null (views.outs-Blob w)))
 
-      plain : (p : Place) (notes us : List Placed) (rs : Symbols) (q : Payload) → p ≡ places.Top → Annotations c p notes rs → Plain c p us q → q ≡ payloads.Null k → annotated rs q ≡ v → h.item ≡ notes ++ us → Pends g l ts
-      plain p notes _ rs _ top a (one_token p' t said q says s) e is whole = scalar notes t said rs q (subst (λ x. Annotations c x notes rs) top a) (subst (λ x. Says x t said) top says) s e is whole
+      plain : (p : Place) (notes us : List Placed) (rs : Symbols) (q : Payload) → p ≡ places.Top → Annotations c p notes rs → Plain c p us q → q ≡ payloads.Null k → annotated rs q ≡ v → h.item ≡ notes ++ us → Pends g l ts e
+      plain p notes _ rs _ top a (one_token p' t said q says s) n is whole = scalar notes t said rs q (subst (λ x. Annotations c x notes rs) top a) (subst (λ x. Says x t said) top says) s n is whole
       plain p notes us rs _ top a (long_string p' _ w d) e is whole = absurd (other _ e (ap has_null (views.outs-Str w)))
       plain p notes _ rs _ top a (is_list p' open' close body xs more opens items closes) e is whole = absurd (other _ e (ap has_null (views.outs-List xs)))
       plain p notes _ rs _ top a (is_sexp p' open' close body xs opens items closes) e is whole = absurd (other _ e (ap has_null (views.outs-Sexp xs)))
       plain p notes _ rs _ top a (is_struct p' open' close body fs more opens items closes) e is whole = absurd (other _ e (ap has_null (views.outs-Fields fs)))
 
-      value : (p : Place) (us : List Placed) (w : Value) → Means c p us w → p ≡ places.Top → w ≡ v → us ≡ h.item → Pends g l ts
+      value : (p : Place) (us : List Placed) (w : Value) → Means c p us w → p ≡ places.Top → w ≡ v → us ≡ h.item → Pends g l ts e
       value p _ _ (means p' notes us rs q a d) top is whole = plain p notes us rs q top a d (ap (λ (x : Value). x.payload) is) is (sym whole)
