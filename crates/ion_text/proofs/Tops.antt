@@ -34,7 +34,7 @@ use Rattle.ion_tokens.specs.machine.Scanning as scanning
 use Rattle.ion_tokens.specs.machine.Views.{scanned, begun_in}
 use Rattle.ion_tokens.proofs.Runs.{next_used}
 use Rattle.ion_text.specs.declared.reader.TextReader.{TextReader}
-use Rattle.ion_text.specs.declared.reader.walks.Scalar.{Scalar}
+use Rattle.ion_text.specs.declared.reader.finders.Scalar.{Scalar}
 use Rattle.ion_text.specs.declared.reader.walks.Tally.{Tally}
 use Rattle.ion_text.specs.declared.state.Frame.{Frame}
 use Rattle.ion_text.specs.declared.state.Held.{Held}

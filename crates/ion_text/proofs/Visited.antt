@@ -12,7 +12,7 @@ use Rattle.ion_tokens.specs.declared.mode.Place.TheVariants as places
 use Rattle.ion_tokens.specs.declared.whole.Rest.{Rest}
 use Rattle.ion_tokens.specs.Places.{is_name}
 use Rattle.ion_visiting.specs.Visits.{IsPart, Visits, part, annotation, name, bare_visited, annotated_visited, VisitedPayload, in_one, in_list, in_sexp, in_struct, VisitedItems, VisitedFields, VisitedAnnotations, no_annotations, one_annotation}
-use Rattle.ion_text.specs.declared.reader.walks.Scalar.{Scalar}
+use Rattle.ion_text.specs.declared.reader.finders.Scalar.{Scalar}
 use Rattle.ion_text.specs.declared.reader.walks.Tally.{Tally}
 use Rattle.ion_text.specs.machine.Nested.{Opens}
 use Rattle.ion_text.specs.machine.Walked.{behind_open, behind_close, Walked, WalkedInside, WalkedName, WalkedNote, WalkedNotes, WalkedBare}

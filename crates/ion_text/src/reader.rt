@@ -17,6 +17,7 @@ mod alike;
 mod beside;
 mod closes;
 mod ends;
+mod finders;
 mod items;
 mod lulls;
 mod nested;

@@ -7,9 +7,10 @@ ghost use Rattle.ion_text.specs.machine.Walked.{behind_note};
 ghost use Rattle.ion_text.specs.machine.Walked.{FoundNote, WalkedNote};
 ghost use Rattle.ion_text.specs.visiting.Walks.{NoteThere, Notes, Bare, Top};
 
+use super::finders::string_at;
 use super::nested::open_mark;
 use super::symbols::behind_annotation;
-use super::walks::{Tally, string_at, walk_blank, walk_container};
+use super::walks::{Tally, walk_blank, walk_container};
 use crate::visitor::Visitor;
 use crate::words::is_keyword;
 use ion_tokens::{FoundToken, Mark, Place, TokenKind, TokenReader, quoted_symbol, word};

@@ -1,6 +1,6 @@
 //! Values that lie whole in a piece: they are judged and not built, and a visitor takes them. What is
 //! cut, refused or unusual isn't told here: the reader takes it up token by token.
-ghost use Rattle.std.specs.Prelude.{◌≡◌, ◌≢◌, ◌+◌, ◌-◌, ◌≤◌, ◌<◌, ◌^◌, min, true, false, length, drop, get_or, IfSome, Ok, Some};
+ghost use Rattle.std.specs.Prelude.{◌≡◌, ◌+◌, ◌-◌, ◌≤◌, ◌<◌, ◌^◌, min, true, false, length, get_or, IfSome, Some};
 ghost use Rattle.ion_atoms.specs.declared.kind.Kind.TheVariants as kinds;
 ghost use Rattle.ion_tokens.specs.Places.{is_name};
 ghost use Rattle.ion_tokens.specs.declared.mode.Place.{Place};
@@ -10,24 +10,21 @@ ghost use Rattle.ion_tokens.specs.declared.mode.Place.TheVariants as places;
 ghost use Rattle.ion_tokens.specs.declared.mode.TokenKind.TheVariants as tokens;
 ghost use Rattle.ion_tokens.specs.machine.Rests.{past_blank, past_token, IsPassed};
 ghost use Rattle.ion_text.specs.laws.reading.FrontTokens.{BeginsName};
-ghost use Rattle.ion_tokens.specs.Bodies.{content};
-ghost use Rattle.ion_text.specs.machine.EachToken.{held_word, held_payload, number_payload};
 ghost use Rattle.ion_text.specs.machine.Nested.{Opens};
-ghost use Rattle.ion_text.specs.machine.Walked.{IsFlat, IsValue, close_of, kind_of_open, behind_key};
+ghost use Rattle.ion_text.specs.machine.Walked.{close_of, kind_of_open, behind_key};
 ghost use Rattle.ion_text.specs.visiting.Parts.{bracket_of, payload_of};
 ghost use Rattle.ion_text.specs.visiting.Walks.{FoundPart, FoundNumber, Value, Container, Inside, Name};
 
 use super::beside::may_be_rare;
-use super::nested::open_mark;
-use super::symbols::{behind_name, behind_symbol, plain_text};
-use crate::visitor::{Part, Visitor};
-use crate::words::{is_keyword, may_be_keyword};
-use ion_model::{Kind, Outline};
-use ion_scalar::{Number, number_of};
-use ion_tokens::{
-    Body, FoundToken, Mark, Place, Rest, TokenKind, TokenReader, blanks, number, quoted_symbol,
-    short_string, word,
+use super::finders::{
+    Scalar, begins_number, number_at, number_kind, plain_at, rare_part, text_name, word_name,
 };
+use super::nested::open_mark;
+use super::symbols::{behind_name, behind_symbol};
+use crate::visitor::{Part, Visitor};
+use ion_model::{Kind, Outline};
+use ion_scalar::Number;
+use ion_tokens::{Body, FoundToken, Mark, Place, Rest, TokenKind, TokenReader, blanks};
 use ion_visiting::Bracket;
 
 /// What a walk noted of the values that it went over, and where it rests.
@@ -200,175 +197,6 @@ fn bracket_of(mark: Mark) -> Bracket
     }
 }
 
-/// A token that is a value without others in it.
-#[derive(Clone, Copy)]
-pub(super) struct Scalar {
-    token: FoundToken,
-    kind: Kind,
-    /// Whether it would be an annotation if `::` followed.
-    waits: bool,
-}
-
-// The value that a word is, and its kind, but for `nan`.
-fn word_part(word: &str) -> Option<(Kind, Part<'_>)>
-    ensures { IfSome result (λ found. (held_payload (held_word word.now) ≡ Ok (payload_of found.1))
-        × IsFlat (payload_of found.1) found.0) }
-{
-    if !may_be_keyword(word) {
-        return Some((Kind::Symbol, Part::Symbol(word)));
-    }
-    if word == "null" {
-        return Some((Kind::Null, Part::Null(Kind::Null)));
-    }
-    if word == "true" {
-        return Some((Kind::Bool, Part::Truth(true)));
-    }
-    if word == "false" {
-        return Some((Kind::Bool, Part::Truth(false)));
-    }
-    if word == "nan" {
-        return None;
-    }
-    Some((Kind::Symbol, Part::Symbol(word)))
-}
-
-// The word at the front of octets, as a value.
-fn word_at(octets: &[u8]) -> Option<(Scalar, Part<'_>)>
-    ensures { IfSome result (λ found. (here : Place) (rest : Rest) →
-        FoundPart here rest octets.now found.0 (payload_of found.1)) }
-{
-    let count = word(octets)?;
-    if count >= octets.len() || octets[0] == b'$' {
-        return None;
-    }
-    let (kind, said) = word_part(unsafe { str::from_utf8_unchecked(&octets[..count]) })?;
-    let token = FoundToken {
-        kind: TokenKind::Word,
-        count,
-        left: true,
-    };
-    let scalar = Scalar {
-        token,
-        kind,
-        waits: true,
-    };
-    Some((scalar, said))
-}
-
-// The quoted symbol there.
-fn quoted_at(octets: &[u8]) -> Option<(Scalar, Part<'_>)>
-    ensures { IfSome result (λ found. (here : Place) (rest : Rest) →
-        FoundPart here rest octets.now found.0 (payload_of found.1)) }
-{
-    let count = quoted_symbol(octets)?;
-    if count >= octets.len() || count < 2 {
-        return None;
-    }
-    let content = &octets[1..][..count - 2];
-    let token = FoundToken {
-        kind: TokenKind::QuotedSymbol,
-        count,
-        left: false,
-    };
-    let scalar = Scalar {
-        token,
-        kind: Kind::Symbol,
-        waits: true,
-    };
-    Some((
-        scalar,
-        Part::Symbol(unsafe { str::from_utf8_unchecked(content) }),
-    ))
-}
-
-// The short string there.
-pub(super) fn string_at(octets: &[u8]) -> Option<(Scalar, Part<'_>)>
-    ensures found { IfSome result (λ found. (here : Place) (rest : Rest) →
-        FoundPart here rest octets.now found.0 (payload_of found.1)) }
-    ensures waits { IfSome result (λ found. found.0.waits ≡ false) }
-    ensures given { IfSome result (λ found. found.0.token.left ≡ false) }
-{
-    let count = short_string(octets)?;
-    if count > octets.len() || count < 2 {
-        return None;
-    }
-    let content = &octets[1..][..count - 2];
-    let token = FoundToken {
-        kind: TokenKind::ShortString,
-        count,
-        left: false,
-    };
-    let scalar = Scalar {
-        token,
-        kind: Kind::Str,
-        waits: false,
-    };
-    Some((
-        scalar,
-        Part::Str(unsafe { str::from_utf8_unchecked(content) }),
-    ))
-}
-
-// The kind of a number.
-fn number_kind(number: Number) -> Kind
-    ensures { IsFlat (number_payload number) result }
-{
-    match number {
-        Number::Int(_) => Kind::Int,
-        Number::Decimal(_) => Kind::Decimal,
-        Number::Timestamp(_) => Kind::Timestamp,
-    }
-}
-
-// The number there.
-fn number_at(octets: &[u8]) -> Option<(FoundToken, Number)>
-    ensures { IfSome result (λ found. (here : Place) (rest : Rest) → is_name here ≡ false →
-        FoundNumber here rest octets.now found.0 found.1) }
-{
-    let count = number(octets)?;
-    if count >= octets.len() {
-        return None;
-    }
-    let Ok(read) = number_of(&octets[..count]) else {
-        return None;
-    };
-    let token = FoundToken {
-        kind: TokenKind::Number,
-        count,
-        left: true,
-    };
-    Some((token, read))
-}
-
-// What a token that isn't plain is as a value: its kind, and whether it would be an annotation if `::`
-// followed.
-fn rare_part<'b>(body: &'b Body<'_>) -> Option<(Kind, bool, Part<'b>)>
-    ensures { IfSome result (λ found. IsValue found.1 (content body.now) (payload_of found.2)
-        × IsFlat (payload_of found.2) found.0) }
-{
-    match body {
-        Body::Quoted(text) => Some((Kind::Symbol, true, Part::Symbol(text.as_str()))),
-        Body::TypedNull(kind) => Some((*kind, true, Part::Null(*kind))),
-        Body::Short(text) => Some((Kind::Str, false, Part::Str(text.as_str()))),
-        Body::Operator(word) => Some((Kind::Symbol, false, Part::Symbol(word.as_str()))),
-        Body::Clob(octets) => Some((Kind::Clob, false, Part::Clob(octets.as_slice()))),
-        Body::Blob(octets) => Some((Kind::Blob, false, Part::Blob(octets.as_slice()))),
-        _ => None,
-    }
-}
-
-// The plain token there that is a value but no number.
-fn plain_at(octets: &[u8]) -> Option<(Scalar, Part<'_>)>
-    ensures { IfSome result (λ found. (here : Place) (rest : Rest) →
-        FoundPart here rest octets.now found.0 (payload_of found.1)) }
-{
-    match octets.first() {
-        Some(b'"') => string_at(octets),
-        Some(b'\'') => quoted_at(octets),
-        _ => word_at(octets),
-    }
-}
-
 // Goes over a token there that isn't plain and is a value.
 #[inline(never)]
 fn walk_rare<T: Visitor>(
@@ -479,45 +307,6 @@ fn walk_scalar<T: Visitor>(
         Some((scalar, said)) => walk_part(here, octets, scalar, &said, level, tally, visitor),
         None => walk_rare(beside, here, octets, level, tally, visitor),
     }
-}
-
-// Whether a number may begin there.
-fn begins_number(octets: &[u8]) -> bool {
-    matches!(octets.first(), Some(b'-' | b'0'..=b'9'))
-}
-
-// The text in quotes there that is a field's name, if its characters stand as they are.
-fn text_name(octets: &[u8]) -> Option<(FoundToken, &str)>
-    ensures { IfSome result (λ found. (rest : Rest) →
-        BeginsName places.Name rest octets.now found.0 (Some found.1.now)) }
-{
-    let token = plain_text(octets)?;
-    if token.count >= octets.len() || token.count < 2 {
-        return None;
-    }
-    let content = &octets[1..][..token.count - 2];
-    Some((token, unsafe { str::from_utf8_unchecked(content) }))
-}
-
-// A word there that is a field's name.
-fn word_name(octets: &[u8]) -> Option<(FoundToken, &str)>
-    ensures { IfSome result (λ found. (rest : Rest) →
-        BeginsName places.Name rest octets.now found.0 (Some found.1.now)) }
-{
-    let count = word(octets)?;
-    if count >= octets.len() || octets[0] == b'$' {
-        return None;
-    }
-    let text = unsafe { str::from_utf8_unchecked(&octets[..count]) };
-    if is_keyword(text) {
-        return None;
-    }
-    let token = FoundToken {
-        kind: TokenKind::Word,
-        count,
-        left: true,
-    };
-    Some((token, text))
 }
 
 // Goes over a text in quotes there that isn't plain, and is a field's name, as `walk_name` does.

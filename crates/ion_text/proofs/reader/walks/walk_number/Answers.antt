@@ -1,7 +1,7 @@
 use Rattle.std.proofs.Common.{◌≡◌, ◌+◌, ◌≤◌, false, length, refl, subst, arith}
 use Rattle.ion_tokens.specs.Bodies.{Number'}
 use Rattle.ion_tokens.specs.machine.Rests.{past_token}
-use Rattle.ion_text.specs.declared.reader.walks.Scalar.{Scalar}
+use Rattle.ion_text.specs.declared.reader.finders.Scalar.{Scalar}
 use Rattle.ion_text.specs.machine.EachToken.{number_payload}
 use Rattle.ion_text.specs.machine.Walked.{FoundScalar, LeadsBehind}
 use Rattle.ion_text.specs.visiting.Walks.{FoundPart}

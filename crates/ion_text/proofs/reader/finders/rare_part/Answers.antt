@@ -7,7 +7,7 @@ use Rattle.ion_text.specs.laws.reading.FrontTokens.{held_of, Pays}
 use Rattle.ion_text.specs.machine.EachToken.{on_ready}
 use Rattle.ion_text.specs.machine.Walked.{IsFlat, IsValue}
 use Rattle.ion_text.proofs.Walks.{flat_null, flat_symbol, flat_text, flat_clob, flat_blob}
-use Rattle.ion_text.proofs.reader.walks.rare_part.Goals as goal
+use Rattle.ion_text.proofs.reader.finders.rare_part.Goals as goal
 
 pub returns-in-Quoted : goal.returns-in-Quoted
 returns-in-Quoted c =

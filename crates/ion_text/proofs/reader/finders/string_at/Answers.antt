@@ -4,7 +4,7 @@ use Rattle.ion_model.specs.declared.value.Payload.TheVariants as payloads
 use Rattle.ion_tokens.specs.Bodies.{Short}
 use Rattle.ion_text.proofs.Arms.{short_says}
 use Rattle.ion_text.proofs.Walks.{flat_text}
-use Rattle.ion_text.proofs.reader.walks.string_at.Goals as goal
+use Rattle.ion_text.proofs.reader.finders.string_at.Goals as goal
 
 pub returns-clause-found : goal.returns-clause-found
 returns-clause-found c = λ here rest.

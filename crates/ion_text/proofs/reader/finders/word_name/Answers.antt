@@ -4,7 +4,7 @@ use Rattle.ion_tokens.specs.declared.mode.TokenKind.TheVariants as tokens
 use Rattle.ion_text.specs.Grammar.{is_keyword}
 use Rattle.ion_text.specs.laws.reading.FrontTokens.{BeginsName}
 use Rattle.ion_text.proofs.Symbols as symbols
-use Rattle.ion_text.proofs.reader.walks.word_name.Goals as goal
+use Rattle.ion_text.proofs.reader.finders.word_name.Goals as goal
 
 pub returns : goal.returns
 returns c = λ rest.

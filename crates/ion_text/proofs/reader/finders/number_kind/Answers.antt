@@ -4,7 +4,7 @@ use Rattle.ion_scalar.specs.declared.number.Number.TheVariants as numbers
 use Rattle.ion_text.specs.machine.EachToken.{number_payload}
 use Rattle.ion_text.specs.machine.Walked.{IsFlat}
 use Rattle.ion_text.proofs.Walks.{flat_number}
-use Rattle.ion_text.proofs.reader.walks.number_kind.Goals as goal
+use Rattle.ion_text.proofs.reader.finders.number_kind.Goals as goal
 
 pub returns-in-Int : goal.returns-in-Int
 returns-in-Int c = subst (λ n. IsFlat (number_payload n) kinds.Int) (sym c.in-Int.is) (flat_number (numbers.Int c.in-Int.field-0))

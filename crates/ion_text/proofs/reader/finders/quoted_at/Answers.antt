@@ -4,7 +4,7 @@ use Rattle.ion_model.specs.declared.value.Payload.TheVariants as payloads
 use Rattle.ion_tokens.specs.Bodies.{Quoted}
 use Rattle.ion_text.proofs.Symbols.{quoted_says}
 use Rattle.ion_text.proofs.Walks.{flat_symbol}
-use Rattle.ion_text.proofs.reader.walks.quoted_at.Goals as goal
+use Rattle.ion_text.proofs.reader.finders.quoted_at.Goals as goal
 
 pub returns : goal.returns
 returns c = λ here rest.

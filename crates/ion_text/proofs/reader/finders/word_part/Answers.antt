@@ -3,7 +3,7 @@ use Rattle.std.specs.Prelude.{codes}
 use Rattle.std.specs.Str.{bytes_eq}
 use Rattle.ion_atoms.specs.declared.kind.Kind.TheVariants as kinds
 use Rattle.ion_text.proofs.Walks.{flat_null, flat_truth, flat_symbol, word_null, word_true, word_false, word_symbol, word_free}
-use Rattle.ion_text.proofs.reader.walks.word_part.Goals as goal
+use Rattle.ion_text.proofs.reader.finders.word_part.Goals as goal
 
 pub returns-then-not-may_be_keyword : goal.returns-then-not-may_be_keyword
 returns-then-not-may_be_keyword c =

@@ -3,7 +3,7 @@ use Rattle.ion_tokens.specs.Bodies.{Word}
 use Rattle.ion_text.specs.machine.EachToken.{held_payload, held_word}
 use Rattle.ion_text.specs.visiting.Parts.{payload_of}
 use Rattle.ion_text.proofs.Symbols.{word_said}
-use Rattle.ion_text.proofs.reader.walks.word_at.Goals as goal
+use Rattle.ion_text.proofs.reader.finders.word_at.Goals as goal
 
 pub returns : goal.returns
 returns c = λ here rest.

@@ -1,7 +1,7 @@
 use Rattle.std.proofs.Common.{◌≡◌, Ok, take}
 use Rattle.ion_scalar.specs.text.Reading.{number_read, number_reads}
 use Rattle.ion_text.proofs.Arms.{number_says}
-use Rattle.ion_text.proofs.reader.walks.number_at.Goals as goal
+use Rattle.ion_text.proofs.reader.finders.number_at.Goals as goal
 
 pub returns : goal.returns
 returns c = λ here rest value.
