@@ -25,5 +25,7 @@ pub mod Tops
 pub mod Elsewhere
 pub mod Alikes
 pub mod Visited
+mod Transcribed
+mod Wrote
 pub mod Calls
 pub mod QuotedRuns

@@ -3,6 +3,7 @@ pub mod Deciding
 pub mod Output
 pub mod Calls
 pub mod Writing
+pub mod Carrying
 pub mod machine
 pub mod visiting
 pub mod laws

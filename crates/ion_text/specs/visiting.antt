@@ -1,3 +1,4 @@
 -- What visitors take of values that are gone over, and what they make of them.
 pub mod Parts
 pub mod Walks
+pub mod Transcribing

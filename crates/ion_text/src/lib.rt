@@ -9,6 +9,7 @@ mod scalar;
 mod spelled;
 mod spelling;
 mod state;
+mod transcription;
 mod visitor;
 mod words;
 mod writer;

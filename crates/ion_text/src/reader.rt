@@ -27,10 +27,10 @@ mod steps;
 mod stretches;
 mod structs;
 mod symbols;
-mod tops;
+pub(crate) mod tops;
 mod turns;
 mod waiting;
-mod walks;
+pub(crate) mod walks;
 mod whole;
 
 /// A reader of a text document that comes in pieces (Ion 1.0, "Ion Text Encoding").

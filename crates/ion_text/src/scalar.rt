@@ -69,7 +69,7 @@ pub fn put_symbol(symbol: &Symbol, out: &mut Vec<u8>) -> Result<(), Fault>
 
 /// Appends a symbol of this text.
 #[tactic(auto, using(crate::specs::laws::writing::Quoted::known_utf8))]
-fn put_known(text: &str, out: &mut Vec<u8>) -> Result<(), Fault>
+pub fn put_known(text: &str, out: &mut Vec<u8>) -> Result<(), Fault>
     ensures ok { OnOk result (out.new.items ≡ out.old.items ++ known_text text.now) }
     ensures utf8 { IsUtf8 (known_text text.now) }
     ensures memory { IsOkUnless result faults.Memory }

@@ -1,15 +1,20 @@
 //! The writer of text documents.
-ghost use Rattle.std.specs.Prelude.{◌≡◌, ◌++◌, Some, None, Err, true, false, [], OnOk, OnErr, IfErr, IfOk, IsOkUnless};
+ghost use Rattle.std.specs.Prelude.{◌≡◌, ◌+◌, ◌≤◌, ◌<◌, ◌^◌, ◌++◌, Some, None, Err, true, false, [], length, OnOk, OnErr, IfErr, IfOk, IfSome, IsNone, IsOkUnless};
 ghost use Rattle.ion_model.specs.Kept.{IsKept};
 ghost use Rattle.ion_symtab.specs.declared.fault.Fault.{Fault as AnyFault};
 ghost use Rattle.ion_symtab.specs.declared.fault.Fault.TheVariants as faults;
 ghost use Rattle.ion_symtab.specs.Took.{Took, TookFront};
 ghost use Rattle.ion_text.specs.Output.{adds};
 ghost use Rattle.ion_text.specs.Writing.{IsWritingFault};
+ghost use Rattle.ion_text.specs.Carrying.{WritesValue};
+ghost use Rattle.ion_text.specs.machine.Walked.{WalkedTop};
 
+use crate::reader::walks::Tally;
 use crate::spelling::put_value;
+use crate::transcription::transcribe;
 use ion_model::Value;
 use ion_symtab::{Fault, Outlet, flushed, write_whole};
+use ion_tokens::TokenReader;
 use std::alloc::Global;
 use std::fmt::{self, Debug, Formatter};
 use std::marker::Model;
@@ -21,6 +26,8 @@ pub struct TextWriter {
     alloc: Global,
     /// The line that was written last; the next one takes its memory.
     line: Vec<u8>,
+    /// Reads tokens of values that are carried.
+    tokens: TokenReader,
     /// The fault that each call answers from now on.
     failed: Option<Fault>,
 }
@@ -48,6 +55,7 @@ impl TextWriter {
         TextWriter {
             alloc,
             line: Vec::new(alloc),
+            tokens: TokenReader::new(alloc),
             failed: None,
         }
     }
@@ -74,6 +82,35 @@ impl TextWriter {
         }
         let answer = self.put_next(out, value);
         self.note(answer)
+    }
+
+    /// Writes the value of the item of the top level at the front of octets, of at most so many levels, without building it: how
+    /// many octets the item has, and the answer of `put`.
+    ///
+    /// `None`, with nothing written, where the item isn't whole or isn't gone over, where memory runs out, and where the
+    /// writer has answered a fault.
+    pub(crate) fn put_octets<W: Outlet>(
+        &mut self,
+        out: &mut W,
+        octets: &[u8],
+        level: u32,
+        tally: &mut Tally,
+    ) -> Option<(usize, Result<(), Fault>)>
+        requires low { tally.old.level ≤ level }
+        requires room { tally.old.rest.used + length octets.now < 2 ^ 63 }
+        ensures writes { IfSome result (λ put. (top : WalkedTop level octets.now put.0 tally.old tally.new)
+            × IsKept top.value
+            × WritesValue W.Outlet self.old self.new out.old out.new top.value put.1) }
+        ensures stays { IsNone result → (self.new ≡ self.old) × (out.new ≡ out.old) }
+    {
+        if self.failed.is_some() {
+            return None;
+        }
+        let (tokens, line) = (&mut self.tokens, &mut self.line);
+        line.clear();
+        let count = carry_line(self.alloc, tokens, octets, level, tally, line)?;
+        let answer = write_whole(out, &self.line);
+        Some((count, self.note(answer)))
     }
 
     /// Ends the document behind the last line, and makes the device pass on all that it took.
@@ -129,4 +166,23 @@ fn put_line(alloc: Global, value: &Value, line: &mut Vec<u8>) -> Result<(), Faul
     put_value(alloc, value, line)?;
     line.push(b'\n')?;
     Ok(())
+}
+
+// Appends the line of the item's value at the front of octets: how many octets the item has.
+fn carry_line(
+    alloc: Global,
+    tokens: &mut TokenReader,
+    octets: &[u8],
+    level: u32,
+    tally: &mut Tally,
+    line: &mut Vec<u8>,
+) -> Option<usize>
+    requires low { tally.old.level ≤ level }
+    requires room { tally.old.rest.used + length octets.now < 2 ^ 63 }
+    ensures { IfSome result (λ count. (top : WalkedTop level octets.now count tally.old tally.new)
+        × IsKept top.value × (line.new.items ≡ line.old.items ++ adds top.value)) }
+{
+    let count = transcribe(alloc, tokens, octets, level, tally, line)?;
+    line.push(b'\n').ok()?;
+    Some(count)
 }

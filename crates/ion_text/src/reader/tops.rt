@@ -217,7 +217,7 @@ fn walk_annotated<T: Visitor>(
 
 /// Goes over the item of the top level at the front of octets, whose value has at most so many levels: how
 /// many octets it has.
-pub(super) fn walk_top<T: Visitor>(
+pub(crate) fn walk_top<T: Visitor>(
     beside: &mut TokenReader,
     octets: &[u8],
     level: u32,

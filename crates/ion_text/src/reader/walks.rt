@@ -29,7 +29,7 @@ use ion_visiting::Bracket;
 
 /// What a walk noted of the values that it went over, and where it rests.
 #[derive(Clone, Copy, Drop)]
-pub(super) struct Tally {
+pub(crate) struct Tally {
     /// The kind of the last value.
     kind: Kind,
     /// How many levels the deepest left.
@@ -110,7 +110,7 @@ impl Tally {
 
     /// Notes such a value, and rests behind its token and a blank: how many octets they have.
     #[inline(always)]
-    pub fn pass_scalar(&mut self, place: Place, scalar: Scalar, blank: usize) -> usize
+    pub(super) fn pass_scalar(&mut self, place: Place, scalar: Scalar, blank: usize) -> usize
         requires room { self.old.rest.used + scalar.token.count + blank < 2 ^ 63 }
         ensures total { result ≡ scalar.token.count + blank }
         ensures noted { self.new ≡ record {

@@ -1,0 +1,265 @@
+//! Values whose octets lie whole in memory, and that are written as text again, in the writer's spelling. They are
+//! judged as they are gone over, and not built.
+ghost use Rattle.std.specs.Prelude.{◌≡◌, ◌+◌, ◌≤◌, ◌<◌, ◌^◌, ◌++◌, true, None, length, OnOk, IfSome, IsOkUnless, option_to_list};
+ghost use Rattle.std.specs.Str.{IsUtf8};
+ghost use Rattle.ion_atoms.specs.Octets.{AreOctets};
+ghost use Rattle.ion_model.specs.Kept.{IsKept, KeptPayload};
+ghost use Rattle.ion_model.specs.declared.value.Payload.TheViews.{out-Payload};
+ghost use Rattle.ion_symtab.specs.declared.fault.Fault.TheVariants as faults;
+ghost use Rattle.ion_text.specs.Output.{known_text, value_text};
+ghost use Rattle.ion_text.specs.laws.writing.Output.{layer_text};
+ghost use Rattle.ion_text.specs.machine.EachToken.{number_payload};
+ghost use Rattle.ion_text.specs.machine.Walked.{WalkedTop};
+ghost use Rattle.ion_text.specs.visiting.Parts.{payload_of};
+ghost use Rattle.ion_text.specs.visiting.Transcribing.{Adds, open_octet, close_octet, octet_between};
+
+use crate::escape::{OF_STRING, put_quoted};
+use crate::reader::tops::walk_top;
+use crate::reader::walks::Tally;
+use crate::scalar::{put_blob, put_clob, put_known, put_null, put_numeral, put_truth};
+use crate::visitor::{Part, Visitor};
+use ion_scalar::Number;
+use ion_symtab::Fault;
+use ion_tokens::TokenReader;
+use ion_visiting::Bracket;
+use std::alloc::Global;
+use std::mem;
+
+/// The visitor that writes what it takes as text, in the writer's spelling.
+#[derive(Drop)]
+pub(crate) struct Transcription {
+    alloc: Global,
+    pub out: Vec<u8>,
+    /// What stands before the next item.
+    before: Option<u8>,
+    /// What stands between the items of the innermost container.
+    between: Option<u8>,
+}
+
+impl Transcription {
+    /// Of a value of the top level; what it writes is appended to these octets.
+    pub fn new(alloc: Global, out: Vec<u8>) -> Transcription
+        ensures out { result.out.items ≡ out.items }
+        ensures before { result.before ≡ None }
+        ensures between { result.between ≡ None }
+    {
+        Transcription {
+            alloc,
+            out,
+            before: None,
+            between: None,
+        }
+    }
+
+    // Appends what stands before the next item.
+    #[inline(always)]
+    fn put_before(&mut self) -> Result<(), Fault>
+        ensures ok { OnOk result
+            (self.new.out.items ≡ self.old.out.items ++ option_to_list self.old.before) }
+        ensures before { self.new.before ≡ self.old.before }
+        ensures between { self.new.between ≡ self.old.between }
+        ensures memory { IsOkUnless result faults.Memory }
+    {
+        if let Some(octet) = self.before {
+            self.out.push(octet)?;
+        }
+        Ok(())
+    }
+
+    // Appends a symbol of this text and what ends it; nothing stands before what follows.
+    #[inline(always)]
+    fn put_note(&mut self, text: &str, end: &[u8]) -> Result<(), Fault>
+        ensures ok { OnOk result (Adds self.old self.new (known_text text.now ++ end.now)) }
+        ensures kept { IsUtf8 text.now }
+        ensures memory { IsOkUnless result faults.Memory }
+    {
+        self.put_before()?;
+        put_known(text, &mut self.out)?;
+        self.out.extend_from_slice(end)?;
+        self.before = None;
+        Ok(())
+    }
+}
+
+impl Visitor for Transcription {
+    type Mark = Option<u8>;
+
+    ghost use Rattle.ion_text.specs.visiting.Transcribing.{transcribing};
+
+    ghost visits = { transcribing };
+
+    #[inline(always)]
+    fn part(&mut self, said: &Part<'_>) -> bool {
+        if self.put_before().is_err() {
+            return false;
+        }
+        self.before = self.between;
+        put_part(self.alloc, said, &mut self.out).is_ok()
+    }
+
+    #[inline(always)]
+    fn number(&mut self, number: &Number) -> bool {
+        number_kept(number);
+        if self.put_before().is_err() {
+            return false;
+        }
+        self.before = self.between;
+        put_numeral(number, &mut self.out).is_ok()
+    }
+
+    #[inline(always)]
+    fn annotation(&mut self, text: &str) -> bool {
+        self.put_note(text, b"::").is_ok()
+    }
+
+    #[inline(always)]
+    fn name(&mut self, text: &str) -> bool {
+        self.put_note(text, b":").is_ok()
+    }
+
+    #[inline(always)]
+    fn open(&mut self, bracket: Bracket) -> Option<Option<u8>> {
+        self.put_before().ok()?;
+        self.out.push(open_octet(bracket)).ok()?;
+        let mark = self.between;
+        self.before = None;
+        self.between = Some(octet_between(bracket));
+        Some(mark)
+    }
+
+    #[inline(always)]
+    fn close(&mut self, bracket: Bracket, mark: Option<u8>) -> bool {
+        self.before = mark;
+        self.between = mark;
+        self.out.push(close_octet(bracket)).is_ok()
+    }
+
+    #[inline(always)]
+    fn open_wrapper(&mut self) -> Option<Option<u8>> {
+        Some(None)
+    }
+
+    #[inline(always)]
+    fn end_annotations(&mut self, _mark: &Option<u8>) -> bool {
+        true
+    }
+
+    #[inline(always)]
+    fn close_wrapper(&mut self, _mark: Option<u8>) -> bool {
+        true
+    }
+}
+
+/// Appends the value of the item of the top level at the front of octets, of at most so many levels: how many octets the item
+/// has. `None` where it isn't whole or isn't gone over, and where memory runs out; then some octets may stand there.
+pub(crate) fn transcribe(
+    alloc: Global,
+    tokens: &mut TokenReader,
+    octets: &[u8],
+    level: u32,
+    tally: &mut Tally,
+    out: &mut Vec<u8>,
+) -> Option<usize>
+    requires low { tally.old.level ≤ level }
+    requires room { tally.old.rest.used + length octets.now < 2 ^ 63 }
+    ensures { IfSome result (λ count. (top : WalkedTop level octets.now count tally.old tally.new)
+        × IsKept top.value × (out.new.items ≡ out.old.items ++ value_text top.value)) }
+{
+    let mut transcription = Transcription::new(alloc, mem::replace(out, Vec::new(alloc)));
+    let count = walk_top(tokens, octets, level, tally, &mut transcription);
+    *out = transcription.out;
+    count
+}
+
+/// What opens a list, an s-expression or a struct.
+fn open_octet(bracket: Bracket) -> u8
+    ensures { result ≡ open_octet bracket }
+{
+    match bracket {
+        Bracket::List => b'[',
+        Bracket::Sexp => b'(',
+        Bracket::Fields => b'{',
+    }
+}
+
+/// What closes it.
+fn close_octet(bracket: Bracket) -> u8
+    ensures { result ≡ close_octet bracket }
+{
+    match bracket {
+        Bracket::List => b']',
+        Bracket::Sexp => b')',
+        Bracket::Fields => b'}',
+    }
+}
+
+/// What stands between its items.
+fn octet_between(bracket: Bracket) -> u8
+    ensures { result ≡ octet_between bracket }
+{
+    match bracket {
+        Bracket::Sexp => b' ',
+        _ => b',',
+    }
+}
+
+/// Appends a value of one token, which is no number.
+fn put_part(alloc: Global, said: &Part<'_>, out: &mut Vec<u8>) -> Result<(), Fault>
+    ensures ok { let level = out-Payload (payload_of said.now) in
+        OnOk result (out.new.items ≡ out.old.items ++ layer_text level) }
+    ensures kept { KeptPayload (payload_of said.now) }
+    ensures memory { IsOkUnless result faults.Memory }
+{
+    match said {
+        Part::Null(kind) => put_null(*kind, out),
+        Part::Truth(truth) => put_truth(*truth, out),
+        Part::Symbol(text) => {
+            text_kept(text);
+            put_known(text, out)
+        }
+        Part::Str(text) => {
+            text_kept(text);
+            put_quoted(OF_STRING, text.as_bytes(), out)
+        }
+        Part::Clob(octets) => {
+            are_octets(octets);
+            put_clob(octets, out)
+        }
+        Part::Blob(octets) => {
+            are_octets(octets);
+            put_blob(alloc, octets, out)
+        }
+    }
+}
+
+/// A text is UTF-8. Does nothing.
+fn text_kept(_text: &str)
+    ensures { IsUtf8 _text.now }
+{}
+
+/// What the types keep about a number. Does nothing.
+fn number_kept(number: &Number)
+    ensures { KeptPayload (number_payload number.now) }
+{
+    match number {
+        Number::Int(whole) => {
+            let _value = whole.get();
+        }
+        Number::Decimal(decimal) => {
+            let _magnitude = decimal.magnitude();
+        }
+        Number::Timestamp(timestamp) => {
+            let _local = timestamp.local();
+        }
+    }
+}
+
+/// Octets are whole numbers below 256. Does nothing: a proof knows an octet to be one once it is read, and
+/// the compiled loop is empty.
+fn are_octets(octets: &[u8])
+    ensures { AreOctets octets.now }
+{
+    for octet in octets {
+        let _octet = *octet;
+    }
+}
