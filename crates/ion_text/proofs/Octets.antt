@@ -4,6 +4,7 @@ use Rattle.std.specs.Prelude.{if◌then◌else◌}
 use Rattle.ion_model.specs.declared.value.Value.{Value}
 use Rattle.ion_atoms.specs.declared.refusal.Reason.{Reason}
 use Rattle.ion_atoms.specs.declared.refusal.Reason.TheVariants as reasons
+use Rattle.ion_atoms.specs.declared.refusal.Refusal.{Refusal}
 use Rattle.ion_symtab.specs.declared.limits.Limits.{Limits}
 use Rattle.ion_symtab.specs.declared.catalog.Catalog.{Catalog}
 use Rattle.ion_tokens.specs.declared.mode.Place.{Place}
@@ -16,7 +17,7 @@ use Rattle.ion_text.specs.declared.state.Met.{Met}
 use Rattle.ion_text.specs.declared.state.Met.TheVariants as met
 use Rattle.ion_text.specs.machine.EachToken.{Reading, Turn, goes, gives, late, place, settle}
 use Rattle.ion_text.specs.machine.Run.{State, Effect, tells, leaves, fails, lesser, or_worse, unsettled, with_scan, on_scan, on_settled, on_octet, takes}
-use Rattle.ion_text.specs.machine.Views.{state_of, Told, DidTake, Gave, IsBehind, Meets, is_left, comes_again, worse}
+use Rattle.ion_text.specs.machine.Views.{state_of, Told, DidTake, DidMeet, Gave, IsBehind, Meets, MeetsWith, is_left, comes_again, worse}
 
 told_same : (e f : Effect) (with_it : Value → State → Effect) (given : Option Value) (m : State) → e ≡ f → Told f with_it given m → Told e with_it given m
 told_same e f with_it None m h t = t
@@ -133,6 +134,24 @@ same_takes : (g h : Catalog) (l k : Limits) (n : ℕ) (o : ℕ) (m : State) → 
 same_takes g h l k n o m e f = ap (λ x. takes x l n m o) (sym e) ∙ ap (λ x. takes h x n m o) (sym f)
 
 module _ (g : Catalog) (l : Limits) (n o : ℕ) where
+  -- what the scanner does of one octet is done by the reader
+  here_did : (r : Reading) (p : Place) (s : Known) (result : Result Taken Reason) (new : TextReader) → DidTake (on_scan g l (λ m. takes g l n m o) r (run p (o ∷ []) s)) result new
+      → DidTake (on_scan g l (λ m. takes g l n m o) r (feed p s o)) result new
+  here_did r p s result new d =
+      take_same (on_scan g l (λ m. takes g l n m o) r (feed p s o)) (on_scan g l (λ m. takes g l n m o) r (run p (o ∷ []) s)) result new
+      (ap (on_scan g l (λ m. takes g l n m o) r) (sym (one_octet p s o))) d
+
+  -- the octet is used, or used with a token, or left behind one
+  pub once_did : (r : Reading) (p : Place) (s : Known) (y z : Met) (t : Taken) (mid : TextReader) → y ≡ z → Meets g l r (run p (o ∷ []) s) y mid → ((e : (State → Effect) → Effect) → DidMeet e (Ok z) mid → DidTake (e (λ m. takes g l n m o)) (Ok t) mid)
+      → DidTake (on_scan g l (λ m. takes g l n m o) r (feed p s o)) (Ok t) mid
+  once_did r p s y z t mid is h takes_it =
+      let there = subst (λ (y : Met). Meets g l r (run p (o ∷ []) s) y mid) is h in
+      here_did r p s (Ok t) mid (takes_it (λ again. on_scan g l again r (run p (o ∷ []) s)) there.did)
+
+  -- the octet is refused
+  pub err_did : (r : Reading) (p : Place) (s : Known) (refusal : Refusal) (mid : TextReader) → MeetsWith g l r (run p (o ∷ []) s) (Err refusal) mid → DidTake (on_scan g l (λ m. takes g l n m o) r (feed p s o)) (Err refusal.reason) mid
+  err_did r p s refusal mid h = here_did r p s (Err refusal.reason) mid (λ other. (h other).1 (λ m. takes g l n m o))
+
   -- the octet comes again
   pub again_did : (r : Reading) (p : Place) (s : Known) (y : Met) (mid : TextReader) (result : Result Taken Reason) (new : TextReader) → y ≡ met.Again → Meets g l r (run p (o ∷ []) s) y mid
       → mid.catalog.now ≡ g → mid.limits ≡ l → DidTake (takes mid.catalog.now mid.limits n (state_of mid) o) result new → DidTake (on_scan g l (λ m. takes g l n m o) r (feed p s o)) result new

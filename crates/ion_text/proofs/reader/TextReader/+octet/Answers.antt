@@ -1,11 +1,66 @@
 use Rattle.std.proofs.Common.{◌≡◌, ◌+◌, ℕ, Ok, IfOk, sym, ap, ◌∙◌, subst, arith}
 use Rattle.ion_tokens.specs.machine.Views.{scanned}
 use Rattle.ion_text.specs.declared.state.Effect.{Effect}
+use Rattle.ion_text.specs.declared.state.Met.TheVariants as met
+use Rattle.ion_text.specs.declared.state.Taken.TheVariants as taken
 use Rattle.ion_text.specs.machine.EachToken.{settle, refuses}
 use Rattle.ion_text.specs.machine.Run.{with_scan}
 use Rattle.ion_text.specs.machine.Views.{reading_of, state_of, Does, comes_again, count_of}
-use Rattle.ion_text.proofs.Octets.{one_left, again_did, late_did, goes_on_did, settles, settles_goes, settles_late, settles_gives}
+use Rattle.ion_text.proofs.Octets.{one_left, one_used, once_did, err_did, again_did, late_did, goes_on_did, settles, settles_goes, settles_late, settles_gives}
 use Rattle.ion_text.proofs.reader.TextReader.+octet.Goals as goal
+
+pub scan_octet-take_octet-requires : goal.scan_octet-take_octet-requires
+scan_octet-take_octet-requires t c =
+    let r = c.args.self.now in
+    let m = c.in-Ok-default-Again.ensures.met c.requires.fine in
+    let same = one_left c.args.place (scanned r.scanner) c.args.octet c.in-Ok-default-Again.field-0-1 (scanned c.meet.new.self.scanner) m.behind m.left (ap comes_again c.in-Ok-default-Again.field-0-1-is) in
+    (omega (arith, c.decreases), (c.in-Ok-default-Again.ensures.fine, omega (arith, same, c.requires.room)))
+
+pub scan_octet-take_octet-again-requires : goal.scan_octet-take_octet-again-requires
+scan_octet-take_octet-again-requires t c =
+    let r = c.args.self.now in
+    let m = c.in-Ok-default-Late.ensures.met c.requires.fine in
+    let same = one_left c.args.place (scanned r.scanner) c.args.octet c.in-Ok-default-Late.field-0-1 (scanned c.meet.new.self.scanner) m.behind m.left (ap comes_again c.in-Ok-default-Late.field-0-1-is) in
+    (omega (arith, c.decreases), (c.in-Ok-default-Late.ensures.fine, omega (arith, same, c.requires.room)))
+
+pub scan_octet-returns-in-Err-clause-did : goal.scan_octet-returns-in-Err-clause-did
+scan_octet-returns-in-Err-clause-did t c =
+    let r = c.args.self.now in
+    err_did r.catalog.now r.limits c.args.tokens c.args.octet (reading_of r) c.args.place (scanned r.scanner) c.in-Err.refusal c.meet.new.self (c.in-Err.ensures.met c.requires.fine)
+
+pub scan_octet-returns-in-Ok-default-Uses-clause-did : goal.scan_octet-returns-in-Ok-default-Uses-clause-did
+scan_octet-returns-in-Ok-default-Uses-clause-did t c =
+    let r = c.args.self.now in
+    once_did r.catalog.now r.limits c.args.tokens c.args.octet (reading_of r) c.args.place (scanned r.scanner) c.in-Ok-default-Uses.field-0-1 met.Uses taken.Uses c.meet.new.self
+    c.in-Ok-default-Uses.field-0-1-is (c.in-Ok-default-Uses.ensures.met c.requires.fine) (λ e d. d _)
+
+pub scan_octet-returns-in-Ok-default-Uses-clause-used : goal.scan_octet-returns-in-Ok-default-Uses-clause-used
+scan_octet-returns-in-Ok-default-Uses-clause-used t c =
+    let m = c.in-Ok-default-Uses.ensures.met c.requires.fine in
+    one_used c.args.place (scanned c.args.self.now.scanner) c.args.octet c.in-Ok-default-Uses.field-0-1 (scanned c.meet.new.self.scanner) m.behind m.left (ap comes_again c.in-Ok-default-Uses.field-0-1-is)
+
+pub scan_octet-returns-in-Ok-default-Tells-clause-did : goal.scan_octet-returns-in-Ok-default-Tells-clause-did
+scan_octet-returns-in-Ok-default-Tells-clause-did t c =
+    let r = c.args.self.now in
+    once_did r.catalog.now r.limits c.args.tokens c.args.octet (reading_of r) c.args.place (scanned r.scanner) c.in-Ok-default-Tells.field-0-1 met.Tells taken.Tells c.meet.new.self
+    c.in-Ok-default-Tells.field-0-1-is (c.in-Ok-default-Tells.ensures.met c.requires.fine) (λ e d. d _)
+
+pub scan_octet-returns-in-Ok-default-Tells-clause-used : goal.scan_octet-returns-in-Ok-default-Tells-clause-used
+scan_octet-returns-in-Ok-default-Tells-clause-used t c =
+    let m = c.in-Ok-default-Tells.ensures.met c.requires.fine in
+    one_used c.args.place (scanned c.args.self.now.scanner) c.args.octet c.in-Ok-default-Tells.field-0-1 (scanned c.meet.new.self.scanner) m.behind m.left (ap comes_again c.in-Ok-default-Tells.field-0-1-is)
+
+pub scan_octet-returns-in-Ok-default-Leaves-clause-did : goal.scan_octet-returns-in-Ok-default-Leaves-clause-did
+scan_octet-returns-in-Ok-default-Leaves-clause-did t c =
+    let r = c.args.self.now in
+    once_did r.catalog.now r.limits c.args.tokens c.args.octet (reading_of r) c.args.place (scanned r.scanner) c.in-Ok-default-Leaves.field-0-1 met.Leaves taken.Leaves c.meet.new.self
+    c.in-Ok-default-Leaves.field-0-1-is (c.in-Ok-default-Leaves.ensures.met c.requires.fine) (λ e d. d _)
+
+pub scan_octet-returns-in-Ok-default-Leaves-clause-used : goal.scan_octet-returns-in-Ok-default-Leaves-clause-used
+scan_octet-returns-in-Ok-default-Leaves-clause-used t c =
+    let m = c.in-Ok-default-Leaves.ensures.met c.requires.fine in
+    let same = one_left c.args.place (scanned c.args.self.now.scanner) c.args.octet c.in-Ok-default-Leaves.field-0-1 (scanned c.meet.new.self.scanner) m.behind m.left (ap comes_again c.in-Ok-default-Leaves.field-0-1-is) in
+    omega (arith, same)
 
 pub scan_octet-returns-in-Ok-default-Again-clause-did : goal.scan_octet-returns-in-Ok-default-Again-clause-did
 scan_octet-returns-in-Ok-default-Again-clause-did t c =
