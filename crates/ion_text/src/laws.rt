@@ -155,7 +155,7 @@ pub fn first_refused()
 /// for one of these reasons, they are all the octets, and the end shows it (`end`). Octets begin with such as the
 /// table names up to one octet at most, and for one reason (`one_octet`). That octet is refused for it, or for a
 /// reason that has no row here, which may also refuse an octet before it (`refuses`). Where all are such as the end
-/// shows, it refuses (`ends`).
+/// shows, it refuses for that reason, or one that has no row here refuses there or before (`ends`).
 pub fn deciding()
     ensures octet { (g : List Table) (l : Limits) (u : List ℕ) (r : Refusal) →
         (trace g l u).refused ≡ Some r → HasRow r.reason → Decides g l (take r.offset u) r.reason }
@@ -168,7 +168,8 @@ pub fn deciding()
         Decides g l (take k u) e → (r : Refusal) × ((trace g l u).refused ≡ Some r) × (r.offset ≤ k) ×
         (HasRow r.reason → (r.offset ≡ k) × (r.reason ≡ e)) }
     ensures ends { (g : List Table) (l : Limits) (u : List ℕ) (e : Reason) →
-        EndDecides g l u e → (r : Refusal) × ((trace g l u).ends ≡ Err r) }
+        EndDecides g l u e → (r : Refusal) × ((trace g l u).ends ≡ Err r) ×
+        (HasRow r.reason → (r.offset ≡ length u) × (r.reason ≡ e)) }
 {}
 
 /// Worked documents denote their streams, under every catalog and all limits of at least two levels and items

@@ -13,4 +13,6 @@ pub mod Waiting
 pub mod Ends
 pub mod Agree
 pub mod OneOctet
+pub mod Lines
+pub mod OneEnd
 pub mod Rows

@@ -40,7 +40,7 @@ behind kinds.KindName = 1
 behind (kinds.Mark marks.FieldsOpen) = 1
 behind _ = 0
 
-bare_behind : (k : TokenKind) → IsBare k → behind k ≡ 1
+pub bare_behind : (k : TokenKind) → IsBare k → behind k ≡ 1
 bare_behind kinds.Word h = refl
 bare_behind kinds.KindName h = refl
 bare_behind (kinds.Mark marks.FieldsOpen) h = refl
@@ -91,7 +91,7 @@ module _ (g : Catalog) (l : Limits) (u : List ℕ) where
 -- 2. Octets behind tokens.
 
 -- what is left behind the same tokens
-left_same : (ts : List Placed) (t : Placed) (u v : List ℕ) (c d : Bool) (e f : ℕ) (rest left : List ℕ) → LexesTo false 0 u (ts ++ t ∷ []) c e rest → LexesTo false 0 (u ++ v) (ts ++ t ∷ []) d f left → rest ++ v ≡ left
+pub left_same : (ts : List Placed) (t : Placed) (u v : List ℕ) (c d : Bool) (e f : ℕ) (rest left : List ℕ) → LexesTo false 0 u (ts ++ t ∷ []) c e rest → LexesTo false 0 (u ++ v) (ts ++ t ∷ []) d f left → rest ++ v ≡ left
 left_same ts t u v c d e f rest left a b =
     let x = lexed_front (ts ++ t ∷ []) false 0 u c e rest a in
     let y = lexed_front (ts ++ t ∷ []) false 0 (u ++ v) d f left b in
@@ -99,7 +99,7 @@ left_same ts t u v c d e f rest left a b =
     (parts_same x.0 (rest ++ v) y.0 left (sym (append_assoc x.0 rest v) ∙ (ap (λ z. z ++ v) (sym x.1) ∙ y.1)) size).1
 
 -- `::` still follows
-colons_on : (r v : List ℕ) → BlankThen (codes "::") r → BlankThen (codes "::") (r ++ v)
+pub colons_on : (r v : List ℕ) → BlankThen (codes "::") r → BlankThen (codes "::") (r ++ v)
 colons_on r v (blank, more, b, e) = (blank, more ++ v, b, ap (λ z. z ++ v) e ∙ append_assoc (blank ++ codes "::") more v)
 
 module _ (g : Catalog) (l : Limits) where
@@ -119,7 +119,7 @@ module _ (g : Catalog) (l : Limits) where
       by (inr (more, i)) = beyond ts stops front t.place came (x ∷ more) i
 
   -- behind one that waits `::` is
-  pends_beyond : (ts : List Placed) (e f : Reason) (p : Pends g l ts e) (front : List Placed) (t x : Placed) (xs : List Placed) → Came g l front t.place → Why g l front t f → front ++ t ∷ [] ≡ ts ++ x ∷ xs → x.lexeme.kind ≡ kinds.Mark marks.Colons
+  pub pends_beyond : (ts : List Placed) (e f : Reason) (p : Pends g l ts e) (front : List Placed) (t x : Placed) (xs : List Placed) → Came g l front t.place → Why g l front t f → front ++ t ∷ [] ≡ ts ++ x ∷ xs → x.lexeme.kind ≡ kinds.Mark marks.Colons
   pends_beyond ts e f p front t x xs came why cut = by (split front t ts x xs cut) why
     where
       by : ((front ≡ ts) × (t ≡ x)) ⊎ ((more : List Placed) × (front ≡ ts ++ x ∷ more)) → Why g l front t f → x.lexeme.kind ≡ kinds.Mark marks.Colons
@@ -131,11 +131,17 @@ module _ (g : Catalog) (l : Limits) where
       by (inl (same, i)) (as_colons n vs r k h) = ap (λ (y : Placed). y.lexeme.kind) (sym i) ∙ k
       by (inr (more, i)) w = colons_next g l ts e p x more came.values came.now (ap (reads g l (origin g l)) (sym i) ∙ came.read)
 
+  -- for one reason
+  pub pends_once : (ts ws : List Placed) (e f : Reason) → Pends g l ts e → Pends g l ws f → ts ≡ ws → e ≡ f
+  pends_once ts ws e f p q i =
+      let one = walked_now g l p.values q.values (pend g l ts e p) (pend g l ws f q) (sym p.read ∙ (ap (reads g l (origin g l)) i ∙ q.read)) in
+      one_refusing e f (settle g l (pend g l ws f q)) (subst (λ k. Refusing e (settle g l k)) one.1 p.why) q.why
+
   -- 4. Two rows.
 
   module _ (u v : List ℕ) where
     -- where `::` doesn't follow it doesn't in more octets
-    none_later : (ts : List Placed) (e : Reason) (p : Pends g l ts e) → NoColons u ts → (x : Placed) (xs : List Placed) (d : Bool) (f : ℕ) (left : List ℕ) → LexesTo false 0 (u ++ v) (ts ++ x ∷ xs) d f left → x.lexeme.kind ≡ kinds.Mark marks.Colons → ⊥
+    pub none_later : (ts : List Placed) (e : Reason) (p : Pends g l ts e) → NoColons u ts → (x : Placed) (xs : List Placed) (d : Bool) (f : ℕ) (left : List ℕ) → LexesTo false 0 (u ++ v) (ts ++ x ∷ xs) d f left → x.lexeme.kind ≡ kinds.Mark marks.Colons → ⊥
     none_later ts e p none x xs d f left lexes k =
         let y = parted ts (x ∷ xs) false 0 (u ++ v) d f left lexes in
         let same = left_same p.front p.token u v none.are.0 y.flag none.are.1 y.mid (none.rest ++ none.o ∷ []) y.left (subst (λ z. LexesTo false 0 u z none.are.0 none.are.1 (none.rest ++ none.o ∷ [])) p.is none.are.2) (subst (λ z. LexesTo false 0 (u ++ v) z y.flag y.mid y.left) p.is y.first) in
@@ -218,7 +224,7 @@ module _ (g : Catalog) (l : Limits) where
     stops_so ts t e s = ap (reads g l (origin g l)) (sym s.is) ∙ s.stops
 
     -- no token is refused among those that are read
-    read_on : (ts : List Placed) (e : Reason) (p : Pends g l ts e) (front more : List Placed) → reads g l (origin g l) front ≡ stopped → p.front ++ p.token ∷ [] ≡ front ++ more → ⊥
+    pub read_on : (ts : List Placed) (e : Reason) (p : Pends g l ts e) (front more : List Placed) → reads g l (origin g l) front ≡ stopped → p.front ++ p.token ∷ [] ≡ front ++ more → ⊥
     read_on ts e p front more stops cut =
         let never : walked p.values (pend g l ts e p) ≡ stopped = sym p.read ∙ (ap (reads g l (origin g l)) (p.is ∙ cut) ∙ (reads-append g l front more (origin g l) ∙ ap (λ y. then_walk y (λ k. reads g l k more)) stops)) in
         cc
@@ -226,7 +232,7 @@ module _ (g : Catalog) (l : Limits) where
     waited_ended : (ts : List Placed) (e : Reason) (p : Pends g l ts e) → NoColons u ts → HasEnded g l u p.token
     waited_ended ts e p n = ended_by_rest g l u p.front p.token n.o n.rest p.plain (subst (λ z. Are u z (n.rest ++ n.o ∷ [])) p.is n.are)
 
-    met : (e f : Reason) → Seen g l u e → Seen g l (u ++ v) f → Once e f
+    pub met : (e f : Reason) → Seen g l u e → Seen g l (u ++ v) f → Once e f
     met e f (refused ts t rest s are ended size) (refused ws w left s' are' ended' size') =
         by (agreed g l u v s.front s'.front t w ended s.came s'.came (lexes_front (s.front ++ t ∷ []) u rest are) (lexes_front (s'.front ++ w ∷ []) (u ++ v) left are'))
       where
@@ -262,9 +268,7 @@ module _ (g : Catalog) (l : Limits) where
         by (agreed g l u v p.front q.front p.token q.token (waited_ended ts e p none) p.came q.came (subst (BeginsLexed false 0 u) p.is (lexes_front ts u (none.rest ++ none.o ∷ []) none.are)) (subst (BeginsLexed false 0 (u ++ v)) q.is (lexes_front ws (u ++ v) (none'.rest ++ none'.o ∷ []) none'.are)))
       where
         same : ts ≡ ws → Once e f
-        same i =
-            let one = walked_now g l p.values q.values (pend g l ts e p) (pend g l ws f q) (sym p.read ∙ (ap (reads g l (origin g l)) i ∙ q.read)) in
-            (shown_once ts e p none (subst (NoColons (u ++ v)) (sym i) none'), one_refusing e f (settle g l (pend g l ws f q)) (subst (λ k. Refusing e (settle g l k)) one.1 p.why) q.why)
+        same i = (shown_once ts e p none (subst (NoColons (u ++ v)) (sym i) none'), pends_once ts ws e f p q i)
 
         later : (x : Placed) (xs : List Placed) → ws ≡ ts ++ x ∷ xs → ⊥
         later x xs i =

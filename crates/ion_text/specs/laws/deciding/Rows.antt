@@ -1,5 +1,5 @@
 -- Where a row of the table stands, the octets up to there are refused.
-use Rattle.std.proofs.Common.{◌≡◌, ◌≤◌, ℕ, List, [], ◌∷◌, ◌++◌, length, take, drop, refl, sym, ap, ◌∙◌, arith, Result, Ok, Err, Option, Some, option_to_list}
+use Rattle.std.proofs.Common.{◌≡◌, ◌≤◌, ℕ, List, [], ◌∷◌, ◌++◌, length, take, drop, refl, sym, ap, ◌∙◌, subst, arith, Result, Ok, Err, Option, Some, None, option_to_list}
 use Rattle.std.proofs.lemmas.List.{take-append-drop, length-take-le}
 use Rattle.ion_model.specs.declared.value.Value.{Value}
 use Rattle.ion_atoms.specs.declared.refusal.Reason.{Reason}
@@ -15,15 +15,17 @@ use Rattle.ion_text.specs.Grammar.{Document}
 use Rattle.ion_text.specs.machine.TokenLists.{reads}
 use Rattle.ion_text.specs.Deciding.{Decides, EndDecides, HasRow, Comes, Container, InStruct, no_symbol, keyword_as_name, keyword_as_annotation, other_version, null_table, too_deep, struct_too_deep, bad_table}
 use Rattle.ion_symtab.specs.Trace.{plain}
-use Rattle.ion_text.specs.machine.Run.{State, begun, Run, run, trace, refused_of}
+use Rattle.ion_text.specs.machine.Run.{State, begun, Run, run, trace, refused_of, ends_of}
 use Rattle.ion_text.specs.machine.Pieces.{on_now}
 use Rattle.ion_text.specs.laws.reading.Admits.{admits}
 use Rattle.ion_text.specs.laws.reading.Steps.{Stood, Ran, run_ran, begun_stood}
-use Rattle.ion_text.specs.laws.reading.Stops.{behind_run, stop_of, stop_within}
+use Rattle.ion_text.specs.laws.reading.Stops.{behind_run, stop_of, stop_within, unfinished}
 use Rattle.ion_text.specs.laws.showing.Froms.{Waits, EndsWaiting, run_waits}
+use Rattle.ion_text.specs.laws.deciding.AtEnd.{end_deciding}
 use Rattle.ion_text.specs.laws.deciding.Fronts.{origin, last_in_place, none_refused}
 use Rattle.ion_text.specs.laws.deciding.Octets.{deciding}
 use Rattle.ion_text.specs.laws.deciding.OneOctet.{Seen, refused, unfollowed, seen, keyword_bare, one_octet}
+use Rattle.ion_text.specs.laws.deciding.OneEnd.{one_end, no_octet}
 use Rattle.ion_text.specs.laws.deciding.Shows.{BareSaid, said_bare}
 use Rattle.ion_text.specs.laws.deciding.Tokens.{bare_plain, id_stops, keyword_stops}
 use Rattle.ion_text.specs.laws.deciding.Ends.{stops_never, pends_never}
@@ -72,10 +74,24 @@ module _ (g : Catalog) (l : Limits) (u : List ℕ) where
   end_never _ (struct_too_deep ts c ks shown h takes deep) s d = absurd shown
   end_never _ (bad_table ts c ss ms e shown h table fails) s d = absurd shown
 
-  -- Where the end decides, it refuses.
-  pub end_refuses : (e : Reason) → EndDecides g l u e → (r : Refusal) × ((trace g l u).ends ≡ Err r)
+  same_refusal : (now : Result State Refusal) (q r : Refusal) → refused_of now ≡ Some q → ends_of g l now ≡ Err r → q ≡ r
+  same_refusal (Ok m) q r h e = absurd cc
+  same_refusal (Err x) q r h e = let a : x ≡ q = cc in let b : x ≡ r = cc in sym a ∙ b
+
+  -- no octet and no other row of the end
+  end_reason : (e : Reason) → EndDecides g l u e → (r : Refusal) → (trace g l u).ends ≡ Err r → HasRow r.reason → (r.offset ≡ length u) × (r.reason ≡ e)
+  end_reason e d r ends row = go (trace g l u).refused refl
+    where
+      go : (x : Option Refusal) → (trace g l u).refused ≡ x → (r.offset ≡ length u) × (r.reason ≡ e)
+      go None h = (unfinished g l u r h ends, one_end g l u r.reason e (end_deciding g l u r h ends row) d)
+      go (Some q) h =
+          let same = same_refusal (run g l 0 begun u).now q r h ends in
+          absurd (no_octet g l u q.offset e q.reason (deciding g l u q h (subst (λ (x : Refusal). HasRow x.reason) (sym same) row)) d)
+
+  -- Where the end decides, it refuses, for the row's reason or for one that no row has.
+  pub end_refuses : (e : Reason) → EndDecides g l u e → (r : Refusal) × ((trace g l u).ends ≡ Err r) × (HasRow r.reason → (r.offset ≡ length u) × (r.reason ≡ e))
   end_refuses e d = go (trace g l u).ends refl
     where
-      go : (x : Result (Option Value) Refusal) → (trace g l u).ends ≡ x → (r : Refusal) × ((trace g l u).ends ≡ Err r)
-      go (Err r) h = (r, h)
+      go : (x : Result (Option Value) Refusal) → (trace g l u).ends ≡ x → (r : Refusal) × ((trace g l u).ends ≡ Err r) × (HasRow r.reason → (r.offset ≡ length u) × (r.reason ≡ e))
+      go (Err r) h = (r, h, end_reason e d r h)
       go (Ok last) h = absurd (end_never e d (plain (trace g l u).given ++ option_to_list last) (admits g l u (plain (trace g l u).given ++ option_to_list last) (record { last = last; ends = h; values = refl })))
