@@ -28,6 +28,8 @@ pub struct TextWriter {
     line: Vec<u8>,
     /// Reads tokens of values that are carried.
     tokens: TokenReader,
+    /// How many values in a row weren't carried.
+    misses: u32,
     /// The fault that each call answers from now on.
     failed: Option<Fault>,
 }
@@ -56,6 +58,7 @@ impl TextWriter {
             alloc,
             line: Vec::new(alloc),
             tokens: TokenReader::new(alloc),
+            misses: 0,
             failed: None,
         }
     }
@@ -88,7 +91,7 @@ impl TextWriter {
     /// many octets the item has, and the answer of `put`.
     ///
     /// `None`, with nothing written, where the item isn't whole or isn't gone over, where memory runs out, and where the
-    /// writer has answered a fault.
+    /// writer has answered a fault. Where that was so of several in a row, few are tried.
     pub(crate) fn put_octets<W: Outlet>(
         &mut self,
         out: &mut W,
@@ -106,9 +109,14 @@ impl TextWriter {
         if self.failed.is_some() {
             return None;
         }
+        self.misses = self.misses.wrapping_add(1);
+        if !is_tried(self.misses) {
+            return None;
+        }
         let (tokens, line) = (&mut self.tokens, &mut self.line);
         line.clear();
         let count = carry_line(self.alloc, tokens, octets, level, tally, line)?;
+        self.misses = 0;
         let answer = write_whole(out, &self.line);
         Some((count, self.note(answer)))
     }
@@ -185,4 +193,10 @@ fn carry_line(
     let count = transcribe(alloc, tokens, octets, level, tally, line)?;
     line.push(b'\n').ok()?;
     Some(count)
+}
+
+// Whether a value is carried that would be the last of so many in a row that aren't: what was gone over in vain is
+// gone over again, so behind two of them one of 64 is tried.
+fn is_tried(misses: u32) -> bool {
+    misses <= 2 || misses % 64 == 0
 }

@@ -127,7 +127,7 @@ impl<'a> TextReader<'a> {
     ///
     /// `None`, with nothing taken up and nothing written, where an item is open, or the value isn't whole, ends before the octet
     /// behind it, may be a local symbol table, may not stand here or is in any way unusual, and where the reader or
-    /// the writer has failed or memory runs out.
+    /// the writer has failed or memory runs out. Where that was so of several in a row, few are tried.
     pub fn carry<W: Outlet>(
         &mut self,
         piece: &[u8],
