@@ -155,7 +155,8 @@ pub fn first_refused()
 /// for one of these reasons, they are all the octets, and the end shows it (`end`). Octets begin with such as the
 /// table names up to one octet at most, and for one reason (`one_octet`). That octet is refused for it, or for a
 /// reason that has no row here, which may also refuse an octet before it (`refuses`). Where all are such as the end
-/// shows, it refuses for that reason, or one that has no row here refuses there or before (`ends`).
+/// shows, it refuses for that reason, or one that has no row here refuses there or before (`ends`). No document
+/// begins with octets of a row (`no_document`), and none is octets of which the end shows one (`none_ends`).
 pub fn deciding()
     ensures octet { (g : List Table) (l : Limits) (u : List ℕ) (r : Refusal) →
         (trace g l u).refused ≡ Some r → HasRow r.reason → Decides g l (take r.offset u) r.reason }
@@ -170,6 +171,10 @@ pub fn deciding()
     ensures ends { (g : List Table) (l : Limits) (u : List ℕ) (e : Reason) →
         EndDecides g l u e → (r : Refusal) × ((trace g l u).ends ≡ Err r) ×
         (HasRow r.reason → (r.offset ≡ length u) × (r.reason ≡ e)) }
+    ensures no_document { (g : List Table) (l : Limits) (u : List ℕ) (k : ℕ) (e : Reason) (s : List Value) →
+        k ≤ length u → Decides g l (take k u) e → Document g l u s → ⊥ }
+    ensures none_ends { (g : List Table) (l : Limits) (u : List ℕ) (e : Reason) (s : List Value) →
+        EndDecides g l u e → Document g l u s → ⊥ }
 {}
 
 /// Worked documents denote their streams, under every catalog and all limits of at least two levels and items

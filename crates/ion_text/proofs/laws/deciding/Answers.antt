@@ -5,4 +5,12 @@ use Rattle.ion_text.specs.laws.deciding.Rows as rows
 use Rattle.ion_text.proofs.laws.deciding.Goals as goal
 
 pub returns : goal.returns
-returns c = record { octet = octets.deciding; end = end_deciding; one_octet = one_octet; refuses = rows.refuses; ends = rows.end_refuses }
+returns c = record {
+  octet = octets.deciding;
+  end = end_deciding;
+  one_octet = one_octet;
+  refuses = rows.refuses;
+  ends = rows.end_refuses;
+  no_document = rows.no_document;
+  none_ends = λ g l u e s d. rows.end_never g l u e d s;
+}

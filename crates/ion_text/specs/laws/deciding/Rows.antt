@@ -17,6 +17,7 @@ use Rattle.ion_text.specs.Deciding.{Decides, EndDecides, HasRow, Comes, Containe
 use Rattle.ion_symtab.specs.Trace.{plain}
 use Rattle.ion_text.specs.machine.Run.{State, begun, Run, run, trace, refused_of, ends_of}
 use Rattle.ion_text.specs.machine.Pieces.{on_now}
+use Rattle.ion_text.specs.laws.reading.Accepts.{accepts}
 use Rattle.ion_text.specs.laws.reading.Admits.{admits}
 use Rattle.ion_text.specs.laws.reading.Steps.{Stood, Ran, run_ran, begun_stood}
 use Rattle.ion_text.specs.laws.reading.Stops.{behind_run, stop_of, stop_within, unfinished}
@@ -57,6 +58,17 @@ refuses g l u k e within d = go x.given x.now refl (run_ran g l (take k u) [] []
         let early : r.offset ≤ k = omega (arith, stop_within g l (take k u) r (stop_of g l (take k u) r same), length-take-le k u within) in
         (r, ap refused_of stops, early, here r (ap refused_of stops) early)
 
+-- No document begins with octets of a row.
+pub no_document : (g : Catalog) (l : Limits) (u : List ℕ) (k : ℕ) (e : Reason) (s : List Value) → k ≤ length u → Decides g l (take k u) e → Document g l u s → ⊥
+no_document g l u k e s within d h = go (run g l 0 begun u).now stops.0 (accepts g l u s h).last stops.1 (accepts g l u s h).ends
+  where
+    stops : (r : Refusal) × ((trace g l u).refused ≡ Some r) × (r.offset ≤ k) × (HasRow r.reason → (r.offset ≡ k) × (r.reason ≡ e))
+    stops = refuses g l u k e within d
+
+    go : (now : Result State Refusal) (r : Refusal) (last : Option Value) → refused_of now ≡ Some r → ends_of g l now ≡ Ok last → ⊥
+    go (Ok m) r last i j = cc
+    go (Err x) r last i j = cc
+
 -- 2. The end.
 
 module _ (g : Catalog) (l : Limits) (u : List ℕ) where
@@ -64,7 +76,7 @@ module _ (g : Catalog) (l : Limits) (u : List ℕ) where
   word_plain c ks said ts h bare = bare_plain h.token.lexeme.kind (said_bare h.token.lexeme.kind h.token.lexeme.octets said h.says.body bare)
 
   -- octets of which the end decides are no document
-  end_never : (e : Reason) → EndDecides g l u e → (s : List Value) → Document g l u s → ⊥
+  pub end_never : (e : Reason) → EndDecides g l u e → (s : List Value) → Document g l u s → ⊥
   end_never _ (no_symbol ts c ks id e shown h fails) s d = stops_never g l u s d ts h.token e [] shown (id_stops g l ts c ks id e h fails) (word_plain c ks (Id id) ts h tt)
   end_never _ (keyword_as_name ts c ks said shown h k) s d = stops_never g l u s d ts h.token KeywordAsName [] shown (keyword_stops g l ts c ks said h k) (word_plain c (InStruct ∷ ks) said ts h (keyword_bare said k))
   end_never _ (keyword_as_annotation ts colons c ks said shown h takes k says) s d = absurd shown
