@@ -8,7 +8,7 @@ use Rattle.std.proofs.lemmas.Option.{slice_get_within}
 use Rattle.ion_symtab.proofs.Systems.{slice_get-append_left, slice_get-append_right}
 use Rattle.ion_symtab.specs.Tables.{Table, find, newer, newest, otherwise}
 use Rattle.ion_symtab.specs.laws.Tables.{find_more}
-use Rattle.ion_symtab.specs.kept.Places.{place_of, newest_of, newest_place, Shows, Indexes}
+use Rattle.ion_symtab.specs.kept.Places.{place_of, newest_of, newest_place, IsPlaceOf, Indexes}
 use Rattle.ion_symtab.specs.declared.places.Places.{Places}
 
 newer_if : (b : Bool) (t u : Table) → nat_le u.version t.version ≡ b → newer (Some t) (Some u) ≡ (if b then Some t else Some u)
@@ -33,7 +33,7 @@ newest_same [] t name e = rw e refl
 newest_same (u ∷ ts) t name e = rw (newest_same ts t name e) refl
 
 -- a place shows the same table with more tables behind
-shows_more : (ts us : List Table) (place : Option ℕ) (found : Option Table) → Shows ts place found → Shows (ts ++ us) place found
+shows_more : (ts us : List Table) (place : Option ℕ) (found : Option Table) → IsPlaceOf ts place found → IsPlaceOf (ts ++ us) place found
 shows_more ts us None found s = record { table = s.table; there = s.there }
 shows_more ts us (Some k) None s = let e = s.there refl in absurd (cc)
 shows_more ts us (Some k) (Some t) s = record {
@@ -42,20 +42,20 @@ shows_more ts us (Some k) (Some t) s = record {
 }
 
 -- the last place shows the last table
-shows_last : (ts : List Table) (t : Table) → Shows (ts ++ t ∷ []) (Some (length ts)) (Some t)
+shows_last : (ts : List Table) (t : Table) → IsPlaceOf (ts ++ t ∷ []) (Some (length ts)) (Some t)
 shows_last ts t = record {
   table = let e : length ts ≡ length ts + 0 = omega arith in slice_get-append_right ts (t ∷ []) (length ts) 0 e;
   there = λ h. refl;
 }
 
-shows_if : (ts : List Table) (t best : Table) (k : ℕ) (b : Bool) → Shows ts (Some k) (Some best) →
-    Shows (ts ++ t ∷ []) (Some (if b then k else length ts)) (if b then Some best else Some t)
+shows_if : (ts : List Table) (t best : Table) (k : ℕ) (b : Bool) → IsPlaceOf ts (Some k) (Some best) →
+    IsPlaceOf (ts ++ t ∷ []) (Some (if b then k else length ts)) (if b then Some best else Some t)
 shows_if ts t best k true s = shows_more ts (t ∷ []) (Some k) (Some best) s
 shows_if ts t best k false s = shows_last ts t
 
 -- the place that is noted shows the newest
-shows_newest : (ts : List Table) (t : Table) (so_far : Option ℕ) (best : Option Table) → Shows ts so_far best →
-    Shows (ts ++ t ∷ []) (Some (newest_place so_far best t (length ts))) (newer best (Some t))
+shows_newest : (ts : List Table) (t : Table) (so_far : Option ℕ) (best : Option Table) → IsPlaceOf ts so_far best →
+    IsPlaceOf (ts ++ t ∷ []) (Some (newest_place so_far best t (length ts))) (newer best (Some t))
 shows_newest ts t None None s = shows_last ts t
 shows_newest ts t None (Some best) s = let e = s.table in absurd (cc)
 shows_newest ts t (Some k) None s = let e = s.there refl in absurd (cc)
@@ -63,24 +63,24 @@ shows_newest ts t (Some k) (Some best) s = shows_if ts t best k (nat_le t.versio
 
 module _ (ts : List Table) (t : Table) (old new : Places) (indexes : Indexes ts old) (absent : find ts t.name t.version ≡ None) where
   exact_at : (q : List ℕ) (v : ℕ) (b : Bool) → (bytes_eq t.name q && (t.version == v)) ≡ b →
-      Shows (ts ++ t ∷ []) (cond b (Some (length ts)) (place_of old q v)) (otherwise (find ts q v) (if b then Some t else None))
+      IsPlaceOf (ts ++ t ∷ []) (cond b (Some (length ts)) (place_of old q v)) (otherwise (find ts q v) (if b then Some t else None))
   exact_at q v true e =
       let p = and_parts (bytes_eq t.name q) (t.version == v) e in
       let n : t.name ≡ q = (bytes_eq-Decides t.name q).0 p.0 in
       let w : t.version ≡ v = eqb-true _ _ p.1 in
       let none : find ts q v ≡ None = ap (λ x. find ts x v) (sym n) ∙ ap (find ts t.name) (sym w) ∙ absent in
       rw none (shows_last ts t)
-  exact_at q v false e = subst (Shows (ts ++ t ∷ []) (place_of old q v)) (same (find ts q v)) (shows_more ts (t ∷ []) (place_of old q v) (find ts q v) (indexes.exact q v))
+  exact_at q v false e = subst (IsPlaceOf (ts ++ t ∷ []) (place_of old q v)) (same (find ts q v)) (shows_more ts (t ∷ []) (place_of old q v) (find ts q v) (indexes.exact q v))
     where
       same : (o : Option Table) → o ≡ otherwise o None
       same None = refl
       same (Some u) = refl
 
   newest_by : (q : List ℕ) (b : Bool) → bytes_eq t.name q ≡ b →
-      Shows (ts ++ t ∷ []) (cond b (Some (newest_place (newest_of old t.name) (newest ts t.name) t (length ts))) (newest_of old q)) (newest (ts ++ t ∷ []) q)
+      IsPlaceOf (ts ++ t ∷ []) (cond b (Some (newest_place (newest_of old t.name) (newest ts t.name) t (length ts))) (newest_of old q)) (newest (ts ++ t ∷ []) q)
   newest_by q true e =
       let n : t.name ≡ q = (bytes_eq-Decides t.name q).0 e in
-      rw (newest_more ts t q e) (subst (λ x. Shows (ts ++ t ∷ []) (Some (newest_place (newest_of old t.name) (newest ts t.name) t (length ts))) (newer (newest ts x) (Some t))) n
+      rw (newest_more ts t q e) (subst (λ x. IsPlaceOf (ts ++ t ∷ []) (Some (newest_place (newest_of old t.name) (newest ts t.name) t (length ts))) (newer (newest ts x) (Some t))) n
       (shows_newest ts t (newest_of old t.name) (newest ts t.name) (indexes.newest t.name)))
   newest_by q false e = rw (newest_same ts t q e) (shows_more ts (t ∷ []) (newest_of old q) (newest ts q) (indexes.newest q))
 

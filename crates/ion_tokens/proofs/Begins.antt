@@ -37,7 +37,7 @@ use Rattle.ion_tokens.proofs.Wholes.{run_behind}
 use Rattle.ion_tokens.proofs.Histories.{stands_finds, end_token}
 use Rattle.ion_tokens.proofs.Told.{lexes_behind}
 use Rattle.ion_tokens.proofs.Stepped.{all_since}
-use Rattle.ion_tokens.proofs.Slashes.{Ends, slash_comments}
+use Rattle.ion_tokens.proofs.Slashes.{EndsBeforeComment, slash_comments}
 use Rattle.ion_tokens.proofs.Reaches.{Reaches, run_reaches, begun_stays}
 
 -- what doesn't begin with a quote
@@ -314,7 +314,7 @@ begun_right p s u ts h = (there.colon, there.end, there.since, there.lexes, by (
 
   may_comment : is_idle s.mode ≡ false → behind s.mode ≡ 1 → MayComment p u ts begun
   may_comment i one = by (slash_comments p s u ts h one) where
-    by : Ends p s u ts ⊎ ((rest : List ℕ) (others : List Placed) → LooksIn p others → Lexes false 0 (u ++ rest) (ts ++ others) → ⊥) → MayComment p u ts begun
+    by : EndsBeforeComment p s u ts ⊎ ((rest : List ℕ) (others : List Placed) → LooksIn p others → Lexes false 0 (u ++ rest) (ts ++ others) → ⊥) → MayComment p u ts begun
     by (inl x) = inl (x.lexeme, x.start ∙ begun_stays s.mode s.start s.used i, x.end ∙ ap (λ (n : ℕ). s.used - n) (sym one), x.lexes)
     by (inr never) = inr never
 

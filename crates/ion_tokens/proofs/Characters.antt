@@ -21,7 +21,7 @@ use Rattle.ion_tokens.specs.machine.Table.{in_text, stands, is_long, is_clob, qu
 use Rattle.ion_tokens.specs.machine.AtOnce.{is_plain, is_raw, goes_on, AreKept, GoesOver}
 use Rattle.ion_tokens.proofs.Encodings.{encoding, order, one}
 use Rattle.ion_tokens.proofs.TextSteps.{quote_small}
-use Rattle.ion_tokens.proofs.TextElements.{Goes, goes_none, goes_one, goes_then, goes_to, read_raw}
+use Rattle.ion_tokens.proofs.TextElements.{GoesInText, goes_none, goes_one, goes_then, goes_to, read_raw}
 
 -- octets of a class of ASCII
 pub ascii_each : (class : ℕ → Bool) (w : List ℕ) → ((o : ℕ) → class o ≡ true → o < 128) → Each class w → IsAscii w
@@ -109,19 +109,19 @@ text_no_clob : (s : Style) (c : ℕ) → is_clob s ≡ false → IsTrue (is_clob
 text_no_clob s c text clob = absurd (true≢false (sym clob ∙ text))
 
 one_kept : (p : Place) (s : Style) (c : ℕ) (kept : List ℕ) → is_clob s ≡ false → scalar c ≡ true → Each (is_raw (is_long s) (quote_of s)) (encode c)
-    → Goes p s within.Plain kept (encode c) within.Plain (kept ++ encode c)
+    → GoesInText p s within.Plain kept (encode c) within.Plain (kept ++ encode c)
 one_kept p s c kept text u h = by (order c 128) where
-  by : (c < 128) ⊎ (128 ≤ c) → Goes p s within.Plain kept (encode c) within.Plain (kept ++ encode c)
+  by : (c < 128) ⊎ (128 ≤ c) → GoesInText p s within.Plain kept (encode c) within.Plain (kept ++ encode c)
   by (inl low) =
       let is = one c low in
-      subst (λ l. Goes p s within.Plain kept l within.Plain (kept ++ l)) (sym is)
+      subst (λ l. GoesInText p s within.Plain kept l within.Plain (kept ++ l)) (sym is)
       (goes_one p s within.Plain c kept within.Plain (keeps.One c) (plain_stays s c (low_plain s c low (subst (Each (is_raw (is_long s) (quote_of s))) is h).0)))
   by (inr high) =
       let quote = quote_small s in
       read_raw p s c within.Plain kept (λ o is. tt) u (λ e. omega arith) (λ e. omega arith) (inr (inr (inr (omega arith)))) (text_no_clob s c text) (encoding c (scalar_cases c u))
 
 chars_kept : (p : Place) (s : Style) (cs kept : List ℕ) → is_clob s ≡ false → scalars cs ≡ true → Each (is_raw (is_long s) (quote_of s)) (encodes cs)
-    → Goes p s within.Plain kept (encodes cs) within.Plain (kept ++ encodes cs)
+    → GoesInText p s within.Plain kept (encodes cs) within.Plain (kept ++ encodes cs)
 chars_kept p s [] kept text u h = goes_to p s within.Plain within.Plain [] kept kept (kept ++ []) (sym (append-nil kept)) (goes_none p s within.Plain kept)
 chars_kept p s (c ∷ cs) kept text u h =
     let parts = each_split (is_raw (is_long s) (quote_of s)) (encode c) (encodes cs) h in
@@ -134,18 +134,18 @@ chars_kept p s (c ∷ cs) kept text u h =
     both true b e = (refl, e)
     both false b e = cc
 
-each_kept : (p : Place) (s : Style) (w kept : List ℕ) → Each (is_plain s) w → Goes p s within.Plain kept w within.Plain (kept ++ w)
+each_kept : (p : Place) (s : Style) (w kept : List ℕ) → Each (is_plain s) w → GoesInText p s within.Plain kept w within.Plain (kept ++ w)
 each_kept p s [] kept h = goes_to p s within.Plain within.Plain [] kept kept (kept ++ []) (sym (append-nil kept)) (goes_none p s within.Plain kept)
 each_kept p s (o ∷ os) kept h =
     goes_to p s within.Plain within.Plain (o ∷ os) kept ((kept ++ o ∷ []) ++ os) (kept ++ o ∷ os) (append_assoc kept (o ∷ []) os)
     (goes_then p s within.Plain within.Plain within.Plain (o ∷ []) os kept (kept ++ o ∷ []) ((kept ++ o ∷ []) ++ os)
     (goes_one p s within.Plain o kept within.Plain (keeps.One o) (plain_stays s o h.0)) (each_kept p s os (kept ++ o ∷ []) h.1))
 
-pub kept_goes : (p : Place) (s : Style) (w kept : List ℕ) → AreKept s w → Goes p s within.Plain kept w within.Plain (kept ++ w)
+pub kept_goes : (p : Place) (s : Style) (w kept : List ℕ) → AreKept s w → GoesInText p s within.Plain kept w within.Plain (kept ++ w)
 kept_goes p s w kept h = by (is_clob s) refl where
-  by : (clob : Bool) → is_clob s ≡ clob → Goes p s within.Plain kept w within.Plain (kept ++ w)
+  by : (clob : Bool) → is_clob s ≡ clob → GoesInText p s within.Plain kept w within.Plain (kept ++ w)
   by true e = each_kept p s w kept (h.2 e)
   by false e =
       let is = h.1.1.1 in
-      subst (λ l. Goes p s within.Plain kept l within.Plain (kept ++ l)) is
+      subst (λ l. GoesInText p s within.Plain kept l within.Plain (kept ++ l)) is
       (chars_kept p s h.1.0 kept e h.1.1.0 (subst (Each (is_raw (is_long s) (quote_of s))) (sym is) h.0))

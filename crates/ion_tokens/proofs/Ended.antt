@@ -13,7 +13,7 @@ use Rattle.ion_tokens.proofs.Found.{FindsUpTo, Last, Gives, Leaves, Unclosed}
 use Rattle.ion_tokens.proofs.Runs.{next_used}
 use Rattle.ion_tokens.proofs.Wholes.{run_behind}
 use Rattle.ion_tokens.proofs.Histories.{begins_completes, stands_found}
-use Rattle.ion_tokens.proofs.SoundHistories.{Tells, stands_tells}
+use Rattle.ion_tokens.proofs.SoundHistories.{HasTold, stands_tells}
 use Rattle.ion_tokens.proofs.Sounds.{RunSound, run_sound}
 use Rattle.ion_tokens.proofs.Holds.{Holds}
 use Rattle.ion_tokens.proofs.Escapes.{Escapes, Refuses, Goes, Grows, Escape, escape}
@@ -84,7 +84,7 @@ not_found s octets r s' t e (Grows l z f later) ended found = by found where
 pub told_all : (s s' : Known) (u : List ℕ) (ts : List Placed) (ahead piece more : List ℕ) (p : Place) → Stands s u ts ahead → AllPass ts → piece ≡ ahead ++ more → run p piece s ≡ Next s'
     → (t : Placed) → t.place ≡ p → ((r : List ℕ) → AreOctets r → BeginsLexed false 0 (u ++ (piece ++ r)) (ts ++ t ∷ [])) → ⊥
 told_all s s' u ts ahead piece more p h pass cut e t place lexes = by (escape p tells.colon tells.end s' (tells.since ++ piece) holds) where
-  tells : Tells s u ts ahead
+  tells : HasTold s u ts ahead
   tells = stands_tells s u ts ahead h pass
 
   holds : Holds p tells.colon tells.end s' (tells.since ++ piece)

@@ -17,7 +17,7 @@ use Rattle.ion_tokens.specs.machine.Scanning.{Known, Lexeme, Outcome, Next, Give
 use Rattle.ion_tokens.specs.Blanks.{BlankPiece, HasNoClose, IsBlankPiece, blank_spelling, IsBlank, IsOpenComment}
 use Rattle.ion_tokens.specs.Lexemes.{Each, ends, IsWord, IsBlobContent}
 use Rattle.ion_tokens.proofs.Moves.{at}
-use Rattle.ion_tokens.proofs.Opens.{IsOpen, IsFound, solid, AnyBlob}
+use Rattle.ion_tokens.proofs.Opens.{IsOpen, IsUnjudgedToken, solid, AnyBlob}
 
 -- behind a blank, an open block comment, which ends in a star or not
 pub record IsOpenBlock (since : List ℕ) (star : Bool) : Type 0 where
@@ -59,7 +59,7 @@ pub record IsTold (p : Place) (colon : Bool) (k : ℕ) (octets ahead after : Lis
   pub cut : octets ≡ (front ++ token) ++ ahead
   pub start : l.start ≡ k + length front
   pub end : l.end ≡ (k + length front) + length token
-  pub found : (r : List ℕ) → IsFound p colon token (ahead ++ (after ++ r)) l.kind l.octets
+  pub found : (r : List ℕ) → IsUnjudgedToken p colon token (ahead ++ (after ++ r)) l.kind l.octets
   pub rest : (q : Place) → Holds q (takes_colon p l.kind) l.end s ahead
   -- from a blank behind the token, the octets ahead lead to what the scanner knows
   pub again : (q : Place) → run q ahead (at modes.Blank [] (takes_colon p l.kind) l.end l.end) ≡ Next s

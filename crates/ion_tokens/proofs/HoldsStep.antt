@@ -19,7 +19,7 @@ use Rattle.ion_tokens.specs.machine.Scanning.{Known, Next, Given, Left, acts, ke
 use Rattle.ion_tokens.specs.Blanks.{IsBlank}
 use Rattle.ion_tokens.specs.Lexemes.{IsWord}
 use Rattle.ion_tokens.proofs.Moves.{at, Stays}
-use Rattle.ion_tokens.proofs.Opens.{IsOpen, Turns, IsFound}
+use Rattle.ion_tokens.proofs.Opens.{IsOpen, Turns, IsUnjudgedToken}
 use Rattle.ion_tokens.proofs.Holds.{InMode, Holds, Sound, in_mode, blank_behind, inf_word, blob_sound, blank_none, inf_again}
 
 -- an open token behind a blank, where the scanner stands
@@ -47,7 +47,7 @@ module _ (p : Place) (colon : Bool) (k : ℕ) (m : Mode) (kept : List ℕ) (star
     mode = subst (λ l. InMode p colon k m' kept' (start_of m start used) l) (sym (append_assoc front w (o ∷ []))) (in_mode p colon k m' kept' (start_of m start used) front (w ++ o ∷ []) blank begins_there h);
   }
 
-  gives : (kind : TokenKind) (kept' : List ℕ) → ((r : List ℕ) → IsFound p colon (w ++ o ∷ []) r kind kept') → Sound p colon k (front ++ w) o (Given (cut (at m kept colon start used) kind kept' (used + 1)) (past p kind modes.Blank [] (used + 1) (used + 1)))
+  gives : (kind : TokenKind) (kept' : List ℕ) → ((r : List ℕ) → IsUnjudgedToken p colon (w ++ o ∷ []) r kind kept') → Sound p colon k (front ++ w) o (Given (cut (at m kept colon start used) kind kept' (used + 1)) (past p kind modes.Blank [] (used + 1) (used + 1)))
   gives kind kept' h = record {
     front = front;
     token = w ++ o ∷ [];
@@ -60,7 +60,7 @@ module _ (p : Place) (colon : Bool) (k : ℕ) (m : Mode) (kept : List ℕ) (star
     again = λ q. refl;
   }
 
-  leaves_blank : (kind : TokenKind) (kept' : List ℕ) (end : ℕ) → end ≡ used → ((r : List ℕ) → IsFound p colon w (o ∷ r) kind kept') → Sound p colon k (front ++ w) o (Left (cut (at m kept colon start used) kind kept' end) (past p kind modes.Blank [] end used))
+  leaves_blank : (kind : TokenKind) (kept' : List ℕ) (end : ℕ) → end ≡ used → ((r : List ℕ) → IsUnjudgedToken p colon w (o ∷ r) kind kept') → Sound p colon k (front ++ w) o (Left (cut (at m kept colon start used) kind kept' end) (past p kind modes.Blank [] end used))
   leaves_blank kind kept' end e h = (
     [],
     record {
@@ -76,7 +76,7 @@ module _ (p : Place) (colon : Bool) (k : ℕ) (m : Mode) (kept : List ℕ) (star
     },
   )
 
-  leaves_slash : (kind : TokenKind) (kept' token : List ℕ) → w ≡ token ++ 47 ∷ [] → ((r : List ℕ) → IsFound p colon token (47 ∷ o ∷ r) kind kept') → Sound p colon k (front ++ w) o (Left (cut (at m kept colon start used) kind kept' (used - 1)) (past p kind modes.Slash [] (used - 1) used))
+  leaves_slash : (kind : TokenKind) (kept' token : List ℕ) → w ≡ token ++ 47 ∷ [] → ((r : List ℕ) → IsUnjudgedToken p colon token (47 ∷ o ∷ r) kind kept') → Sound p colon k (front ++ w) o (Left (cut (at m kept colon start used) kind kept' (used - 1)) (past p kind modes.Slash [] (used - 1) used))
   leaves_slash kind kept' token e h =
       let longer : length w ≡ length token + 1 = ap length e ∙ length-append token (47 ∷ []) in
       let size : used - 1 ≡ (k + length front) + length token = omega (arith, end_is, longer) in
@@ -95,7 +95,7 @@ module _ (p : Place) (colon : Bool) (k : ℕ) (m : Mode) (kept : List ℕ) (star
         },
       )
 
-  splits : (n : ℕ) (kept' token : List ℕ) → 1 ≤ n → n ≤ 3 → w ≡ token ++ take n (codes "inf") → ((r : List ℕ) → IsFound p colon token (take n (codes "inf") ++ o ∷ r) kinds.Operator kept')
+  splits : (n : ℕ) (kept' token : List ℕ) → 1 ≤ n → n ≤ 3 → w ≡ token ++ take n (codes "inf") → ((r : List ℕ) → IsUnjudgedToken p colon token (take n (codes "inf") ++ o ∷ r) kinds.Operator kept')
       → Sound p colon k (front ++ w) o (Left (cut (at m kept colon start used) kinds.Operator kept' (used - n)) (past p kinds.Operator modes.Word (take n (codes "inf")) (used - n) used))
   splits n kept' token low high e h =
       let word : IsWord (take n (codes "inf")) × (length (take n (codes "inf")) ≡ n) = inf_word n low high in

@@ -37,11 +37,11 @@ pub record IsOpenRun (w : List ℕ) : Type 0 where
   pub last : ends (λ o. o == 47) w ≡ false
 
 -- what the ending says of the run, and of the place: outside s-expressions a run is a sign
-abbrev pub EndsSo : Place → Ending → List ℕ → Type 0
-EndsSo p endings.LoneMinus w = w ≡ 45 ∷ []
-EndsSo p endings.Minus w = is_sexp p ≡ true
-EndsSo p endings.Plus w = ends (λ o. o == 45) w ≡ false
-EndsSo p endings.Other w = (is_sexp p ≡ true) × (ends (λ o. o == 45) w ≡ false) × (ends (λ o. (o == 43) || (o == 45)) w ≡ false)
+abbrev pub RunEndsSo : Place → Ending → List ℕ → Type 0
+RunEndsSo p endings.LoneMinus w = w ≡ 45 ∷ []
+RunEndsSo p endings.Minus w = is_sexp p ≡ true
+RunEndsSo p endings.Plus w = ends (λ o. o == 45) w ≡ false
+RunEndsSo p endings.Other w = (is_sexp p ≡ true) × (ends (λ o. o == 45) w ≡ false) × (ends (λ o. (o == 43) || (o == 45)) w ≡ false)
 
 -- a blob's content so far, without its white space
 abbrev pub solid : List ℕ → List ℕ
@@ -101,7 +101,7 @@ IsOpen p colon modes.Word w kept = (kept ≡ w) × IsWord w
 IsOpen p colon modes.KindName w kept = (w ≡ codes "null." ++ kept) × Each is_word_octet kept
 IsOpen p colon modes.Number w kept = (kept ≡ w) × IsOpenNumber p w
 IsOpen p colon modes.NumberSlash w kept = (w ≡ kept ++ 47 ∷ []) × IsOpenNumber p kept
-IsOpen p colon (modes.Operator e) w kept = (kept ≡ w) × (is_name p ≡ false) × IsOpenRun w × EndsSo p e w
+IsOpen p colon (modes.Operator e) w kept = (kept ≡ w) × (is_name p ≡ false) × IsOpenRun w × RunEndsSo p e w
 IsOpen p colon modes.OperatorSlash w kept = (w ≡ kept ++ 47 ∷ []) × (is_sexp p ≡ true) × IsOpenRun kept
 IsOpen p colon (modes.Infinity n) w kept = (w ≡ kept ++ take n (codes "inf")) × IsOpenRun kept × (1 ≤ n) × (n ≤ 3)
 IsOpen p colon modes.Quote w kept = (w ≡ 39 ∷ []) × (kept ≡ [])
@@ -112,19 +112,19 @@ IsOpen p colon (modes.Lob l) w kept = (is_name p ≡ false) × (inside : List �
 IsOpen p colon _ w kept = ⊥
 
 -- a token, unless it is refused when it is judged
-abbrev pub IsFound : Place → Bool → List ℕ → List ℕ → TokenKind → List ℕ → Type 0
-IsFound p colon w r kind kept = Passes kind kept → IsLexeme p colon w r kind kept
+abbrev pub IsUnjudgedToken : Place → Bool → List ℕ → List ℕ → TokenKind → List ℕ → Type 0
+IsUnjudgedToken p colon w r kind kept = Passes kind kept → IsLexeme p colon w r kind kept
 
 -- a token ended before the octet; where a comment ended it, before the / that was taken up
 abbrev pub EndsBefore : Place → Bool → List ℕ → ℕ → TokenKind → List ℕ → Mode → Type 0
-EndsBefore p colon w o kind kept modes.Blank = (r : List ℕ) → IsFound p colon w (o ∷ r) kind kept
-EndsBefore p colon w o kind kept modes.Slash = (front : List ℕ) × (w ≡ front ++ 47 ∷ []) × ((r : List ℕ) → IsFound p colon front (47 ∷ o ∷ r) kind kept)
+EndsBefore p colon w o kind kept modes.Blank = (r : List ℕ) → IsUnjudgedToken p colon w (o ∷ r) kind kept
+EndsBefore p colon w o kind kept modes.Slash = (front : List ℕ) × (w ≡ front ++ 47 ∷ []) × ((r : List ℕ) → IsUnjudgedToken p colon front (47 ∷ o ∷ r) kind kept)
 EndsBefore p colon w o kind kept _ = ⊥
 
 -- what an action at an octet says of an open token
 abbrev pub Turns : Place → Bool → List ℕ → List ℕ → ℕ → Action → Type 0
 Turns p colon w kept o (actions.Go m k) = IsOpen p colon m (w ++ o ∷ []) (kept_after k kept)
-Turns p colon w kept o (actions.Give kind k) = (r : List ℕ) → IsFound p colon (w ++ o ∷ []) r kind (kept_after k kept)
+Turns p colon w kept o (actions.Give kind k) = (r : List ℕ) → IsUnjudgedToken p colon (w ++ o ∷ []) r kind (kept_after k kept)
 Turns p colon w kept o (actions.Before kind k m) = EndsBefore p colon w o kind (kept_after k kept) m
 Turns p colon w kept o actions.EndWord = (kept ≡ w) × IsWord w × (is_word_octet o ≡ false)
 Turns p colon w kept o (actions.Split n) = (1 ≤ n) × (n ≤ 3) × (front : List ℕ) × (w ≡ front ++ take n (codes "inf")) × ((r : List ℕ) → IsLexeme p colon front (take n (codes "inf") ++ o ∷ r) kinds.Operator kept)

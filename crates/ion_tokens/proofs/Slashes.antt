@@ -143,7 +143,7 @@ slash_ends p colon modes.OperatorSlash h = refl
 slash_ends p colon _ h = cc
 
 -- the octets but for the last one are a token, and it begins a comment
-pub record Ends (p : Place) (s : Known) (u : List ℕ) (ts : List Placed) : Type 0 where
+pub record EndsBeforeComment (p : Place) (s : Known) (u : List ℕ) (ts : List Placed) : Type 0 where
   pub lexeme : Lexeme
   pub start : lexeme.start ≡ start_of s.mode s.start s.used
   pub end : lexeme.end ≡ s.used - 1
@@ -170,7 +170,7 @@ module _ (p : Place) (s : Known) (u : List ℕ) (ts : List Placed) (h : Scanned 
       (run_behind p h.since (47 ∷ []) h.behind s h.ran ∙ left) (next_used p h.since h.behind s (sym h.ran)))
 
   -- where the token passes, it ends before the `/`
-  pub ends_before : Passes kind s.kept → Ends p s u ts
+  pub ends_before : Passes kind s.kept → EndsBeforeComment p s u ts
   ends_before passes = record {
     lexeme = token.lexeme;
     start = refl;
@@ -180,7 +180,7 @@ module _ (p : Place) (s : Known) (u : List ℕ) (ts : List Placed) (h : Scanned 
 
 -- A `/` that isn't counted, as a comment may begin with it: a token ends before it, or no document goes on so.
 pub slash_comments : (p : Place) (s : Known) (u : List ℕ) (ts : List Placed) → Scanned p s u ts [] → behind s.mode ≡ 1
-    → Ends p s u ts ⊎ ((rest : List ℕ) (others : List Placed) → LooksIn p others → Lexes false 0 (u ++ rest) (ts ++ others) → ⊥)
+    → EndsBeforeComment p s u ts ⊎ ((rest : List ℕ) (others : List Placed) → LooksIn p others → Lexes false 0 (u ++ rest) (ts ++ others) → ⊥)
 unfolding Slashed
 slash_comments p s u ts h one = by s.mode one refl (has_slash s.kept) refl where
   never : (in_numeric s.mode ≡ true) → has_slash s.kept ≡ true → (rest : List ℕ) (others : List Placed) → LooksIn p others → Lexes false 0 (u ++ rest) (ts ++ others) → ⊥
@@ -192,7 +192,7 @@ slash_comments p s u ts h one = by s.mode one refl (has_slash s.kept) refl where
       (stands_finds h.behind h.front ts h.left (h.since ++ rest) others h.told (more ++ rest) (ap (λ l. l ++ rest) since ∙ append_assoc h.left more rest) there))
 
   by : (m : Mode) → behind m ≡ 1 → s.mode ≡ m → (b : Bool) → has_slash s.kept ≡ b
-      → Ends p s u ts ⊎ ((rest : List ℕ) (others : List Placed) → LooksIn p others → Lexes false 0 (u ++ rest) (ts ++ others) → ⊥)
+      → EndsBeforeComment p s u ts ⊎ ((rest : List ℕ) (others : List Placed) → LooksIn p others → Lexes false 0 (u ++ rest) (ts ++ others) → ⊥)
   by modes.NumberSlash f e true has = inr (never (ap in_numeric e) has)
   by modes.NumberSlash f e false has = inl (ends_before p s u ts h one (subst (λ m. Passes (kind_behind m) s.kept) (sym e) has))
   by modes.OperatorSlash f e b has = inl (ends_before p s u ts h one (subst (λ m. Passes (kind_behind m) s.kept) (sym e) tt))

@@ -17,31 +17,31 @@ use Rattle.ion_tokens.specs.machine.Scanning.{Known, Lexeme, kept_after, ends_at
 use Rattle.ion_tokens.specs.Blanks.{IsBlank, IsLastBlank}
 use Rattle.ion_tokens.specs.Lexemes.{IsOperator, comment_within}
 use Rattle.ion_tokens.proofs.Moves.{at, Stays}
-use Rattle.ion_tokens.proofs.Opens.{IsOpen, IsOpenRun, IsFound}
+use Rattle.ion_tokens.proofs.Opens.{IsOpen, IsOpenRun, IsUnjudgedToken}
 use Rattle.ion_tokens.proofs.Holds.{InMode, IsBegun, Holds}
 use Rattle.ion_tokens.specs.laws.Each.{each_last}
 use Rattle.ion_tokens.proofs.TurnsWords.{number_found, slash_in, empty_symbol}
 use Rattle.ion_tokens.proofs.TurnsOperators.{found_run, comment_append, both_false, apart_more, not_empty}
 
 -- behind a blank, a token up to the end of the input
-pub record IsLast (p : Place) (colon : Bool) (k : ℕ) (since : List ℕ) (l : Lexeme) : Type 0 where
+pub record IsLastToken (p : Place) (colon : Bool) (k : ℕ) (since : List ℕ) (l : Lexeme) : Type 0 where
   pub front : List ℕ
   pub token : List ℕ
   pub blank : IsBlank front
   pub cut : since ≡ front ++ token
   pub start : l.start ≡ k + length front
   pub end : l.end ≡ (k + length front) + length token
-  pub found : IsFound p colon token [] l.kind l.octets
+  pub found : IsUnjudgedToken p colon token [] l.kind l.octets
 
 abbrev pub EndSound : Place → Bool → ℕ → List ℕ → Result (Option Lexeme) Reason → Type 0
 EndSound p colon k since (Ok None) = IsLastBlank since
-EndSound p colon k since (Ok (Some l)) = IsLast p colon k since l
+EndSound p colon k since (Ok (Some l)) = IsLastToken p colon k since l
 EndSound p colon k since (Err r) = Unit {0}
 
 -- what an end says of an open token
 abbrev EndTurns : Place → Bool → List ℕ → List ℕ → End → Type 0
 EndTurns p colon w kept ends'.Blank = ⊥
-EndTurns p colon w kept (ends'.Token kind k) = IsFound p colon w [] kind (kept_after k kept)
+EndTurns p colon w kept (ends'.Token kind k) = IsUnjudgedToken p colon w [] kind (kept_after k kept)
 EndTurns p colon w kept (ends'.Refuse r) = Unit {0}
 
 run_ended : (p : Place) (colon : Bool) (w : List ℕ) → IsOpenRun w → EndTurns p colon w w (operator_end p keeps.Nothing)
@@ -71,7 +71,7 @@ token_ends : (p : Place) (colon : Bool) (m : Mode) (w kept : List ℕ) → IsOpe
 token_ends p colon modes.Colon w kept (e, k, c) = λ j. (k, e, c, refl)
 token_ends p colon modes.Word w kept (e, h) = λ j. (e, h, refl, λ null. refl)
 token_ends p colon modes.KindName w kept (e, h) = λ j. (e, h, refl)
-token_ends p colon modes.Number w kept (e, n) = subst (λ l. IsFound p colon w [] kinds.Number l) (sym e) (number_found p colon w [] n (inl refl))
+token_ends p colon modes.Number w kept (e, n) = subst (λ l. IsUnjudgedToken p colon w [] kinds.Number l) (sym e) (number_found p colon w [] n (inl refl))
 token_ends p colon modes.NumberSlash w kept (e, n) = λ j. absurd (true≢false (sym (slash_in kept) ∙ j))
 token_ends p colon (modes.Operator x) w kept (e, n, h, s) = subst (λ l. EndTurns p colon w l (operator_end p keeps.Nothing)) (sym e) (run_ended p colon w h)
 token_ends p colon modes.OperatorSlash w kept (e, s, h) = slash_ended p colon w kept e h

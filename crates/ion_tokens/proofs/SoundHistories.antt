@@ -22,7 +22,7 @@ pass_front (x ∷ ts) t h = let rest = pass_front ts t h.1 in ((h.0, rest.0), re
 
 -- The octets taken up are the tokens told, with blanks between, and then these, of which the scanner knows what they are, in
 -- whatever place comes next; that is so before all octets that begin with the one that was left, if one was.
-pub record Tells (s : Known) (u : List ℕ) (ts : List Placed) (ahead : List ℕ) : Type 0 where
+pub record HasTold (s : Known) (u : List ℕ) (ts : List Placed) (ahead : List ℕ) : Type 0 where
   pub colon : Bool
   pub end : ℕ
   pub since : List ℕ
@@ -43,14 +43,14 @@ begins_with : (p : Place) (colon : Bool) (k : ℕ) (octets ahead after : List �
 begins_with p colon k octets ahead after l s r t j = record { blank = t.front; token = t.token; is_blank = t.blank; cut = ap (λ x. x ++ (after ++ r)) t.cut ∙ append_assoc (t.front ++ t.token) ahead (after ++ r); start = t.start; end = t.end; is = t.found r j }
 
 -- What was told of octets so far is so.
-pub stands_tells : (s : Known) (u : List ℕ) (ts : List Placed) (ahead : List ℕ) → Stands s u ts ahead → AllPass ts → Tells s u ts ahead
+pub stands_tells : (s : Known) (u : List ℕ) (ts : List Placed) (ahead : List ℕ) → Stands s u ts ahead → AllPass ts → HasTold s u ts ahead
 stands_tells s u ts ahead Begun pass = record { colon = false; end = 0; since = []; holds = λ q. blank_behind q false 0; again = λ q. refl; lexes = λ r more e. (refl, refl, refl) }
 stands_tells s u ts ahead (Gave s0 u0 ts0 ahead0 t octets more0 s' h e f n) pass =
     by (stands_tells s0 u0 ts0 ahead0 h (pass_front ts0 t pass).0)
   where
-    by : Tells s0 u0 ts0 ahead0 → Tells s (u0 ++ octets) (ts0 ++ t ∷ []) []
+    by : HasTold s0 u0 ts0 ahead0 → HasTold s (u0 ++ octets) (ts0 ++ t ∷ []) []
     by b = told (subst (λ x. RunSound t.place b.colon b.end b.since octets x) f (run_sound t.place b.colon b.end octets b.since s0 (b.holds t.place))) where
-      told : RunSound t.place b.colon b.end b.since octets (Given t.lexeme s) → Tells s (u0 ++ octets) (ts0 ++ t ∷ []) []
+      told : RunSound t.place b.colon b.end b.since octets (Given t.lexeme s) → HasTold s (u0 ++ octets) (ts0 ++ t ∷ []) []
       told (front, rest, cut, is) =
           let size = told_used t.place b.colon b.end (b.since ++ front) [] [] t.lexeme s is in
           let all : length octets ≡ length front = omega (arith, n, size, (b.holds t.place).used, length-append b.since front) in
@@ -70,9 +70,9 @@ stands_tells s u ts ahead (Gave s0 u0 ts0 ahead0 t octets more0 s' h e f n) pass
 stands_tells s u ts ahead (Leaved s0 u0 ts0 ahead0 t octets more0 x s' h e f n) pass =
     by (stands_tells s0 u0 ts0 ahead0 h (pass_front ts0 t pass).0)
   where
-    by : Tells s0 u0 ts0 ahead0 → Tells s (u0 ++ octets) (ts0 ++ t ∷ []) (x ∷ [])
+    by : HasTold s0 u0 ts0 ahead0 → HasTold s (u0 ++ octets) (ts0 ++ t ∷ []) (x ∷ [])
     by b = told (subst (λ y. RunSound t.place b.colon b.end b.since (octets ++ x ∷ []) y) f (run_sound t.place b.colon b.end (octets ++ x ∷ []) b.since s0 (b.holds t.place))) where
-      told : RunSound t.place b.colon b.end b.since (octets ++ x ∷ []) (Left t.lexeme s) → Tells s (u0 ++ octets) (ts0 ++ t ∷ []) (x ∷ [])
+      told : RunSound t.place b.colon b.end b.since (octets ++ x ∷ []) (Left t.lexeme s) → HasTold s (u0 ++ octets) (ts0 ++ t ∷ []) (x ∷ [])
       told (front, y, rest, over, cut, is) =
           let size = told_used t.place b.colon b.end (b.since ++ front) over (y ∷ []) t.lexeme s is in
           let all : length octets ≡ length front = omega (arith, n, size, (b.holds t.place).used, length-append b.since front) in

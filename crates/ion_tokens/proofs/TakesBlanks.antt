@@ -17,26 +17,26 @@ use Rattle.ion_tokens.proofs.Moves.{at, Moves, moves_one, moves_then, moves_past
 use Rattle.ion_tokens.proofs.TextsComplete.{eq_or}
 
 -- over these octets a blank goes on
-abbrev pub Passes : Place → Bool → List ℕ → Type 0
-Passes p colon os = (start used : ℕ) → (now : ℕ) × ((r : List ℕ) → run p (os ++ r) (blank colon start used) ≡ run p r (blank colon now (used + length os)))
+abbrev pub PassesBlank : Place → Bool → List ℕ → Type 0
+PassesBlank p colon os = (start used : ℕ) → (now : ℕ) × ((r : List ℕ) → run p (os ++ r) (blank colon start used) ≡ run p r (blank colon now (used + length os)))
 
-passes_none : (p : Place) (colon : Bool) → Passes p colon []
+passes_none : (p : Place) (colon : Bool) → PassesBlank p colon []
 passes_none p colon start used = (start, λ r. let none : used ≡ used + length {A = ℕ} [] = omega arith in ap (λ (n : ℕ). run p r (blank colon start n)) none)
 
-passes_then : (p : Place) (colon : Bool) (xs ys : List ℕ) → Passes p colon xs → Passes p colon ys → Passes p colon (xs ++ ys)
+passes_then : (p : Place) (colon : Bool) (xs ys : List ℕ) → PassesBlank p colon xs → PassesBlank p colon ys → PassesBlank p colon (xs ++ ys)
 passes_then p colon xs ys f g start used =
     let first = f start used in
     let second = g first.0 (used + length xs) in
     let longer : (used + length xs) + length ys ≡ used + length (xs ++ ys) = omega (arith, length-append xs ys) in
     (second.0, λ r. ap (λ os. run p os (blank colon start used)) (append_assoc xs ys r) ∙ first.1 (ys ++ r) ∙ second.1 r ∙ ap (λ (n : ℕ). run p r (blank colon second.0 n)) longer)
 
-passes_opened : (p : Place) (colon : Bool) (os : List ℕ) → Opens p colon os modes.Blank [] → Passes p colon os
+passes_opened : (p : Place) (colon : Bool) (os : List ℕ) → Opens p colon os modes.Blank [] → PassesBlank p colon os
 passes_opened p colon os f start used = (used, f start used)
 
 white_first : (p : Place) (colon : Bool) (o : ℕ) → is_white o ≡ true → in_blank p colon o ≡ actions.Go modes.Blank keeps.Nothing
 white_first p colon o h = rw h
 
-passes_white : (p : Place) (colon : Bool) (o : ℕ) → is_white o ≡ true → Passes p colon (o ∷ [])
+passes_white : (p : Place) (colon : Bool) (o : ℕ) → is_white o ≡ true → PassesBlank p colon (o ∷ [])
 passes_white p colon o h start used = (used, λ r. ap (λ a. follow (acts p (blank colon start used) o a) (λ t. run p r t)) (white_first p colon o h))
 
 opens_line : (p : Place) (colon : Bool) → Opens p colon (codes "//") modes.LineComment []
@@ -119,7 +119,7 @@ block_moves p (o ∷ os) star h = ⊎_elim (λ i. starred i (block_moves p os tr
         (moves_then p (block_mode star) modes.BlockCommentStar modes.Blank (42 ∷ []) (os ++ codes "*/") [] [] [] (block_one p star true 42 (λ c. block_star p star c))
         (f (goes_star star os (subst (λ (x : ℕ). GoesOn star (x ∷ os)) i h))))
 
-passes_piece : (p : Place) (colon : Bool) (b : BlankPiece) → IsBlankPiece b → Passes p colon (blank_spelling b)
+passes_piece : (p : Place) (colon : Bool) (b : BlankPiece) → IsBlankPiece b → PassesBlank p colon (blank_spelling b)
 passes_piece p colon (White o) h = passes_white p colon o h
 passes_piece p colon (LineComment os last) h = passes_opened p colon (codes "//" ++ os ++ last ∷ [])
     (opens_then p colon (codes "//" ++ os) (last ∷ []) modes.LineComment modes.Blank [] []
@@ -128,12 +128,12 @@ passes_piece p colon (LineComment os last) h = passes_opened p colon (codes "//"
 passes_piece p colon (BlockComment os) h = passes_opened p colon (codes "/*" ++ os ++ codes "*/")
     (opens_then p colon (codes "/*") (os ++ codes "*/") modes.BlockComment modes.Blank [] [] (opens_block p colon) (block_moves p os false h))
 
-passes_pieces : (p : Place) (colon : Bool) (bs : List BlankPiece) → AllByRecursion IsBlankPiece bs → Passes p colon (flat_map blank_spelling bs)
+passes_pieces : (p : Place) (colon : Bool) (bs : List BlankPiece) → AllByRecursion IsBlankPiece bs → PassesBlank p colon (flat_map blank_spelling bs)
 passes_pieces p colon [] h = passes_none p colon
 passes_pieces p colon (b ∷ bs) h = passes_then p colon (blank_spelling b) (flat_map blank_spelling bs) (passes_piece p colon b h.0) (passes_pieces p colon bs h.1)
 
-pub passes_blank : (p : Place) (colon : Bool) (w : List ℕ) → IsBlank w → Passes p colon w
-passes_blank p colon w b = subst (λ l. Passes p colon l) (sym b.spelled) (passes_pieces p colon b.pieces b.each)
+pub passes_blank : (p : Place) (colon : Bool) (w : List ℕ) → IsBlank w → PassesBlank p colon w
+passes_blank p colon w b = subst (λ l. PassesBlank p colon l) (sym b.spelled) (passes_pieces p colon b.pieces b.each)
 
 -- at the end of the input a blank is no token
 pub last_blank : (p : Place) (colon : Bool) (w : List ℕ) (start used : ℕ) → IsLastBlank w → (s : Known) × (run p w (blank colon start used) ≡ Next s) × (at_end p s ≡ Ok None)

@@ -23,7 +23,7 @@ use Rattle.ion_tokens.specs.Quoted.{IsQuoted, Element, Raw, RawLine, Simple, Hid
 use Rattle.ion_tokens.specs.Lexemes.{begins}
 use Rattle.ion_tokens.proofs.Moves.{at, Moves, moves_one, moves_then, Opens, opens_one, opens_then, Takes, takes_now, takes_left, takes_end}
 use Rattle.ion_tokens.proofs.TextSteps.{raw_quote}
-use Rattle.ion_tokens.proofs.TextElements.{Goes}
+use Rattle.ion_tokens.proofs.TextElements.{GoesInText}
 use Rattle.ion_tokens.proofs.TextsComplete.{Ended, read_content}
 
 -- short strings
@@ -103,7 +103,7 @@ same_quote p colon start used o f (actions.Split n) = refl
 same_quote p colon start used o f actions.EndBlob = refl
 same_quote p colon start used o f (actions.Refuse e) = refl
 
-pub from_quote : (p : Place) (content octets : List ℕ) (v : Within) → content ≢ [] → BeginsOther content → Goes p styles.QuotedSymbol within.Plain [] content v octets → Moves p modes.Quote [] content (modes.Text styles.QuotedSymbol v) octets
+pub from_quote : (p : Place) (content octets : List ℕ) (v : Within) → content ≢ [] → BeginsOther content → GoesInText p styles.QuotedSymbol within.Plain [] content v octets → Moves p modes.Quote [] content (modes.Text styles.QuotedSymbol v) octets
 from_quote p [] octets v some other f = absurd (some refl)
 from_quote p (o ∷ os) octets v some other f = λ colon start used r.
     ap (λ b. follow (acts p (at modes.Quote [] colon start used) o (cond b (go modes.Quotes) (raw styles.QuotedSymbol o))) (λ t. run p (os ++ r) t)) (no_quote o other)

@@ -20,32 +20,32 @@ use Rattle.ion_tokens.specs.declared.mode.Action.TheVariants as actions
 use Rattle.ion_tokens.specs.machine.Table.{in_text, raw, in_escape, after_digits, grow, is_clob, quote_of}
 use Rattle.ion_tokens.specs.machine.Scanning.{Known, acts, follow, run, kept_after}
 use Rattle.ion_tokens.specs.Quoted.{Hex, Pair, IsElement, meaning, IsHexAfter, hex_length}
-use Rattle.ion_tokens.proofs.TextSteps.{Stands, raw_one, raw_two, raw_three, raw_four, least_three, most_three, least_four, most_four, utf8_last, utf8_more, quote_small, Admits, as_raw, Caps, caps_grow, exact, in_digit, last_digit, more_digits, char_is, after_unit, after_high, after_low}
+use Rattle.ion_tokens.proofs.TextSteps.{StandsRaw, raw_one, raw_two, raw_three, raw_four, least_three, most_three, least_four, most_four, utf8_last, utf8_more, quote_small, Admits, as_raw, Caps, caps_grow, exact, in_digit, last_digit, more_digits, char_is, after_unit, after_high, after_low}
 
 -- what the scanner knows within a quoted text
 abbrev pub reading : Style → Bool → ℕ → Within → List ℕ → ℕ → Known
 reading s colon start w kept used = record { mode = modes.Text s w; kept = kept; colon = colon; start = start; used = used }
 
 -- over these octets it comes from the one state to the other, whatever follows
-abbrev pub Goes : Place → Style → Within → List ℕ → List ℕ → Within → List ℕ → Type 0
-Goes p s w kept os v kept' = (colon : Bool) (start used : ℕ) (r : List ℕ) → run p (os ++ r) (reading s colon start w kept used) ≡ run p r (reading s colon start v kept' (used + length os))
+abbrev pub GoesInText : Place → Style → Within → List ℕ → List ℕ → Within → List ℕ → Type 0
+GoesInText p s w kept os v kept' = (colon : Bool) (start used : ℕ) (r : List ℕ) → run p (os ++ r) (reading s colon start w kept used) ≡ run p r (reading s colon start v kept' (used + length os))
 
-pub goes_none : (p : Place) (s : Style) (w : Within) (kept : List ℕ) → Goes p s w kept [] w kept
+pub goes_none : (p : Place) (s : Style) (w : Within) (kept : List ℕ) → GoesInText p s w kept [] w kept
 goes_none p s w kept colon start used r = let none : used ≡ used + length {A = ℕ} [] = omega arith in ap (λ (n : ℕ). run p r (reading s colon start w kept n)) none
 
-pub goes_one : (p : Place) (s : Style) (w : Within) (o : ℕ) (kept : List ℕ) (v : Within) (k : Keep) → in_text s w o ≡ actions.Go (modes.Text s v) k → Goes p s w kept (o ∷ []) v (kept_after k kept)
+pub goes_one : (p : Place) (s : Style) (w : Within) (o : ℕ) (kept : List ℕ) (v : Within) (k : Keep) → in_text s w o ≡ actions.Go (modes.Text s v) k → GoesInText p s w kept (o ∷ []) v (kept_after k kept)
 goes_one p s w o kept v k e colon start used r = ap (λ a. follow (acts p (reading s colon start w kept used) o a) (λ t. run p r t)) e
 
-pub goes_then : (p : Place) (s : Style) (w v u : Within) (xs ys kept kept' kept'' : List ℕ) → Goes p s w kept xs v kept' → Goes p s v kept' ys u kept'' → Goes p s w kept (xs ++ ys) u kept''
+pub goes_then : (p : Place) (s : Style) (w v u : Within) (xs ys kept kept' kept'' : List ℕ) → GoesInText p s w kept xs v kept' → GoesInText p s v kept' ys u kept'' → GoesInText p s w kept (xs ++ ys) u kept''
 goes_then p s w v u xs ys kept kept' kept'' f g colon start used r =
     let longer : (used + length xs) + length ys ≡ used + length (xs ++ ys) = omega (arith, length-append xs ys) in
     ap (λ l. run p l (reading s colon start w kept used)) (append_assoc xs ys r) ∙ f colon start used (ys ++ r) ∙ g colon start (used + length xs) r
     ∙ ap (λ (n : ℕ). run p r (reading s colon start u kept'' n)) longer
 
-pub goes_to : (p : Place) (s : Style) (w v : Within) (os kept kept' kept'' : List ℕ) → kept' ≡ kept'' → Goes p s w kept os v kept' → Goes p s w kept os v kept''
-goes_to p s w v os kept kept' kept'' e f = subst (λ l. Goes p s w kept os v l) e f
+pub goes_to : (p : Place) (s : Style) (w v : Within) (os kept kept' kept'' : List ℕ) → kept' ≡ kept'' → GoesInText p s w kept os v kept' → GoesInText p s w kept os v kept''
+goes_to p s w v os kept kept' kept'' e f = subst (λ l. GoesInText p s w kept os v l) e f
 
-raw_step : (p : Place) (s : Style) (w : Within) (o : ℕ) (kept : List ℕ) (v : Within) (k : Keep) → Admits w o → raw s o ≡ actions.Go (modes.Text s v) k → Goes p s w kept (o ∷ []) v (kept_after k kept)
+raw_step : (p : Place) (s : Style) (w : Within) (o : ℕ) (kept : List ℕ) (v : Within) (k : Keep) → Admits w o → raw s o ≡ actions.Go (modes.Text s v) k → GoesInText p s w kept (o ∷ []) v (kept_after k kept)
 raw_step p s w o kept v k a e = goes_one p s w o kept v k (as_raw s w o a ∙ e)
 
 pub between_three : (x y : ℕ) → (x ≡ 224 → 160 ≤ y) → (x ≡ 237 → y ≤ 159) → 128 ≤ y → y < 192 → (least_three x ≤ y) × (y ≤ most_three x)
@@ -76,8 +76,8 @@ no_clob s c h l = by (is_clob s) h where
   by true h = absurd (omega (arith, h refl))
 
 -- a raw character that isn't a long string's quote
-pub read_raw : (p : Place) (s : Style) (c : ℕ) (w : Within) (kept : List ℕ) → ((o : ℕ) → (o ≡ c) ⊎ (128 ≤ o) → Admits w o) → IsScalar c → c ≢ 92 → c ≢ quote_of s → Stands c → (IsTrue (is_clob s) → c < 128) → Encoding c
-    → Goes p s w kept (encode c) within.Plain (kept ++ encode c)
+pub read_raw : (p : Place) (s : Style) (c : ℕ) (w : Within) (kept : List ℕ) → ((o : ℕ) → (o ≡ c) ⊎ (128 ≤ o) → Admits w o) → IsScalar c → c ≢ 92 → c ≢ quote_of s → StandsRaw c → (IsTrue (is_clob s) → c < 128) → Encoding c
+    → GoesInText p s w kept (encode c) within.Plain (kept ++ encode c)
 read_raw p s c w kept a scalar slash quote stands clob (one_octet low e) = rw e (raw_step p s w c kept within.Plain (keeps.One c) (a c (inl refl)) (raw_one s c low slash quote stands))
 read_raw p s c w kept a scalar slash quote stands clob (two_octets x y l u f t e) =
     let least : 128 ≤ c = at_least_128 c (omega (arith, ap length e)) in
@@ -114,10 +114,10 @@ read_raw p s c w kept a scalar slash quote stands clob (four_octets x y z v l u 
 
 -- the digits of an escape, whose number leads on
 read_digits : (p : Place) (s : Style) (os : List ℕ) (d : Digits) (left m n c : ℕ) (kept : List ℕ) (v : Within) (k : Keep) → length os ≡ left → 0 < left → IsHexAfter n os c → Caps m n
-    → ((c' : ℕ) → Caps c' c → after_digits s d c' ≡ actions.Go (modes.Text s v) k) → Goes p s (within.Hexadecimal d left m) kept os v (kept_after k kept)
+    → ((c' : ℕ) → Caps c' c → after_digits s d c' ≡ actions.Go (modes.Text s v) k) → GoesInText p s (within.Hexadecimal d left m) kept os v (kept_after k kept)
 read_digits p s [] d left m n c kept v k e some h caps f = absurd (omega arith)
 read_digits p s (o ∷ []) d left m n c kept v k e some (x, digit, last) caps f =
-    subst (λ (l : ℕ). Goes p s (within.Hexadecimal d l m) kept (o ∷ []) v (kept_after k kept)) e
+    subst (λ (l : ℕ). GoesInText p s (within.Hexadecimal d l m) kept (o ∷ []) v (kept_after k kept)) e
     (goes_one p s (within.Hexadecimal d 1 m) o kept v k (in_digit s d 1 m o x digit ∙ last_digit s d m x ∙ f (grow m x) (subst (Caps (grow m x)) last (caps_grow m n x caps))))
 read_digits p s (o ∷ o' ∷ os) d left m n c kept v k e some (x, digit, last) caps f =
     goes_then p s (within.Hexadecimal d left m) (within.Hexadecimal d (left - 1) (grow m x)) v (o ∷ []) (o' ∷ os) kept kept (kept_after k kept)
@@ -184,7 +184,7 @@ hex_kind s letter n h (inr (inr (l, e))) =
     record { kind = digits.Scalar; opened = ap (in_escape s) l ∙ opens_scalar s text ∙ ap (λ (n : ℕ). actions.Go (modes.Text s (within.Hexadecimal digits.Scalar n 0)) keeps.Nothing) (sym e); some = omega arith; means = λ c e k. char_is s c e ∙ in_text_style s c text }
 
 -- behind a backslash
-pub goes_slash : (p : Place) (s : Style) (w v : Within) (os kept kept' : List ℕ) → Admits w 92 → Goes p s within.Escape kept os v kept' → Goes p s w kept (92 ∷ os) v kept'
+pub goes_slash : (p : Place) (s : Style) (w v : Within) (os kept kept' : List ℕ) → Admits w 92 → GoesInText p s within.Escape kept os v kept' → GoesInText p s w kept (92 ∷ os) v kept'
 goes_slash p s w v os kept kept' a f = goes_then p s w within.Escape v (92 ∷ []) os kept kept kept' (raw_step p s w 92 kept within.Escape keeps.Nothing a refl) f
 
 clob_small : (s : Style) (letter : ℕ) (os : List ℕ) (c : ℕ) → hex_length letter ≡ Some (length os) → (IsTrue (is_clob s) → letter ≡ 120) → IsHexAfter 0 os c → IsTrue (is_clob s) → c < 256
@@ -192,7 +192,7 @@ clob_small s letter os c k h g clob =
     let same : Some (length os) ≡ Some 2 = sym k ∙ ap hex_length (h clob) in
     let two : length os ≡ 2 = cc in two_small os c two g
 
-pub read_hex : (p : Place) (s : Style) (w : Within) (kept : List ℕ) (letter : ℕ) (os : List ℕ) (c : ℕ) → Admits w 92 → IsElement s (Hex letter os c) → Goes p s w kept (92 ∷ letter ∷ os) within.Plain (kept ++ meaning s (Hex letter os c))
+pub read_hex : (p : Place) (s : Style) (w : Within) (kept : List ℕ) (letter : ℕ) (os : List ℕ) (c : ℕ) → Admits w 92 → IsElement s (Hex letter os c) → GoesInText p s w kept (92 ∷ letter ∷ os) within.Plain (kept ++ meaning s (Hex letter os c))
 read_hex p s w kept letter os c a i =
     let k : HexKind s letter (length os) = hex_kind s letter (length os) i.3 (letters letter (length os) i.0) in
     let cases = scalar_cases c i.2 in
@@ -204,7 +204,7 @@ read_hex p s w kept letter os c a i =
     (λ c' caps. ap (after_digits s k.kind) (exact c' c caps (below_max c cases)) ∙ k.means c i.2 cases))))
 
 pub read_pair : (p : Place) (s : Style) (w : Within) (kept first second : List ℕ) (high low : ℕ) → Admits w 92 → IsElement s (Pair first second high low)
-    → Goes p s w kept (92 ∷ 117 ∷ first ++ 92 ∷ 117 ∷ second) within.Plain (kept ++ encode (0x10000 + high * 1024 + low))
+    → GoesInText p s w kept (92 ∷ 117 ∷ first ++ 92 ∷ 117 ∷ second) within.Plain (kept ++ encode (0x10000 + high * 1024 + low))
 read_pair p s w kept first second high low a (text, l, m, h, hs, k, ks) =
     let unit : Within = within.Hexadecimal digits.Unit 4 0 in
     let is_high : Within = within.HighSurrogate (0xd800 + high) in

@@ -18,10 +18,10 @@ use native.Mathlib.Decide.{dec_lt}
 use Rattle.ion_tokens.specs.machine.Table.{in_text, raw, in_utf8, in_escape, with_digit, meant, character, after_digits, grow, is_long, is_clob, quote_of}
 
 -- an ASCII character that stands for itself
-abbrev pub Stands : ℕ → Type 0
-Stands o = (o ≡ 9) ⊎ (o ≡ 11) ⊎ (o ≡ 12) ⊎ (32 ≤ o)
+abbrev pub StandsRaw : ℕ → Type 0
+StandsRaw o = (o ≡ 9) ⊎ (o ≡ 11) ⊎ (o ≡ 12) ⊎ (32 ≤ o)
 
-pub raw_one : (s : Style) (o : ℕ) → o < 128 → o ≢ 92 → o ≢ quote_of s → Stands o → raw s o ≡ actions.Go (modes.Text s within.Plain) (keeps.One o)
+pub raw_one : (s : Style) (o : ℕ) → o < 128 → o ≢ 92 → o ≢ quote_of s → StandsRaw o → raw s o ≡ actions.Go (modes.Text s within.Plain) (keeps.One o)
 raw_one s o low slash quote stands = grind (arith, nat_tests)
 
 pub raw_two : (s : Style) (o : ℕ) → is_clob s ≡ false → quote_of s < 128 → 194 ≤ o → o < 224 → raw s o ≡ actions.Go (modes.Text s (within.Utf8 1 128 191)) (keeps.One o)

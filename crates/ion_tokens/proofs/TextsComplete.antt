@@ -14,7 +14,7 @@ use Rattle.ion_tokens.specs.declared.mode.Keep.TheVariants as keeps
 use Rattle.ion_tokens.specs.machine.Table.{is_long, quote_of}
 use Rattle.ion_tokens.specs.Quoted.{Element, Raw, RawLine, Simple, Hidden, Hex, Pair, IsElement, spelling, meaning, ends_in_cr, is_raw_lf, quotes, CrTakesLf, ClosesFirst, IsQuoted, IsRaw, LineEnd, Lf, Cr, CrLf}
 use Rattle.ion_tokens.proofs.TextSteps.{raw_quote, raw_lf, raw_cr, Admits, as_raw, in_simple}
-use Rattle.ion_tokens.proofs.TextElements.{Goes, goes_none, goes_one, goes_then, goes_to, goes_slash, read_raw, read_hex, read_pair}
+use Rattle.ion_tokens.proofs.TextElements.{GoesInText, goes_none, goes_one, goes_then, goes_to, goes_slash, read_raw, read_hex, read_pair}
 
 -- the first is no raw LF
 abbrev pub NoLf : List Element → Type 0
@@ -84,7 +84,7 @@ behind_cr e (f ∷ es) h c = c.0 h
 
 -- an element is read, and those behind it may follow
 abbrev Reads : Place → Style → Within → List ℕ → Element → List Element → Type 0
-Reads p s w kept e es = (v : Within) × Ready s v es × Goes p s w kept (spelling e) v (kept ++ meaning s e)
+Reads p s w kept e es = (v : Within) × Ready s v es × GoesInText p s w kept (spelling e) v (kept ++ meaning s e)
 
 -- a long string's raw quote
 read_quote : (p : Place) (s : Style) (w : Within) (kept : List ℕ) (es : List Element) → is_long s ≡ true → Ready s w (Raw 39 ∷ es) → 1 + quotes es < 3 → Reads p s w kept (Raw 39) es
@@ -186,7 +186,7 @@ more_crs e [] h = tt
 more_crs e (f ∷ es) h = h.1
 
 read_elements : (p : Place) (s : Style) (es : List Element) (w : Within) (kept : List ℕ) → Ready s w es → AllByRecursion (IsElement s) es → CrTakesLf es → (IsTrue (is_long s) → ClosesFirst es)
-    → (v : Within) × Ended v × Goes p s w kept (flat_map spelling es) v (kept ++ flat_map (meaning s) es)
+    → (v : Within) × Ended v × GoesInText p s w kept (flat_map spelling es) v (kept ++ flat_map (meaning s) es)
 read_elements p s [] w kept h each crs closes = (w, ended s w h, goes_to p s w w [] kept kept (kept ++ []) (sym (append-nil kept)) (goes_none p s w kept))
 read_elements p s (e ∷ es) w kept h each crs closes =
     let first = read_element p s w kept e es h each.0 crs closes in
@@ -198,7 +198,7 @@ read_elements p s (e ∷ es) w kept h each crs closes =
     )
 
 -- What stands between the quotes is read, up to them.
-pub read_content : (p : Place) (s : Style) (content octets kept : List ℕ) → IsQuoted s content octets → (v : Within) × Ended v × Goes p s within.Plain kept content v (kept ++ octets)
+pub read_content : (p : Place) (s : Style) (content octets kept : List ℕ) → IsQuoted s content octets → (v : Within) × Ended v × GoesInText p s within.Plain kept content v (kept ++ octets)
 read_content p s content octets kept q =
     let r = read_elements p s q.elements within.Plain kept tt q.each q.crs q.close in
-    (r.0, r.1, subst (λ l. Goes p s within.Plain kept l r.0 (kept ++ octets)) (sym q.spelled) (goes_to p s within.Plain r.0 (flat_map spelling q.elements) kept (kept ++ flat_map (meaning s) q.elements) (kept ++ octets) (ap (λ l. kept ++ l) (sym q.means)) r.2))
+    (r.0, r.1, subst (λ l. GoesInText p s within.Plain kept l r.0 (kept ++ octets)) (sym q.spelled) (goes_to p s within.Plain r.0 (flat_map spelling q.elements) kept (kept ++ flat_map (meaning s) q.elements) (kept ++ octets) (ap (λ l. kept ++ l) (sym q.means)) r.2))

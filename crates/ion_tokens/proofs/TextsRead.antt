@@ -27,7 +27,7 @@ use Rattle.ion_tokens.proofs.TextElements.{below_max, digit_small}
 use Rattle.ion_tokens.proofs.TextsComplete.{eq_or}
 use Rattle.ion_tokens.proofs.TakesTexts.{drops_two}
 use Rattle.ion_tokens.proofs.TextOrders.{last_is, last_is_last, Base, base_none, base_more, base_quote, base_quotes, quoted}
-use Rattle.ion_tokens.proofs.TextsSound.{Whole, EndsAfter, SoFar, IsHigh, HexPart, TextOnly, Part, After, Reads, Closes, GivesText, LeadsTo, Keeps, Leads, by_action, part_only, Fits, one_element, raw_leads, fits_raw, rebase, rebase_kept, leads_no_drop}
+use Rattle.ion_tokens.proofs.TextsSound.{Whole, EndsAfter, SoFar, IsHigh, HexPart, TextOnly, Part, After, Reads, Closes, GivesText, LeadsTo, Keeps, Leads, by_action, part_only, FitsBehind, one_element, raw_leads, fits_raw, rebase, rebase_kept, leads_no_drop}
 
 -- inside a character
 utf8_leads : (s : Style) (es : List Element) (left lo hi o : ℕ) (p : List ℕ) → Base s es → is_clob s ≡ false → 0 < left → EndsAfter left lo hi p → Leads s es (in_utf8 s left lo hi o) (p ++ o ∷ []) p
@@ -55,7 +55,7 @@ utf8_leads s es (suc (suc n)) lo hi o p b t l h =
     (order hi o)) (order o lo)
 
 -- an escape fits behind all elements
-fits : (s : Style) (es : List Element) (e : Element) → IsElement s e → is_raw_lf e ≡ false → ends_in_cr e ≡ false → is_raw_quote e ≡ false → Fits s es e
+fits : (s : Style) (es : List Element) (e : Element) → IsElement s e → is_raw_lf e ≡ false → ends_in_cr e ≡ false → is_raw_quote e ≡ false → FitsBehind s es e
 fits s es e i l c q = record { is = i; lf = λ h. l; cr = c; quote = λ h. q }
 
 -- behind a backslash

@@ -28,7 +28,7 @@ use Rattle.ion_tokens.specs.declared.mode.Action.TheVariants as actions
 use Rattle.ion_tokens.specs.Quoted.{Element, Raw, RawLine, Lf, IsElement, IsRaw, spelling, meaning, IsHexAfter, IsQuoted, is_raw_lf, is_raw_quote, ends_in_cr}
 use Rattle.ion_tokens.specs.machine.Table.{raw, is_long, is_clob, quote_of}
 use Rattle.ion_tokens.specs.machine.Scanning.{kept_after}
-use Rattle.ion_tokens.proofs.TextSteps.{Stands, raw_one, raw_two, raw_three, raw_four, least_three, most_three, least_four, most_four, raw_quote, raw_lf, raw_cr, quote_small, Caps}
+use Rattle.ion_tokens.proofs.TextSteps.{StandsRaw, raw_one, raw_two, raw_three, raw_four, least_three, most_three, least_four, most_four, raw_quote, raw_lf, raw_cr, quote_small, Caps}
 use Rattle.ion_tokens.proofs.TextsComplete.{eq_or, bool_cases, long_quote}
 use Rattle.ion_tokens.proofs.TextOrders.{last_is, last_is_last, Base, base_more, flat_last, quoted}
 
@@ -132,13 +132,13 @@ pub part_only : (s : Style) (es : List Element) (v : Within) (p q : List ℕ) �
 part_only s es v p q b a h = (refl, record { elements = es; p = p; q = q; base = b; after = a; part = h; spelled = refl; means = refl })
 
 -- the element fits behind the others, and neither ends in a CR nor is a long text's raw quote
-pub record Fits (s : Style) (es : List Element) (e : Element) : Type 0 where
+pub record FitsBehind (s : Style) (es : List Element) (e : Element) : Type 0 where
   pub is : IsElement s e
   pub lf : last_is ends_in_cr es ≡ true → is_raw_lf e ≡ false
   pub cr : ends_in_cr e ≡ false
   pub quote : is_long s ≡ true → is_raw_quote e ≡ false
 
-pub one_element : (s : Style) (es : List Element) (e : Element) (p q : List ℕ) → Base s es → Fits s es e → p ≡ spelling e → q ≡ meaning s e → (s ≡ s) × Reads s within.Plain (flat_map spelling es ++ p) (flat_map (meaning s) es ++ q)
+pub one_element : (s : Style) (es : List Element) (e : Element) (p q : List ℕ) → Base s es → FitsBehind s es e → p ≡ spelling e → q ≡ meaning s e → (s ≡ s) × Reads s within.Plain (flat_map spelling es ++ p) (flat_map (meaning s) es ++ q)
 one_element s es e p q b f i m = (
   refl,
   record {
@@ -227,10 +227,10 @@ pub record Behind (s : Style) (es : List Element) (o : ℕ) : Type 0 where
 pub no_quote_raw : (s : Style) (o : ℕ) → o ≢ quote_of s → is_long s ≡ true → (o == 39) ≡ false
 no_quote_raw s o n l = let q : quote_of s ≡ 39 = long_quote s l in let m : o ≢ 39 = (λ e. n (e ∙ sym q)) in grind (arith, nat_tests)
 
-pub fits_raw : (s : Style) (es : List Element) (c : ℕ) → IsRaw s c → c ≢ quote_of s → Fits s es (Raw c)
+pub fits_raw : (s : Style) (es : List Element) (c : ℕ) → IsRaw s c → c ≢ quote_of s → FitsBehind s es (Raw c)
 fits_raw s es c i n = record { is = i; lf = λ h. refl; cr = refl; quote = λ l. no_quote_raw s c n l }
 
-ascii_leads : (s : Style) (es : List Element) (o : ℕ) → Behind s es o → o < 128 → o ≢ 92 → o ≢ quote_of s → Stands o → Leads s es (raw s o) (o ∷ []) []
+ascii_leads : (s : Style) (es : List Element) (o : ℕ) → Behind s es o → o < 128 → o ≢ 92 → o ≢ quote_of s → StandsRaw o → Leads s es (raw s o) (o ∷ []) []
 ascii_leads s es o b l a n w = by_action s es (o ∷ []) [] (raw_one s o l a n w)
     (tt, one_element s es (Raw o) (o ∷ []) (o ∷ []) b.base (fits_raw s es o (grind (arith, nat_tests), a, inr n, w, λ i. l) n) (sym (law.one o l)) (sym (law.one o l)))
 

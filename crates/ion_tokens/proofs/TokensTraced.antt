@@ -11,7 +11,7 @@ use Rattle.ion_tokens.specs.machine.Scanning.{Known, Lexeme, Outcome, Next, Give
 use Rattle.ion_tokens.specs.machine.Said.{said, says}
 use Rattle.ion_tokens.specs.machine.Scanned.{AllSay}
 use Rattle.ion_tokens.specs.machine.Traces.{Told, Places, Leads, Trace, then_by, judged, takes, over, last_judged, end_judged, traced, trace}
-use Rattle.ion_tokens.specs.laws.Tokens.{IsTold, AreTold}
+use Rattle.ion_tokens.specs.laws.Tokens.{TellsLexeme, AreTold}
 use Rattle.ion_tokens.specs.laws.TokensTraced.{AreSought, EndsInOperand}
 use Rattle.ion_tokens.proofs.Cutting.{one_body}
 use Rattle.ion_tokens.proofs.Found.{Finds, in_word, Nothing, Last, Gives, Leaves, Unclosed}
@@ -36,7 +36,7 @@ TellsOn places before x ts all =
 
 -- one token more in front
 one_more : (places : Places) (before : List Told) (t : Placed) (ts : List Placed) (x : Told) (y : Trace) (all : ℕ) → t.place ≡ places before
-    → IsTold t.lexeme x → TellsOn places (before ++ x ∷ []) y ts all
+    → TellsLexeme t.lexeme x → TellsOn places (before ++ x ∷ []) y ts all
     → TellsOn places before y (t ∷ ts) all
 unfolding TellsOn
 one_more places before t ts x y all p i (inl (xs, last, e, h)) =
@@ -62,7 +62,7 @@ said_so t c b = one_body t.lexeme.kind t.lexeme.octets (said t.lexeme.kind t.lex
 abbrev told_at : Placed → Content → ℕ → Told
 told_at t c total = record { start = t.lexeme.start; end = t.lexeme.end; says = c; total = total }
 
-is_told : (t : Placed) (c : Content) (total : ℕ) → IsBody t.lexeme.kind t.lexeme.octets (Ok c) → IsTold t.lexeme (told_at t c total)
+is_told : (t : Placed) (c : Content) (total : ℕ) → IsBody t.lexeme.kind t.lexeme.octets (Ok c) → TellsLexeme t.lexeme (told_at t c total)
 is_told t c total b = record { start = refl; end = refl; says = b }
 
 lexeme_last : Result (Option Lexeme) Reason → Lexeme → Lexeme

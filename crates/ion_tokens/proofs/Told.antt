@@ -7,8 +7,8 @@ use Rattle.ion_tokens.specs.Blanks.{IsLastBlank}
 use Rattle.ion_tokens.specs.Lexed.{Placed, colon_behind, Lexes, LexesTo, Stands, Passes, AllPass}
 use Rattle.ion_tokens.proofs.Holds.{blank_none}
 use Rattle.ion_tokens.proofs.Sounds.{RunSound, run_sound}
-use Rattle.ion_tokens.proofs.SoundEnds.{IsLast, EndSound, end_sound}
-use Rattle.ion_tokens.proofs.SoundHistories.{Tells, stands_tells}
+use Rattle.ion_tokens.proofs.SoundEnds.{IsLastToken, EndSound, end_sound}
+use Rattle.ion_tokens.proofs.SoundHistories.{HasTold, stands_tells}
 
 -- tokens up to some octets, and tokens in the others
 pub lexes_behind : (ts others : List Placed) (colon : Bool) (before : ℕ) (octets : List ℕ) (after : Bool) (end : ℕ) (rest : List ℕ) → LexesTo colon before octets ts after end rest → Lexes after end rest others → Lexes colon before octets (ts ++ others)
@@ -21,7 +21,7 @@ pub told_right : (s : Known) (u : List ℕ) (ts : List Placed) (ahead : List ℕ
 told_right s u ts ahead h pass r more e = let t = stands_tells s u ts ahead h pass in (t.colon, t.end, t.since ++ r, t.lexes r more e)
 
 -- what the scanner knows at the end of the octets
-at_the_end : (s s' : Known) (u : List ℕ) (ts : List Placed) (ahead rest : List ℕ) (p : Place) (t : Tells s u ts ahead) → run p rest s ≡ Next s' → EndSound p t.colon t.end (t.since ++ rest) (at_end p s')
+at_the_end : (s s' : Known) (u : List ℕ) (ts : List Placed) (ahead rest : List ℕ) (p : Place) (t : HasTold s u ts ahead) → run p rest s ≡ Next s' → EndSound p t.colon t.end (t.since ++ rest) (at_end p s')
 at_the_end s s' u ts ahead rest p t e = end_sound p t.colon t.end s' (t.since ++ rest) (subst (λ x. RunSound p t.colon t.end t.since rest x) e (run_sound p t.colon t.end rest t.since s (t.holds p)))
 
 -- Where the end shows no token, the octets are the tokens told and a blank.
@@ -36,7 +36,7 @@ pub ends_in_token : (s s' : Known) (u : List ℕ) (ts : List Placed) (ahead rest
     → Lexes false 0 (u ++ rest) (ts ++ record { place = p; lexeme = l } ∷ [])
 ends_in_token s s' u ts ahead rest more p l h pass cut e some passes =
     let t = stands_tells s u ts ahead h pass in
-    let last : IsLast p t.colon t.end (t.since ++ rest) l = subst (λ x. EndSound p t.colon t.end (t.since ++ rest) x) some (at_the_end s s' u ts ahead rest p t e) in
+    let last : IsLastToken p t.colon t.end (t.since ++ rest) l = subst (λ x. EndSound p t.colon t.end (t.since ++ rest) x) some (at_the_end s s' u ts ahead rest p t e) in
     lexes_behind ts (record { place = p; lexeme = l } ∷ []) false 0 (u ++ rest) t.colon t.end (t.since ++ rest) (t.lexes rest more cut)
     ([], record { blank = last.front; token = last.token; is_blank = last.blank; cut = last.cut ∙ sym (append-nil (last.front ++ last.token)); start = last.start; end = last.end; is = last.found passes }, inl' blank_none)
   where

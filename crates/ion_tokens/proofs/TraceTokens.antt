@@ -12,14 +12,14 @@ use Rattle.ion_tokens.specs.machine.Said.{said, says}
 use Rattle.ion_tokens.specs.machine.Scanned.{Scanned, Continues}
 use Rattle.ion_tokens.specs.machine.Traces.{Told, Places, Trail, Leads, Stops, then_by, judged, comes, takes, over, last_judged, end_judged, traced, trace}
 use Rattle.ion_tokens.specs.laws.Judged.{body_passes}
-use Rattle.ion_tokens.specs.laws.Tokens.{IsTold, AreTold}
+use Rattle.ion_tokens.specs.laws.Tokens.{TellsLexeme, AreTold}
 use Rattle.ion_tokens.proofs.Splits.{given_one, left_one}
 use Rattle.ion_tokens.proofs.Stepped.{begins, from_left, behind_since, since_used, told_more, goes_on, all_since, end_goes}
 use Rattle.ion_tokens.proofs.Told.{ends_in_token}
 use Rattle.ion_tokens.proofs.Traced.{left_owes, debt_small}
 
 -- what was told before, and one token more
-told_one : (places : Places) (before : List Told) (ts : List Placed) (xs : List Told) (t : Placed) (x : Told) → AreTold places before ts xs → t.place ≡ places (before ++ xs) → IsTold t.lexeme x
+told_one : (places : Places) (before : List Told) (ts : List Placed) (xs : List Told) (t : Placed) (x : Told) → AreTold places before ts xs → t.place ≡ places (before ++ xs) → TellsLexeme t.lexeme x
     → AreTold places before (ts ++ t ∷ []) (xs ++ x ∷ [])
 told_one places before [] [] t x h p i = (p ∙ ap places (append-nil before), i, tt)
 told_one places before [] (y ∷ ys) t x h p i = absurd h
@@ -37,7 +37,7 @@ module _ (places : Places) where
   told_of : Lexeme → Known → Content → Told
   told_of l s c = record { start = l.start; end = l.end; says = c; total = s.used }
 
-  is_told : (l : Lexeme) (s : Known) (c : Content) → said l.kind l.octets ≡ Ok c → IsTold l (record { start = l.start; end = l.end; says = c; total = s.used })
+  is_told : (l : Lexeme) (s : Known) (c : Content) → said l.kind l.octets ≡ Ok c → TellsLexeme l (record { start = l.start; end = l.end; says = c; total = s.used })
   is_told l s c e = record { start = refl; end = refl; says = subst (λ r. IsBody l.kind l.octets r) e (says l.kind l.octets) }
 
   passes : (l : Lexeme) (c : Content) → said l.kind l.octets ≡ Ok c → Passes l.kind l.octets

@@ -18,7 +18,7 @@ use Rattle.ion_tokens.specs.declared.mode.Action.TheVariants as actions
 use Rattle.ion_tokens.specs.machine.Table.{in_blank, in_slash, begins_value, run_ending, refused, add, go, give, is_name, is_sexp}
 use Rattle.ion_tokens.specs.machine.Scanning.{kept_after}
 use Rattle.ion_tokens.specs.Lexemes.{IsLexeme, mark_spelling, MarkStands, MarkEnds}
-use Rattle.ion_tokens.proofs.Opens.{IsOpen, IsOpenNumber, IsOpenRun, IsFound}
+use Rattle.ion_tokens.proofs.Opens.{IsOpen, IsOpenNumber, IsOpenRun, IsUnjudgedToken}
 use Rattle.ion_tokens.proofs.TextsRead.{reads_none}
 use Rattle.ion_tokens.proofs.TurnsOperators.{sexp_no_name, ends_so}
 
@@ -30,7 +30,7 @@ abbrev pub First : Place → Bool → ℕ → Action → Type 0
 First p colon o (actions.Go modes.Blank k) = (is_white o ≡ true) × (kept_after k [] ≡ [])
 First p colon o (actions.Go modes.Slash k) = (o ≡ 47) × (kept_after k [] ≡ [])
 First p colon o (actions.Go m k) = IsOpen p colon m (o ∷ []) (kept_after k [])
-First p colon o (actions.Give kind k) = (r : List ℕ) → IsFound p colon (o ∷ []) r kind (kept_after k [])
+First p colon o (actions.Give kind k) = (r : List ℕ) → IsUnjudgedToken p colon (o ∷ []) r kind (kept_after k [])
 First p colon o (actions.Refuse e) = Unit {0}
 First p colon o _ = ⊥
 
@@ -161,7 +161,7 @@ abbrev pub Second : Place → Bool → ℕ → Action → Type 0
 Second p colon o (actions.Go modes.LineComment k) = (o ≡ 47) × (kept_after k [] ≡ [])
 Second p colon o (actions.Go modes.BlockComment k) = (o ≡ 42) × (kept_after k [] ≡ [])
 Second p colon o (actions.Go m k) = IsOpen p colon m (47 ∷ o ∷ []) (kept_after k [])
-Second p colon o (actions.Before kind k modes.Blank) = (r : List ℕ) → IsFound p colon (47 ∷ []) (o ∷ r) kind (kept_after k [])
+Second p colon o (actions.Before kind k modes.Blank) = (r : List ℕ) → IsUnjudgedToken p colon (47 ∷ []) (o ∷ r) kind (kept_after k [])
 Second p colon o (actions.Refuse e) = Unit {0}
 Second p colon o _ = ⊥
 

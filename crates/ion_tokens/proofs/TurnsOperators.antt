@@ -15,7 +15,7 @@ use Rattle.ion_tokens.specs.declared.mode.Keep.TheVariants as keeps
 use Rattle.ion_tokens.specs.declared.mode.Action.TheVariants as actions
 use Rattle.ion_tokens.specs.machine.Table.{in_operator, in_operator_slash, in_infinity, digit_behind, is_other, run_ending, refused, add, go, before, is_name, is_sexp}
 use Rattle.ion_tokens.specs.Lexemes.{begins, ends, begins_comment, comment_within, begins_infinity, IsOperator, IsLexeme}
-use Rattle.ion_tokens.proofs.Opens.{IsOpen, IsOpenNumber, IsOpenRun, EndsSo, Turns}
+use Rattle.ion_tokens.proofs.Opens.{IsOpen, IsOpenNumber, IsOpenRun, RunEndsSo, Turns}
 use Rattle.ion_tokens.specs.laws.Each.{each_last}
 
 eq_of : (a b : ℕ) → (a == b) ≡ true → a ≡ b
@@ -60,9 +60,9 @@ run_more w o h e n = record {
   last = ends_last (λ o. o == 47) w o ∙ n;
 }
 
-pub ends_so : (p : Place) (w : List ℕ) (o : ℕ) → is_sexp p ≡ true → EndsSo p (run_ending o) (w ++ o ∷ [])
+pub ends_so : (p : Place) (w : List ℕ) (o : ℕ) → is_sexp p ≡ true → RunEndsSo p (run_ending o) (w ++ o ∷ [])
 ends_so p w o s = by (o == 43) (o == 45) refl refl where
-  by : (b c : Bool) → (o == 43) ≡ b → (o == 45) ≡ c → EndsSo p (cond b endings.Plus (cond c endings.Minus endings.Other)) (w ++ o ∷ [])
+  by : (b c : Bool) → (o == 43) ≡ b → (o == 45) ≡ c → RunEndsSo p (cond b endings.Plus (cond c endings.Minus endings.Other)) (w ++ o ∷ [])
   by true c e f = let is : o ≡ 43 = eq_of o 43 e in ends_last (λ o. o == 45) w o ∙ ap (λ (x : ℕ). x == 45) is
   by false true e f = s
   by false false e f = (s, ends_last (λ o. o == 45) w o ∙ f, ends_last (λ o. (o == 43) || (o == 45)) w o ∙ both_false (o == 43) (o == 45) e f)
@@ -92,7 +92,7 @@ infinity_first o [] n = refl
 infinity_first o (x ∷ []) n = refl
 infinity_first o (x ∷ y ∷ r) n = ap (λ b. b && ((x == 110) && ((y == 102) && not (begins is_word_octet r)))) n
 
-digit_turns : (p : Place) (colon : Bool) (e : Ending) (w : List ℕ) (o : ℕ) → is_name p ≡ false → IsOpenRun w → EndsSo p e w → is_digit o ≡ true → Turns p colon w w o (digit_behind p e o)
+digit_turns : (p : Place) (colon : Bool) (e : Ending) (w : List ℕ) (o : ℕ) → is_name p ≡ false → IsOpenRun w → RunEndsSo p e w → is_digit o ≡ true → Turns p colon w w o (digit_behind p e o)
 digit_turns p colon endings.LoneMinus w o n h s d = (refl, subst (λ l. IsOpenNumber p (l ++ o ∷ [])) (sym s) (record { place = n; begun = d; each = (refl, (ap not (digit_no_stop o d), tt)) }))
 digit_turns p colon endings.Minus w o n h s d = tt
 digit_turns p colon endings.Plus w o n h s d = by (is_sexp p) refl where
@@ -101,7 +101,7 @@ digit_turns p colon endings.Plus w o n h s d = by (is_sexp p) refl where
   by false f = tt
 digit_turns p colon endings.Other w o n h s d = λ r j. (found_run p colon w (o ∷ r) s.0 h (inl (digit_no_operator o d)) (λ m. absurd (true≢false (sym m ∙ s.1))) (λ m. digit_no_i o r d))
 
-no_sign : (p : Place) (e : Ending) (w : List ℕ) → EndsSo p e w → is_other e ≡ true → ends (λ o. (o == 43) || (o == 45)) w ≡ false
+no_sign : (p : Place) (e : Ending) (w : List ℕ) → RunEndsSo p e w → is_other e ≡ true → ends (λ o. (o == 43) || (o == 45)) w ≡ false
 no_sign p endings.Other w s o = s.2
 no_sign p endings.LoneMinus w s o = absurd (false≢true o)
 no_sign p endings.Minus w s o = absurd (false≢true o)

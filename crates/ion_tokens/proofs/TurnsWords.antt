@@ -17,7 +17,7 @@ use Rattle.ion_tokens.specs.machine.Table.{in_word, in_kind_name, in_number, in_
 use Rattle.ion_tokens.specs.Quoted.{IsQuoted}
 use Rattle.ion_tokens.specs.Lexemes.{Each, begins, begins_number, begins_comment}
 use Rattle.ion_tokens.specs.laws.Each.{each_last, begins_more}
-use Rattle.ion_tokens.proofs.Opens.{IsOpen, IsOpenNumber, Turns, IsFound}
+use Rattle.ion_tokens.proofs.Opens.{IsOpen, IsOpenNumber, Turns, IsUnjudgedToken}
 
 -- words
 pub word_turns : (p : Place) (colon : Bool) (w kept : List ℕ) (o : ℕ) → IsOpen p colon modes.Word w kept → Turns p colon w kept o (in_word o)
@@ -44,7 +44,7 @@ no_slash (o ∷ w) h = by (o == 47) (is_stop o) refl h.0 (no_slash w h.1) where
   by false false e f (inr g) = inr (refl, g)
 
 -- an open number before what ends it
-pub number_found : (p : Place) (colon : Bool) (w r : List ℕ) → IsOpenNumber p w → (r ≡ []) ⊎ ((begins is_stop r ≡ true) ⊎ (begins_comment r ≡ true)) → IsFound p colon w r kinds.Number w
+pub number_found : (p : Place) (colon : Bool) (w r : List ℕ) → IsOpenNumber p w → (r ≡ []) ⊎ ((begins is_stop r ≡ true) ⊎ (begins_comment r ≡ true)) → IsUnjudgedToken p colon w r kinds.Number w
 number_found p colon w r n l j = ⊎_elim (λ s. absurd (true≢false (sym s ∙ j))) (λ e. (refl, n.place, record { begun = n.begun; each = e; longest = l })) (no_slash w n.each)
 
 or_true : (a b : Bool) → b ≡ true → (a || b) ≡ true
@@ -74,7 +74,7 @@ number_turns p colon w kept o (e, n) = by (is_stop o) refl where
   slash false f g = (ap (λ l. l ++ o ∷ []) e, open_more p w o n g)
 
   by : (b : Bool) → is_stop o ≡ b → Turns p colon w kept o (cond b (before kinds.Number) (cond (o == 47) (go modes.NumberSlash) (add modes.Number o)))
-  by true f = λ r. subst (λ l. IsFound p colon w (o ∷ r) kinds.Number l) (sym e) (number_found p colon w (o ∷ r) n (inr (inl f)))
+  by true f = λ r. subst (λ l. IsUnjudgedToken p colon w (o ∷ r) kinds.Number l) (sym e) (number_found p colon w (o ∷ r) n (inr (inl f)))
   by false f = slash (o == 47) refl f
 
 pub number_slash_turns : (p : Place) (colon : Bool) (w kept : List ℕ) (o : ℕ) → IsOpen p colon modes.NumberSlash w kept → Turns p colon w kept o (in_number_slash o)

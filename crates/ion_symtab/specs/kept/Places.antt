@@ -34,11 +34,11 @@ newest_place (Some so_far) (Some best) table place = if nat_le table.version bes
 newest_place _ _ table place = place
 
 -- the place is that of this table: where there is a place, a table stands there
-pub record Shows (tables : List Table) (place : Option ℕ) (found : Option Table) : Type 0 where
+pub record IsPlaceOf (tables : List Table) (place : Option ℕ) (found : Option Table) : Type 0 where
   pub table : table_at tables place ≡ found
   pub there : IsSome place → IsSome found
 
 -- by the places just the tables are found that are there
 pub record Indexes (tables : List Table) (places : Places) : Type 0 where
-  pub exact : (name : List ℕ) (version : ℕ) → Shows tables (place_of places name version) (find tables name version)
-  pub newest : (name : List ℕ) → Shows tables (newest_of places name) (newest tables name)
+  pub exact : (name : List ℕ) (version : ℕ) → IsPlaceOf tables (place_of places name version) (find tables name version)
+  pub newest : (name : List ℕ) → IsPlaceOf tables (newest_of places name) (newest tables name)

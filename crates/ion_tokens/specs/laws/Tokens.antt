@@ -23,7 +23,7 @@ OneBegun = (p : Place) (u : List ℕ) (ts : List Placed) (a b : Option Begun) �
     → (rest : List ℕ) (others : List Placed) → LooksIn p others → Lexes false 0 (u ++ rest) (ts ++ others) → a ≡ b
 
 -- a token says so, with its span
-pub record IsTold (l : Lexeme) (x : Told) : Type 0 where
+pub record TellsLexeme (l : Lexeme) (x : Told) : Type 0 where
   pub start : x.start ≡ l.start
   pub end : x.end ≡ l.end
   pub says : IsBody l.kind l.octets (Ok x.says)
@@ -31,7 +31,7 @@ pub record IsTold (l : Lexeme) (x : Told) : Type 0 where
 -- Behind tokens told before, these are told of those tokens, one by one: each is looked for where those before it lead.
 abbrev pub AreTold : Places → List Told → List Placed → List Told → Type 0
 AreTold places before [] [] = Unit {0}
-AreTold places before (t ∷ ts) (x ∷ xs) = (t.place ≡ places before) × IsTold t.lexeme x × AreTold places (before ++ x ∷ []) ts xs
+AreTold places before (t ∷ ts) (x ∷ xs) = (t.place ≡ places before) × TellsLexeme t.lexeme x × AreTold places (before ++ x ∷ []) ts xs
 AreTold places before _ _ = ⊥
 
 -- A trace that ends well tells the tokens that the octets are, with blanks between, and what each says; its end tells the last one, where

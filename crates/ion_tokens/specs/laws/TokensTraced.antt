@@ -5,12 +5,12 @@ use Rattle.ion_tokens.specs.declared.mode.TokenKind.TheVariants as kinds
 use Rattle.ion_tokens.specs.machine.Traces.{Told, Places, trace}
 use Rattle.ion_tokens.specs.machine.Scanned.{AllSay}
 use Rattle.ion_tokens.specs.Lexed.{Placed, Lexes}
-use Rattle.ion_tokens.specs.laws.Tokens.{IsTold, AreTold}
+use Rattle.ion_tokens.specs.laws.Tokens.{TellsLexeme, AreTold}
 
 -- Behind tokens told before, each of these tokens is looked for where those before it lead, whatever the totals at which they come.
 abbrev pub AreSought : Places → List Told → List Placed → Type 0
 AreSought places before [] = Unit {0}
-AreSought places before (t ∷ ts) = (t.place ≡ places before) × ((x : Told) → IsTold t.lexeme x → AreSought places (before ++ x ∷ []) ts)
+AreSought places before (t ∷ ts) = (t.place ≡ places before) × ((x : Told) → TellsLexeme t.lexeme x → AreSought places (before ++ x ∷ []) ts)
 
 -- The last of the tokens is a word directly behind an operator, as in `+in`, which an `f` would make a float.
 pub record EndsInOperand (ts : List Placed) : Type 0 where
