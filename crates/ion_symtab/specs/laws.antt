@@ -8,4 +8,5 @@ pub mod Tables
 pub mod Reasons
 pub mod Contexts
 pub mod LocalTables
+pub mod WorkedTables
 pub mod ContextTexts

@@ -1,5 +1,5 @@
 //! Laws of catalogs and contexts. Each stands on an empty function: its contract is the law.
-ghost use Rattle.std.specs.Prelude.{◌≡◌, ◌↔◌, ◌≤◌, ◌⊎◌, ◌++◌, ◌∷◌, [], ℕ, List, length, Option, Some, IsSome, Ok, IfErr, Contains};
+ghost use Rattle.std.specs.Prelude.{◌≡◌, ◌↔◌, ◌≤◌, ◌⊎◌, ◌++◌, ◌∷◌, [], ℕ, List, length, map, Option, Some, IsSome, Ok, IfErr, Contains};
 ghost use Rattle.ion_model.specs.declared.value.Value.{Value};
 ghost use Rattle.ion_model.specs.Kept.{IsText, IsKept};
 ghost use Rattle.ion_symtab.specs.Slots.{Slot, greatest_id, system_slots, resolve};
@@ -7,6 +7,7 @@ ghost use Rattle.ion_symtab.specs.Tables.{Table, find, find_best, newest};
 ghost use Rattle.ion_symtab.specs.laws.Tables.{IsAtLeast};
 ghost use Rattle.ion_symtab.specs.Next.{next};
 ghost use Rattle.ion_symtab.specs.LocalTables.{MakesContext};
+ghost use Rattle.ion_symtab.specs.laws.WorkedTables.{worked_tables, worked_context, worked_catalog};
 ghost use Rattle.ion_symtab.specs.Shared.{shared_table};
 ghost use Rattle.ion_symtab.specs.Reasons.{IsIdReason, IsTableReason, IsSharedReason};
 ghost use Rattle.ion_symtab.specs.laws.Contexts.{Begins};
@@ -57,6 +58,13 @@ pub fn behind_a_table()
 pub fn local_tables()
     ensures { (c d : List Slot) (v : Value) (g : List Table) →
         (next c v g ≡ Ok d) ↔ MakesContext g c v d }
+{}
+
+/// Worked local symbol tables: slots that are cut off, filled up, or gaps; a version that isn't there; no name; two imports; a table that
+/// appends a text and an unknown one.
+pub fn worked_tables()
+    ensures { map (λ row. next worked_context row.0 worked_catalog) worked_tables
+        ≡ map (λ row. Ok (system_slots ++ row.1)) worked_tables }
 {}
 
 /// An id keeps its symbol where slots are added.
