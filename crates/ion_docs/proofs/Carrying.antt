@@ -13,10 +13,13 @@ use Rattle.ion_binary.specs.Carrying.{WritesValue}
 use Rattle.ion_binary.specs.Output.{Progress, nothing_yet, adds, after}
 use Rattle.ion_binary.specs.writer.Puts.{puts, behind}
 use Rattle.ion_binary.specs.Writing.{Writing}
+use Rattle.ion_text.specs.Carrying as text
+use Rattle.ion_text.specs.Output as text_output
+use Rattle.ion_text.specs.Output.{text_of}
 use Rattle.ion_streams.specs.declared.source.Source.{Source}
 use Rattle.ion_docs.specs.declared.writers.Encoder.{Ghosts as Encoder}
-use Rattle.ion_docs.specs.Encodings.{TookBehind, TookSomeBehind, IsPuttingFault, binary_encoding}
-use Rattle.ion_docs.specs.laws.Encodings.{puts_one, behind_one, binary_fault}
+use Rattle.ion_docs.specs.Encodings.{TookBehind, TookSomeBehind, IsPuttingFault, binary_encoding, text_encoding}
+use Rattle.ion_docs.specs.laws.Encodings.{puts_one, behind_one, binary_fault, text_one, text_fault}
 use Rattle.ion_streams.specs.reading.Alongside.{WentPast}
 use Rattle.ion_streams.specs.reading.Read.{IsWithin, Reads}
 use Rattle.ion_streams.proofs.Steps.{plain_next, reads_went}
@@ -50,6 +53,24 @@ module _ {T : Type 0} (W : Outlet T) (old new : Writing) (before now : T) (v : V
   pub cause : (answer : Result (Unit {0}) Fault) → WritesValue W old new before now v answer → (s : List Value) → HasPut old s → IfErr answer (IsPuttingFault binary_encoding (s ++ v ∷ []) (W.has_failed now))
   cause (Ok x) h = λ s put. tt
   cause (Err fault) h = λ s put. binary_fault s v (W.has_failed now) fault (rw put at h.cause)
+
+-- what a writer of text documents wrote, as an encoder puts it
+module _ {T : Type 0} (W : Outlet T) (old new : Option Fault) (before now : T) (v : Value) where
+  pub text_wrote : (answer : Result (Unit {0}) Fault) → text.WritesValue W old new before now v answer → Rattle.std.specs.Result.OnOk answer ((s : List Value) → old ≡ None → TookBehind W before now (text_of s) (text_of (s ++ v ∷ [])))
+  text_wrote (Ok x) h = λ s put. (text_output.adds v, text_one s v, h.ok)
+  text_wrote (Err fault) h = tt
+
+  pub text_still_put : (answer : Result (Unit {0}) Fault) → text.WritesValue W old new before now v answer → Rattle.std.specs.Result.OnOk answer ((s : List Value) → old ≡ None → new ≡ None)
+  text_still_put (Ok x) h = λ s put. h.goes_on
+  text_still_put (Err fault) h = tt
+
+  pub text_front : (answer : Result (Unit {0}) Fault) → text.WritesValue W old new before now v answer → OnErr answer ((s : List Value) → old ≡ None → TookSomeBehind W before now (text_of s) (text_of (s ++ v ∷ [])))
+  text_front (Ok x) h = tt
+  text_front (Err fault) h = λ s put. (text_output.adds v, text_one s v, h.front)
+
+  pub text_cause : (answer : Result (Unit {0}) Fault) → text.WritesValue W old new before now v answer → (s : List Value) → old ≡ None → IfErr answer (IsPuttingFault text_encoding (s ++ v ∷ []) (W.has_failed now))
+  text_cause (Ok x) h = λ s put. tt
+  text_cause (Err fault) h = λ s put. text_fault (s ++ v ∷ []) (W.has_failed now) fault h.cause
 
 -- where a conversion stands: these values were read and put, one after another
 module _ {S X Y T : Type 0} (R : Inlet S) (I : Items X) (E : Encoder Y) (W : Outlet T) (g : Catalog) (l : Limits) (first : S) (device : T) where

@@ -11,6 +11,7 @@ use crate::writers::Encoder;
 use ion_binary::{BinaryWriter, Carried};
 use ion_streams::Source;
 use ion_symtab::{Fault, Items, Outlet};
+use ion_text::TextWriter;
 use std::hash::BuildHasher;
 
 /// A way from a reader to an encoder.
@@ -45,7 +46,7 @@ impl<I: Items, E: Encoder> Carrier<I, E> for Building {
     }
 }
 
-/// From binary to binary, octets are written as they are read.
+/// From binary to binary and from text to text, octets are written as they are read.
 pub(crate) struct Transcribing;
 
 impl<S: BuildHasher + Drop> Carrier<DocReader<'_>, BinaryWriter<S>> for Transcribing {
@@ -56,6 +57,17 @@ impl<S: BuildHasher + Drop> Carrier<DocReader<'_>, BinaryWriter<S>> for Transcri
         out: &mut W,
     ) -> Option<Carried> {
         items.carry(piece, encoder, out)
+    }
+}
+
+impl Carrier<DocReader<'_>, TextWriter> for Transcribing {
+    fn carry<W: Outlet>(
+        items: &mut DocReader<'_>,
+        piece: &[u8],
+        encoder: &mut TextWriter,
+        out: &mut W,
+    ) -> Option<Carried> {
+        items.carry_text(piece, encoder, out)
     }
 }
 

@@ -7,12 +7,13 @@ ghost use Rattle.ion_atoms.specs.declared.refusal.Reason.TheVariants.{Memory};
 ghost use Rattle.ion_model.specs.declared.value.Value.{Value as AnyValue};
 ghost use Rattle.ion_model.specs.Kept.{IsKept};
 ghost use Rattle.ion_binary.specs.Carrying.{WritesValue};
+ghost use Rattle.ion_text.specs.Carrying.{WritesValue as WritesText};
 ghost use Rattle.ion_symtab.specs.TookUp.{TookUp};
 
 use ion_binary::{BinaryReader, BinaryWriter, Carried};
 use ion_model::{Reason, Refusal, Value};
 use ion_symtab::{Catalog, Items, Limits, Outlet, Passed, Step};
-use ion_text::TextReader;
+use ion_text::{TextReader, TextWriter};
 use std::alloc::Global;
 use std::fmt::{self, Debug, Formatter};
 use std::hash::BuildHasher;
@@ -155,6 +156,30 @@ impl<'a> DocReader<'a> {
     {
         match &mut self.format {
             Format::Binary(reader) => reader.carry(piece, writer, out),
+            _ => None,
+        }
+    }
+
+    /// The same to text, as `TextReader::carry` does. `None`, with all as it was, also where the document isn't
+    /// text.
+    pub(crate) fn carry_text<W: Outlet>(
+        &mut self,
+        piece: &[u8],
+        writer: &mut TextWriter,
+        out: &mut W,
+    ) -> Option<Carried>
+        requires room { taken_of self.old.format + length piece.now < 2 ^ 63 }
+        ensures carries { IfSome result (λ carried. (v : AnyValue) × IsKept v
+            × TookUp ⟦<DocReader<'a> as Items>⟧ self.old self.new piece.now carried.used v
+            × WritesText W.Outlet writer.old writer.new out.old out.new v carried.written) }
+        ensures stays { IsNone result →
+            (self.new ≡ self.old) × (writer.new ≡ writer.old) × (out.new ≡ out.old) }
+    {
+        match &mut self.format {
+            Format::Text(reader) => {
+                let (used, written) = reader.carry(piece, writer, out)?;
+                Some(Carried { used, written })
+            }
             _ => None,
         }
     }

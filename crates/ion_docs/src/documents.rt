@@ -11,7 +11,7 @@ ghost use Rattle.ion_streams.specs.Listing.{IsShown, IsWriteCause, ShowsSoFar};
 
 use crate::alongside::SideBySide;
 use crate::carriers::Transcribing;
-use crate::conversion::{Target, convert_by, convert_items};
+use crate::conversion::{Target, convert_by};
 use crate::doc_reader::DocReader;
 use ion_binary::BinaryWriter;
 use ion_model::Refusal;
@@ -164,7 +164,10 @@ pub fn convert_with_hasher<H: BuildHasher + Drop, R: Inlet, W: Outlet>(
         }
         Target::Text => {
             let encoder = TextWriter::new(alloc);
-            convert_items(alloc, encoder, items, limits.reads(), reader, writer)
+            let reads = limits.reads();
+            convert_by::<Transcribing, TextWriter, DocReader<'_>, R, W>(
+                alloc, encoder, items, reads, reader, writer,
+            )
         }
     }
 }

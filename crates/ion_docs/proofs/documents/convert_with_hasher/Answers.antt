@@ -30,15 +30,15 @@ pub returns-in-Text-clause-same : goal.returns-in-Text-clause-same
 returns-in-Text-clause-same g c =
     let under : c.in_ok-items.items.catalog.now ≡ c.args.catalog.now = search rules in
     let within : c.in_ok-items.items.limits ≡ c.args.limits = search rules in
-    let kept : IfOk c.convert_items.result (WritesKept g.R.Inlet g.W.Outlet (encoding_of c.args.target) (documents c.args.catalog.now c.args.limits) c.args.reader.now c.convert_items.new.reader c.args.writer.now c.convert_items.new.writer) =
-    rw (c.in-Text.is, ← under, ← within) c.convert_items.ensures.kept in
-    keeps_if g.R.Inlet g.W.Outlet c.args.catalog.now c.args.limits c.args.reader.now c.convert_items.new.reader c.args.writer.now c.convert_items.new.writer c.args.target c.convert_items.result kept
+    let kept : IfOk c.convert_by-in-Text.result (WritesKept g.R.Inlet g.W.Outlet (encoding_of c.args.target) (documents c.args.catalog.now c.args.limits) c.args.reader.now c.convert_by-in-Text.new.reader c.args.writer.now c.convert_by-in-Text.new.writer) =
+    rw (c.in-Text.is, ← under, ← within) c.convert_by-in-Text.ensures.kept in
+    keeps_if g.R.Inlet g.W.Outlet c.args.catalog.now c.args.limits c.args.reader.now c.convert_by-in-Text.new.reader c.args.writer.now c.convert_by-in-Text.new.writer c.args.target c.convert_by-in-Text.result kept
 
 pub returns-in-Text-clause-converted : goal.returns-in-Text-clause-converted
 returns-in-Text-clause-converted g c =
     let under : c.in_ok-items.items.catalog.now ≡ c.args.catalog.now = search rules in
     let within : c.in_ok-items.items.limits ≡ c.args.limits = search rules in
-    rw (c.in-Text.is, ← under, ← within) c.convert_items.ensures.converted
+    rw (c.in-Text.is, ← under, ← within) c.convert_by-in-Text.ensures.converted
 
 pub returns-in_ok-encoder-in-Binary-clause-cause : goal.returns-in_ok-encoder-in-Binary-clause-cause
 returns-in_ok-encoder-in-Binary-clause-cause g c =
@@ -48,3 +48,12 @@ returns-in_ok-encoder-in-Binary-clause-cause g c =
     let few : c.reads-reads.result ≡ c.in_ok-items.items.limits.reads = rw within asked in
     let cause = rw few at c.convert_by.ensures.cause in
     rw (c.in-Binary.is, ← under, ← within) cause
+
+pub returns-in-Text-clause-cause : goal.returns-in-Text-clause-cause
+returns-in-Text-clause-cause g c =
+    let under : c.in_ok-items.items.catalog.now ≡ c.args.catalog.now = search rules in
+    let within : c.in_ok-items.items.limits ≡ c.args.limits = search rules in
+    let asked : c.reads-reads-in-Text.result ≡ c.args.limits.reads = search rules in
+    let few : c.reads-reads-in-Text.result ≡ c.in_ok-items.items.limits.reads = rw within asked in
+    let cause = rw few at c.convert_by-in-Text.ensures.cause in
+    rw (c.in-Text.is, ← under, ← within) cause
