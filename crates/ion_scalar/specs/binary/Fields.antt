@@ -15,7 +15,8 @@ pub data Digits : List ℕ → Type 0 where
   none : Digits []
   more : (ds : List ℕ) (d : ℕ) → Digits ds → d < 128 → Digits (ds ++ d ∷ [])
 
--- these octets are a VarUInt: digits of base 128, 128 added to the last
+-- These octets are a VarUInt: digits of base 128, 128 added to the last. That they are octets isn't said here: a greater number passes for
+-- a last one, too, and where that matters it is asked beside this (`AreBelow 256`).
 pub record VarUInt (w : List ℕ) (n : ℕ) : Type 0 where
   pub digits : List ℕ
   pub last : ℕ
@@ -58,7 +59,8 @@ is_negative octet = nat_le 64 (seven_bits octet)
 abbrev pub six_bits : ℕ → ℕ
 six_bits octet = if is_negative octet then seven_bits octet - 64 else seven_bits octet
 
--- these octets are a VarInt of that sign and magnitude: as a VarUInt, but with six bits of magnitude and the sign in the first
+-- These octets are a VarInt of that sign and magnitude: as a VarUInt, but with six bits of magnitude and the sign in the first. Nor is it
+-- said here that they are octets.
 pub data VarInt : List ℕ → Bool → ℕ → Type 0 where
   short : (octet : ℕ) → 128 ≤ octet → VarInt (octet ∷ []) (is_negative octet) (six_bits octet)
   long : (octet : ℕ) (digits : List ℕ) (last : ℕ) → octet < 128 → Digits digits → positional 128 (six_bits octet ∷ digits ++ last ∷ []) < 2 ^ 63 → VarInt (octet ∷ digits ++ (128 + last) ∷ []) (is_negative octet) (positional 128 (six_bits octet ∷ digits ++ last ∷ []))
