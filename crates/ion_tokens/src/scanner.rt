@@ -22,7 +22,7 @@ pub struct Scanner {
     machine: Machine,
     /// The refusal that each call answers from now on.
     failed: Option<Refusal>,
-    /// What the machine knows, with the octets that it took up, unless a call was refused.
+    /// Unless a call was refused, what the machine knows goes with the octets that it took up.
     pub ghost steady: { failed ≡ None → IsSteady (known machine) machine.looked },
 }
 
@@ -273,7 +273,8 @@ impl Scanner {
         self.failed
     }
 
-    /// How many octets were taken up, each as often as it was: at least as many as were used, and at most twice as many.
+    /// How many octets were taken up, each as often as it was: unless a call was refused, at least as many as were used and at
+    /// most twice as many.
     pub fn looked(&self) -> u64
         ensures looks { result ≡ looks self.now }
         ensures each { IsNone (failure self.now) → (scanned self.now).used ≤ result }
