@@ -97,7 +97,7 @@ pub record GivesNoTable (t : Trace) : Type 0 where
   pub given : NoTables (plain t.given)
   pub last : (v : Value) → t.ends ≡ Ok (Some v) → is_table v ≡ false
 
--- where the end of these octets would give a value, the value that the octet behind them gives came before that octet
+-- where the end of these octets would give a value, the first that the octet behind them gives is that value, and came before that octet
 abbrev pub EndsValues : (List ℕ → Trace) → List ℕ → Type 0
 EndsValues trace u = (o : ℕ) (last v : Value) (total : ℕ) (later : List (Value × ℕ)) → (trace u).ends ≡ Ok (Some last)
-    → (trace (u ++ o ∷ [])).given ≡ (trace u).given ++ (v, total) ∷ later → total ≡ length u
+    → (trace (u ++ o ∷ [])).given ≡ (trace u).given ++ (v, total) ∷ later → (total ≡ length u) × (v ≡ last)

@@ -310,6 +310,7 @@ pub trait Items: Sized {
     ghost no_tables: { (g : Catalog) (l : Limits) (u : List ℕ) → GivesNoTable (trace g l u) };
 
     /// A value comes with its last octet, or before the one that shows its end: where the end of the
-    /// octets would give a value, the value that the next octet gives came before that octet.
+    /// octets would give a value, the first that the next octet gives is that value, and came before
+    /// that octet.
     ghost ends_values: { (g : Catalog) (l : Limits) (u : List ℕ) → EndsValues (trace g l) u };
 }

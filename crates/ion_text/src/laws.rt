@@ -96,12 +96,9 @@ pub fn reading_is_small()
 {}
 
 /// A value comes with its last octet, or before the one that shows its end: where the end of the octets would
-/// give a value, the value that the next octet gives came before that octet (`before`), and is that value (`same`).
+/// give a value, the first that the next octet gives is that value, and came before that octet.
 pub fn reading_ends_values()
-    ensures before { (g : List Table) (l : Limits) (u : List ℕ) → EndsValues (trace g l) u }
-    ensures same { (g : List Table) (l : Limits) (u : List ℕ) (o : ℕ) (last v : Value)
-        (total : ℕ) (later : List (Value × ℕ)) → (trace g l u).ends ≡ Ok (Some last) →
-        (trace g l (u ++ o ∷ [])).given ≡ (trace g l u).given ++ (v, total) ∷ later → v ≡ last }
+    ensures { (g : List Table) (l : Limits) (u : List ℕ) → EndsValues (trace g l) u }
 {}
 
 /// Octets show one stream: the values of the longest whole pieces at their front, whatever follows.

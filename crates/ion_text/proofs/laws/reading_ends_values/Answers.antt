@@ -1,5 +1,5 @@
-use Rattle.ion_text.specs.laws.showing.Unused.{at_its_end, same_at_its_end}
+use Rattle.ion_text.specs.laws.showing.Unused.{at_its_end}
 use Rattle.ion_text.proofs.laws.reading_ends_values.Goals as goal
 
 pub returns : goal.returns
-returns c = record { before = at_its_end; same = same_at_its_end }
+returns c = at_its_end

@@ -1,4 +1,4 @@
--- Where the end of the octets would give a value, the next octet isn't used to give one, and shows the end of no other: what shows that a
+-- Where the end of the octets would give a value, the next octet isn't used to give it, nor gives another one first: what shows that a
 -- value has ended isn't part of it.
 use Rattle.std.proofs.Common.{◌≡◌, ℕ, zero, suc, ◌+◌, ◌-◌, Bool, true, false, cond, ◌&&◌, ◌||◌, not, nat_le, nat_lt, List, [], ◌∷◌, ◌++◌, length, Result, Ok, Err, Option, Some, None, refl, sym, ap, ◌∙◌, subst, arith, ◌⊎◌, inl, inr, if◌then◌else◌}
 use Rattle.std.specs.Prelude.{◌==◌, bytes_eq, codes}
@@ -605,7 +605,7 @@ module _ (g : Catalog) (l : Limits) where
   ends_so s start c fs ss nows.Name v ok h = ready_so s.used s (at start c fs ss nows.Name) v ok h
   ends_so s start c fs ss (nows.Keyed k) v ok h = ready_so s.used s (at start c fs ss (nows.Keyed k)) v ok h
 
--- 5. Where the end gives a value, the next octet gives no other.
+-- 5. Where the end gives a value, the next octet gives no other one first.
 
 abbrev IsValue : Value → Effect → Type 0
 IsValue v (leaves w m) = w ≡ v
@@ -902,13 +902,6 @@ module _ (g : Catalog) (l : Limits) (u : List ℕ) (o : ℕ) (v w : Value) (tota
         effect_value (length u) (λ n. eats g l n o) (λ n. run g l (length u + 1) n []) (eats g l m o) untold (ends_value g l o m.scan r.start r.context r.frames r.notes r.now v so h) (λ n. refl) here,
       )
 
-  now_given : (trace g l u).ends ≡ Ok (Some v) → (trace g l (u ++ o ∷ [])).given ≡ (trace g l u).given ++ (w, total) ∷ later → (total ≡ length u) × (w ≡ v)
-  now_given h k = let r = run g l 0 begun u in unused_now r.given r.now (run_ran g l u [] [] 0 begun (begun_stood g l)) refl h k
-
-  -- where the end would give a value, the value that the next octet gives came before it
-  pub at_its_end : (trace g l u).ends ≡ Ok (Some v) → (trace g l (u ++ o ∷ [])).given ≡ (trace g l u).given ++ (w, total) ∷ later → total ≡ length u
-  at_its_end h k = (now_given h k).0
-
-  -- and it is that value
-  pub same_at_its_end : (trace g l u).ends ≡ Ok (Some v) → (trace g l (u ++ o ∷ [])).given ≡ (trace g l u).given ++ (w, total) ∷ later → w ≡ v
-  same_at_its_end h k = (now_given h k).1
+  -- where the end would give a value, the first that the next octet gives is that value, and came before that octet
+  pub at_its_end : (trace g l u).ends ≡ Ok (Some v) → (trace g l (u ++ o ∷ [])).given ≡ (trace g l u).given ++ (w, total) ∷ later → (total ≡ length u) × (w ≡ v)
+  at_its_end h k = let r = run g l 0 begun u in unused_now r.given r.now (run_ran g l u [] [] 0 begun (begun_stood g l)) refl h k
