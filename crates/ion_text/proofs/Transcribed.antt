@@ -6,10 +6,9 @@ use Rattle.std.proofs.lemmas.List.{flat_map_more, map-append}
 use Rattle.ion_model.specs.declared.value.Value.{Value}
 use Rattle.ion_model.specs.declared.value.Field.{Field}
 use Rattle.ion_model.specs.declared.value.Payload.{Payload}
-use Rattle.ion_model.specs.declared.value.Payload.TheVariants as payloads
 use Rattle.ion_model.specs.declared.value.Payload.TheViews as views
 use Rattle.ion_model.specs.Kept as kepts
-use Rattle.ion_model.specs.Kept.{IsText, AreTexts, IsKept, KeptPayload, KeptItems, KeptFields}
+use Rattle.ion_model.specs.Kept.{AreTexts, IsKept, KeptPayload, KeptItems, KeptFields}
 use Rattle.ion_model.specs.laws.Kept.{texts_last, items_last, fields_last}
 use Rattle.ion_model.specs.Measures.{Layer, bare, annotated, field_of}
 use Rattle.ion_symtab.specs.declared.fault.Fault.{Fault}

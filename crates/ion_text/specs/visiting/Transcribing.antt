@@ -3,7 +3,6 @@ use Rattle.std.specs.Prelude.{◌≡◌, ℕ, List, [], ◌∷◌, ◌++◌, Opt
 use Rattle.ion_model.specs.declared.value.Payload.{Payload}
 use Rattle.ion_model.specs.declared.value.Payload.TheViews.{out-Payload}
 use Rattle.ion_model.specs.Kept.{IsText, KeptPayload}
-use Rattle.ion_tokens.specs.Ascii as ascii
 use Rattle.ion_visiting.specs.declared.bracket.Bracket.{Bracket}
 use Rattle.ion_visiting.specs.declared.bracket.Bracket.TheVariants as brackets
 use Rattle.ion_visiting.specs.Visits.{Event, part, annotation, name, Visits}

@@ -1,7 +1,7 @@
-use Rattle.std.proofs.Common.{rules, ◌≡◌, ◌++◌, Some, OnOk, sym, subst, ap}
+use Rattle.std.proofs.Common.{rules, ◌≡◌, ◌++◌, Some, OnOk, sym, subst}
 use Rattle.ion_model.specs.declared.value.Payload.TheViews as views
 use Rattle.ion_model.specs.Kept.{kept_null, kept_truth, kept_symbol, kept_string, kept_clob, kept_blob}
-use Rattle.ion_text.specs.Output.{of_string, quoted, symbol_text}
+use Rattle.ion_text.specs.Output.{of_string, quoted}
 use Rattle.ion_text.proofs.Transcribed.{part_kept, part_text, symbol_known}
 use Rattle.ion_text.proofs.transcription.put_part.Goals as goal
 

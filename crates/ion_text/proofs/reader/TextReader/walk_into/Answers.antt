@@ -1,4 +1,4 @@
-use Rattle.std.proofs.Common.{◌≡◌, arith}
+use Rattle.std.proofs.Common.{arith}
 use Rattle.ion_text.proofs.Tops.{top_advances}
 use Rattle.ion_text.proofs.reader.TextReader.walk_into.Goals as goal
 

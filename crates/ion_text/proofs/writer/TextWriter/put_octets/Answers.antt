@@ -1,5 +1,4 @@
-use Rattle.std.proofs.Common.{rules, ◌≡◌, [], ◌++◌, None, OnOk, OnErr, IfErr, ap, sym, subst, ◌∙◌, true}
-use Rattle.ion_symtab.specs.Took.{Took, TookFront}
+use Rattle.std.proofs.Common.{rules, ◌≡◌, [], ◌++◌, None, OnOk, ap, sym, subst, ◌∙◌}
 use Rattle.ion_text.specs.Output.{adds}
 use Rattle.ion_text.proofs.Wrote.{wrote_value}
 use Rattle.ion_text.proofs.writer.TextWriter.put_octets.Goals as goal
