@@ -1,4 +1,4 @@
-//! The tests of the libraries below `ion_docs` that no row of a table says (`ion_rows` has those). Tests stand above the
+//! The tests of the libraries below `ion_docs` that no row of a table says (`tests_rows` has those). Tests stand above the
 //! libraries, so that the gate proves each library once, and not once more beside its tests.
 #![tactic(auto)]
 

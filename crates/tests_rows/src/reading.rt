@@ -1,7 +1,8 @@
 //! What the readers answer on worked documents: whole, in single octets, at every cut, and on each prefix.
 ghost use Rattle.std.specs.Prelude.{◌≡◌, ℕ, ◌+◌, ◌≤◌, ◌<◌, ◌^◌, ◌∷◌, List, true, length, IfOk, IfSome, None};
 
-use crate::documents::{catalog, limits, refuses};
+use crate::commands::Asked;
+use crate::documents::{catalog, checks, limits, refuses};
 use crate::row::Row;
 use crate::values::wants_text;
 use ion_binary::BinaryReader;
@@ -354,7 +355,8 @@ fn reads_each_cut(
 /// feed, where the row tells them.
 ///
 /// The reader of the encoding and the one that chooses it are asked, with each cut in two pieces and in short ones behind
-/// it, and each prefix in one and in short ones. A long document comes in great pieces alone.
+/// it, and each prefix in one and in short ones; then `check`, and the command for what the row says. A long document comes
+/// in great pieces alone.
 pub fn reads(alloc: Global, row: Row<'_>, document: &[u8], told: &mut String) -> Result<(), Fail> {
     let limits = limits(row, 4)?;
     let catalog = catalog(alloc, row, 4)?;
@@ -366,10 +368,61 @@ pub fn reads(alloc: Global, row: Row<'_>, document: &[u8], told: &mut String) ->
         limits,
         document,
     };
-    let tried = reads_each_cut(&reading, &mut answers, told);
+    let tried = match reads_each_cut(&reading, &mut answers, told) {
+        Ok(()) => answers_so(&reading, told),
+        Err(fail) => Err(fail),
+    };
     drop(answers);
     drop(catalog);
     tried
+}
+
+/// Fails, where a call over the whole document or the command answers otherwise.
+fn answers_so(reading: &Reading<'_>, told: &mut String) -> Result<(), Fail> {
+    let mut answer = String::new(reading.alloc);
+    let tried = match tell_answer(reading.row, &mut answer) {
+        Ok(()) => answers_this(reading, answer.as_str(), told),
+        Err(error) => Err(Fail::from(error)),
+    };
+    drop(answer);
+    tried
+}
+
+/// Tells the refusal of a row, or how many values it has.
+fn tell_answer(row: Row<'_>, told: &mut String) -> Result<(), AllocError> {
+    if !row.field(3).is_empty() {
+        return told.push_str(row.field(3));
+    }
+    match row.field(2).strip_suffix(" values") {
+        Some(values) => told.push_str(values),
+        None => write!(told, "{}", row.field(2).split_whitespace().count()),
+    }
+}
+
+/// Fails, where this isn't the answer of `check` and of the command.
+fn answers_this(reading: &Reading<'_>, answer: &str, told: &mut String) -> Result<(), Fail> {
+    let Reading {
+        alloc,
+        row,
+        catalog,
+        limits,
+        document,
+    } = *reading;
+    checks(alloc, document, catalog, limits, answer, told)?;
+    let asked = Asked {
+        alloc,
+        row,
+        options: 4,
+        document,
+    };
+    asked.checks(answer)?;
+    if row.field(2).is_empty() {
+        asked.writes_nothing(answer)?;
+    }
+    if row.field(5).is_empty() {
+        return Ok(());
+    }
+    asked.converts_to_text(5, answer)
 }
 
 /// Tells the octets that each step used, with `!` behind them where it gave a value, and then `end`, with `!` where that

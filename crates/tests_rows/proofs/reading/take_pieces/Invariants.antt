@@ -1,5 +1,5 @@
 use Rattle.std.proofs.Common.{◌≡◌, ◌+◌, ◌-◌, ◌≤◌, None, length}
-use Rattle.ion_rows.proofs.reading.take_pieces.Given as goal
+use Rattle.tests_rows.proofs.reading.take_pieces.Given as goal
 
 abbrev pub invariant-loop-from : goal.invariant-loop-from
 invariant-loop-from g l = record {

@@ -3,6 +3,7 @@
 //! has.
 #![tactic(auto)]
 
+mod commands;
 mod documents;
 mod reading;
 mod row;
@@ -10,6 +11,7 @@ mod scalars;
 mod scanning;
 mod symbols;
 mod values;
+mod writing;
 
 use row::Row;
 use std::alloc::Global;
@@ -79,10 +81,9 @@ fn try_text(alloc: Global, row: Row<'_>, octets: &[u8], told: &mut String) -> Re
 /// Tries a row of a call over whole documents, or of values.
 fn try_document(alloc: Global, row: Row<'_>, octets: &[u8], told: &mut String) -> Result<(), Fail> {
     match row.field(0) {
-        "check" => documents::checks(alloc, row, octets, told),
         "compare" => documents::compares(alloc, row, octets, told),
-        "show" => documents::shows(alloc, row, octets, told),
-        "convert" => documents::converts(alloc, row, octets, told),
+        "show" => writing::shows(alloc, row, octets, told),
+        "convert" => writing::converts(alloc, row, octets, told),
         _ => values::try_row(alloc, row, octets, told),
     }
 }

@@ -39,24 +39,29 @@ impl<'a> Row<'a> {
         Ok(())
     }
 
-    /// The word of a field that follows this one there, as a number; the usual one, where there is none.
-    pub fn number_behind(self, number: usize, name: &str, usual: u64) -> Result<u64, Fail> {
+    /// The word of a field that follows this one there.
+    pub fn word_behind(self, number: usize, name: &str) -> Option<&'a str> {
         let mut is_behind = false;
         for word in self.field(number).split_whitespace() {
             if is_behind {
-                return Ok(word.parse::<u64>()?);
+                return Some(word);
             }
             is_behind = word == name;
         }
-        Ok(usual)
+        None
+    }
+
+    /// The same as a number; the usual one, where there is none.
+    pub fn number_behind(self, number: usize, name: &str, usual: u64) -> Result<u64, Fail> {
+        match self.word_behind(number, name) {
+            Some(word) => Ok(word.parse::<u64>()?),
+            None => Ok(usual),
+        }
     }
 
     /// Fails, where the field is another answer.
     pub fn wants(self, number: usize, answer: &str) -> Result<(), Fail> {
-        if self.field(number) == answer {
-            return Ok(());
-        }
-        Err(Fail::new(format_args!("not so, but: {answer}")))
+        is_told(self.field(number), answer)
     }
 
     /// Fails, where the field spells other octets.
@@ -68,6 +73,14 @@ impl<'a> Row<'a> {
         put?;
         are_so(is_so, answer)
     }
+}
+
+/// Fails, where this answer is not the one wanted.
+pub fn is_told(wanted: &str, answer: &str) -> Result<(), Fail> {
+    if wanted == answer {
+        return Ok(());
+    }
+    Err(Fail::new(format_args!("not so, but: {answer}")))
 }
 
 /// Fails, where octets are not what is wanted.

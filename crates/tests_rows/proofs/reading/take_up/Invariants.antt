@@ -1,5 +1,5 @@
 use Rattle.std.proofs.Common.{◌≡◌, ℕ, ◌+◌, ◌-◌, ◌*◌, ◌≤◌, ◌∷◌, List, IfSome, drop, length}
-use Rattle.ion_rows.proofs.reading.take_up.Given as goal
+use Rattle.tests_rows.proofs.reading.take_up.Given as goal
 
 abbrev pub invariant-loop-used : goal.invariant-loop-used
 invariant-loop-used g l = record {
