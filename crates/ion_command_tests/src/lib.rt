@@ -1,13 +1,11 @@
-//! What the command makes of its words, and of worked documents, and what the calls of `ion_docs` answer: tests that stand
-//! above both, so that the gate proves each once, and not once more beside its tests.
+//! What the command makes of its words, and what the calls of `ion_docs` answer that no row says (`tests_rows` has those): tests
+//! that stand above both, so that the gate proves each once, and not once more beside its tests.
 #![tactic(auto)]
 
 #[cfg(test)]
 mod answers;
 #[cfg(test)]
 mod devices;
-#[cfg(test)]
-mod documents;
 #[cfg(test)]
 mod errors;
 #[cfg(test)]

@@ -2,6 +2,7 @@
 
 use crate::answers::same;
 use crate::devices::{FrailShelf, Register, Shelf};
+use crate::streams::TWICE;
 use crate::wanted::{Row, Wanted};
 use ion_command::{NameHistory, Sources, run};
 use ion_devices::{FrailWriter, NEVER};
@@ -29,7 +30,7 @@ fn run_into<N: Sources>(
 }
 
 /// The words over these documents come to what is wanted.
-pub fn ends_so<N: Sources>(
+fn ends_so<N: Sources>(
     rt: &impl Abort,
     alloc: Global,
     sources: &mut N,
@@ -96,7 +97,7 @@ fn shelf() -> Shelf<'static> {
     }
 }
 
-static ROWS: [Row; 34] = [
+static ROWS: [Row; 36] = [
     Row {
         words: &[],
         out: "accepted 0\n",
@@ -225,6 +226,18 @@ static ROWS: [Row; 34] = [
         status: 3,
     },
     Row {
+        words: &["check", "list", "--depth", "129"],
+        out: "",
+        err: USAGE,
+        status: 3,
+    },
+    Row {
+        words: &["check", "list", "--item", "0"],
+        out: "",
+        err: USAGE,
+        status: 3,
+    },
+    Row {
         words: &["check", "imports"],
         out: "",
         err: "refused 21 MissingImport\n",
@@ -306,7 +319,7 @@ static ROWS: [Row; 34] = [
     },
 ];
 
-pub const USAGE: &str =
+const USAGE: &str =
     "usage: ion_cmd check|show|convert|compare FILE.. [--to text|binary] [--catalog FILE] [--depth N] [--item N]\n";
 
 #[test]
@@ -354,29 +367,13 @@ fn names_are_opened_in_order(rt: HostRuntime) {
     }
 }
 
-/// A document, what it is converted to, the octets that go out, the line of the errors and the
+/// What each encoding is given of no octet and of what isn't there: the octets that go out, the line of the errors and the
 /// status.
 type Converted = (&'static str, &'static str, &'static [u8], &'static str, u8);
 
-static CONVERTED: [Converted; 8] = [
+static CONVERTED: [Converted; 4] = [
     ("-", "binary", b"\xE0\x01\x00\xEA", "", 0),
     ("-", "text", b"", "", 0),
-    (
-        "spelled",
-        "binary",
-        b"\xE0\x01\x00\xEA\xB3\x21\x05\x11",
-        "",
-        0,
-    ),
-    ("spelled", "text", b"[5,true]\n", "", 0),
-    (
-        "bad",
-        "binary",
-        b"\xE0\x01\x00\xEA",
-        "refused 5 Malformed\n",
-        2,
-    ),
-    ("bad", "text", b"", "refused 5 Malformed\n", 2),
     ("absent", "binary", b"", "fault Open\n", 4),
     ("absent", "text", b"", "fault Open\n", 4),
 ];
@@ -391,6 +388,61 @@ fn converts(rt: HostRuntime) {
             status: *status,
         };
         ends_so(&rt, rt.alloc(), &mut shelf(), words.as_slice(), &wanted);
+    }
+}
+
+/// In text: no octet, the first symbol of two of a table, the same shared table twice, and no table.
+static IN_TEXT: [(&str, &[u8]); 4] = [
+    ("nothing", b""),
+    (
+        "imports",
+        b"$ion_symbol_table::{imports:[{name:\"t\",version:1,max_id:2}]} $10",
+    ),
+    ("twice", TWICE),
+    ("number", b"1"),
+];
+
+/// Words that name a catalog in text, and the line that refuses it.
+static REFUSED_CATALOGS: [(&[&str], &str); 3] = [
+    (
+        &["check", "nothing", "--catalog", "twice"],
+        "refused catalog 121 DuplicateTable\n",
+    ),
+    (
+        &["check", "nothing", "--catalog", "number"],
+        "refused catalog 1 BadTable\n",
+    ),
+    (
+        &["check", "imports", "--catalog", "number"],
+        "refused catalog 1 BadTable\n",
+    ),
+];
+
+/// Runs the words over these documents, given whole and given one octet a call.
+fn ends_both_ways(rt: &impl Abort, alloc: Global, words: &[&str], wanted: &Wanted<'_>) {
+    let mut shelf = Shelf {
+        files: IN_TEXT.as_slice(),
+        opened: NameHistory::new(),
+    };
+    ends_so(rt, alloc, &mut shelf, words, wanted);
+    let mut slow = FrailShelf {
+        files: IN_TEXT.as_slice(),
+        fails: "",
+        fails_at: NEVER,
+        opened: NameHistory::new(),
+    };
+    ends_so(rt, alloc, &mut slow, words, wanted);
+}
+
+#[test]
+fn catalogs_in_text_are_refused(rt: HostRuntime) {
+    for (words, err) in &REFUSED_CATALOGS {
+        let wanted = Wanted {
+            out: b"",
+            err,
+            status: 2,
+        };
+        ends_both_ways(&rt, rt.alloc(), words, &wanted);
     }
 }
 

@@ -77,7 +77,8 @@ static IN_TEXT: [(&[u8], Tables); 3] = [
     (b"1", Err((1, Reason::BadTable))),
 ];
 
-const TWICE: &[u8] =
+/// The same shared table twice.
+pub const TWICE: &[u8] =
     b"$ion_shared_symbol_table::{name:\"t\",version:1,symbols:[\"x\"]}\n$ion_shared_symbol_table::{name:\"t\",version:1,symbols:[\"x\"]}";
 
 static NAMES: [&str; 3] = ["t", "u", "v"];
