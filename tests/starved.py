@@ -1,10 +1,9 @@
 #!/usr/bin/env python3
 """Runs the tests named `starved_..` with the Nth taking of memory refused, N from 1 until none is: tests/starved.py PROGRAM..
 
-A program is what `rt test` leaves in crates/NAME/out/NAME_tests of ion_tests and ion_command_tests. Such a test takes for an
-answer its own or want of memory, and looks at what has to be kept there; elsewhere it is run once, with all memory. Memory is
-refused by failing_malloc.c, which this script builds and preloads (it needs a C compiler). Prints how often memory was
-refused.
+A program is what `rt test` leaves in crates/tests_calls/out/tests_calls_tests. Such a test takes for an answer its own or want
+of memory, and looks at what has to be kept there; elsewhere it is run once, with all memory. Memory is refused by
+failing_malloc.c, which this script builds and preloads (it needs a C compiler). Prints how often memory was refused.
 """
 import os
 import subprocess

@@ -1,7 +1,7 @@
 //! What the words mean, the lines and the statuses, over documents in memory.
 
 use crate::answers::same;
-use crate::devices::{FrailShelf, Register, Shelf};
+use crate::shelves::{FrailShelf, Register, Shelf};
 use crate::streams::TWICE;
 use crate::wanted::{Row, Wanted};
 use ion_command::{NameHistory, Sources, run};
