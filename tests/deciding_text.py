@@ -9,8 +9,8 @@ crates/ion_text/src/laws.rt): a refusal for one of the nine is a row; octets sho
 refuses there or before, and for no other of the nine; a document has no row. And what isn't proved: before a row's octet a reason
 without a row comes only as `ItemTooLong`, and at that octet only with a smaller number. Where that happens is told, by reasons.
 
-Documents: soups of tokens, random values behind tables, whole documents with some octets changed or cut off; under small limits, with
-and without a catalog. What isn't judged: refusals for other reasons where there is no row, and how many values there are. Prints what
+Documents: soups of tokens, random values behind tables, whole documents with some octets changed or cut off, under small limits, with
+and without a catalog; and some with all their fronts. What isn't judged: refusals for other reasons where there is no row, and how many values there are. Prints what
 differs and the count.
 """
 import collections
@@ -219,6 +219,34 @@ OTHERS = b"a:$10 name:[[]] max_id:1 version:null symbols:[] $6:1 imports:[]".spl
 NAMES = [b"$ion_symbol_table", b"$3", b"'$ion_symbol_table'", b"$ion_symbol_table::a", b"a::$3"]
 ALPHABET = b"{}[](),:'\"/*\\\n ._-+0123abnul$\xc3\xa9\0"
 TEXTS = [octets for name, octets in DOCUMENTS.items() if name.endswith(".ion")]
+EDGES = [
+    b"$ion_1_1 /**/ // c\n/ a",
+    b"$ion_1_1 : a",
+    b"$ion_1_1::a $ion_1_0 $ion_01_0:",
+    b"a $ion_1_1.",
+    b"a::$3::null.struct $3::null.struct /*a*/ /*",
+    b"'$ion_symbol_table' :: null.struct:/",
+    b"{a:1,null.int :1}",
+    b"{nan\0",
+    b"a null /**/ :: a",
+    b"(a::nan::b)",
+    b"[([a [",
+    b"{a:{b:{c:{d:1}}}}",
+    b"{{aGk=}} {a:{{aGk=}},b:([{ c:1}])}",
+    b"[({'''a''' '''b''':[])",
+    b"$3::{symbols:['''a''' '''b''']} $10 [$11]",
+    b'$3::{imports:[{name:"t",max_id:2147483638}]} $12 $2147483647\0',
+    b'$3::{imports:[{name:"t",max_id:2147483638}]} $2147483648',
+    b'$3::{imports:[{name:"t",max_id:2147483638}],symbols:[a]}',
+    b'$3::{imports:[{name:"u"}]} {$10:$11}',
+    b'$3::{imports:[{name:"none"}]}',
+    b"$3::{symbols:[],'symbols':1}",
+    b"'''a''' '' $99",
+    b"'''a''' /**/ '''b''' $99",
+    b"('''a''' '' $99)",
+    b'$3::{symbols:["a"]} $10 $ion_1_0 $10 ',
+    b"(+$9 -$9 +inf$9 --/**/$99)",
+]
 
 
 def table(chance):
@@ -273,6 +301,9 @@ def mutant(chance):
 
 def documents(count, chance):
     """Documents with limits; those with the catalog admit it too."""
+    for octets in EDGES:
+        for end in range(1, len(octets) + 1):
+            yield octets[:end], Limits(3, 2**24, CATALOG)
     for _ in range(count):
         octets = chance.choice([soup, whole, mutant, mutant])(chance)
         if chance.random() < 0.5:
