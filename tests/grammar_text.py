@@ -152,8 +152,8 @@ def begins_as_long(token):
     return token.kind == "long" or token.kind == "quoted" and token.end == token.start + 2
 
 
-# Symbols and local symbol tables. A context is a list of runs: how many slots, and the first of them; the others are gaps. A slot is a
-# text, None where the text is unknown, or a gap.
+# Symbols and local symbol tables. A context is a list of runs: how many slots, and these, of which only so many count; missing ones
+# are gaps. A slot is a text, None where the text is unknown, or a gap.
 
 GAP = object()
 SYSTEM_SLOTS = [(len(SYSTEM), SYSTEM)]
@@ -176,7 +176,7 @@ def resolve(context, id):
 def joined(context, count, slots):
     if sum(run[0] for run in context) + count > 2**31 - 1:
         raise Refused("TableTooLarge")
-    return [*context, (count, slots[:count])]
+    return [*context, (count, slots)]
 
 
 def natural(value):
