@@ -4,14 +4,16 @@ tests/deciding_text.py PROGRAM [COUNT [SEED]].
 
 `rows` below is crates/ion_text/specs/Deciding.antt in Python, row by row, for the nine reasons that have a row there. It is no reader:
 `Search` looks for all that stands open behind whole pieces of the grammar (tests/grammar_text.py), and each row says behind which of
-these a token decides, and with which octet, or that the end does. Of the program it is tried what is proved (`deciding` in
-crates/ion_text/src/laws.rt): a refusal for one of the nine is a row; octets show one row at most; where a row decides, the program
-refuses there or before, and for no other of the nine; a document has no row. And what isn't proved: before a row's octet a reason
-without a row comes only as `ItemTooLong`, and at that octet only with a smaller number. Where that happens is told, by reasons.
+these a token decides, and with which octet, or that the end does.
+
+What is proved (`deciding` in crates/ion_text/src/laws.rt) is tried of the program. A refusal for one of the nine is a row. Octets show
+one row at most. Where a row decides, the program refuses there or before, and for no other of the nine. A document has no row. What
+isn't proved is tried too: before a row's octet a reason without a row comes only as `ItemTooLong`, and at that octet only with a
+smaller number. Where that happens is told, by reasons.
 
 Documents: soups of tokens, random values behind tables, whole documents with some octets changed or cut off, under small limits, with
-and without a catalog; and some with all their fronts. What isn't judged: refusals for other reasons where there is no row, and how many values there are. Prints what
-differs and the count.
+and without a catalog; and some with all their fronts. Not judged are refusals for other reasons where no row decides, and how many
+values there are. Prints what differs and the count.
 """
 import collections
 import concurrent.futures
