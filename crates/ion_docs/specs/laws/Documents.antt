@@ -22,7 +22,7 @@ use Rattle.ion_text.specs.laws.showing.Once as text_once
 use Rattle.ion_text.specs.laws.showing.Apart as text_apart
 use Rattle.ion_text.specs.laws.showing.Given as text_given
 use Rattle.ion_text.specs.laws.showing.Refusing as text_refusing
-use Rattle.ion_text.specs.laws.showing.Unused as text_unused
+use Rattle.ion_text.specs.laws.showing.AtItsEnd as text_at_its_end
 use Rattle.ion_docs.specs.Documents.{is_binary, Denotes, in_binary, in_text, Pieces, binary_pieces, text_pieces, OpenAfter, binary_rest, text_rest}
 use Rattle.ion_docs.specs.reading.Chosen.{chosen}
 use Rattle.ion_docs.specs.Formats.{documents}
@@ -81,7 +81,7 @@ module _ (g : Catalog) (l : Limits) where
     reasons = text_laws.has_reasons g l u;
     small = text_small.is_small g l u;
     no_tables = text_stops.no_tables g l u;
-    ends_values = text_unused.at_its_end g l u;
+    ends_values = text_at_its_end.at_its_end g l u;
   }
 
   -- 3. Of octets that begin with E0, and of those that begin with another.

@@ -29,4 +29,5 @@ pub mod Refusing
 pub mod Given
 pub mod Apart
 pub mod Unused
+pub mod AtItsEnd
 pub mod AllButLast

@@ -95,7 +95,7 @@ impl Items for TextReader<'_> {
     ghost use Rattle.ion_text.specs.laws.showing.Once.{one_shown};
     ghost use Rattle.ion_text.specs.laws.showing.Given.{shown};
     ghost use Rattle.ion_text.specs.laws.showing.Refusing.{refuses};
-    ghost use Rattle.ion_text.specs.laws.showing.Unused.{at_its_end};
+    ghost use Rattle.ion_text.specs.laws.showing.AtItsEnd.{at_its_end};
 
     ghost catalog = { λ r. r.catalog.now };
 
