@@ -1,5 +1,5 @@
 -- Two readers at whose fronts the same octets are an item.
-use Rattle.std.proofs.Common.{◌≡◌, ℕ, min, ◌+◌, ◌-◌, ◌*◌, ◌<◌, ◌≤◌, ◌^◌, Bool, List, [], ◌∷◌, ◌++◌, length, length-take, length-drop, take, drop, Option, Some, None, Ok, refl, ap, sym, ◌∙◌, subst, arith}
+use Rattle.std.proofs.Common.{◌≡◌, ℕ, min, ◌+◌, ◌-◌, ◌*◌, ◌<◌, ◌≤◌, List, [], ◌∷◌, ◌++◌, length, length-take, length-drop, take, drop, Option, Some, None, Ok, refl, ap, sym, ◌∙◌, subst, arith}
 use Rattle.std.specs.Prelude.{IsNone, IfSome}
 use Rattle.std.specs.Option.{is_some}
 use Rattle.ion_model.specs.declared.value.Value.{Value}
@@ -10,16 +10,16 @@ use Rattle.ion_symtab.specs.declared.catalog.Catalog.{Catalog}
 use Rattle.ion_tokens.specs.declared.mode.Mode.TheVariants as modes
 use Rattle.ion_tokens.specs.declared.scanner.Scanner.{Scanner}
 use Rattle.ion_tokens.specs.declared.whole.Rest.{Rest}
-use Rattle.ion_tokens.specs.machine.Rests.{resting, past_blank, IsPassed}
+use Rattle.ion_tokens.specs.machine.Rests.{resting}
 use Rattle.ion_tokens.specs.machine.Scanning.{Known}
 use Rattle.ion_tokens.specs.machine.Views.{scanned, failure}
 use Rattle.ion_text.specs.declared.reader.TextReader.{TextReader}
 use Rattle.ion_text.specs.declared.state.Now.TheVariants as nows
 use Rattle.ion_text.specs.machine.EachToken.{at}
-use Rattle.ion_text.specs.machine.Run.{State, run, with_scan}
+use Rattle.ion_text.specs.machine.Run.{run, with_scan}
 use Rattle.ion_text.specs.machine.Views.{state_of, IsFine}
 use Rattle.ion_text.specs.machine.Progress.{Advances, Stands, SameSettings, StaysSteady, or_first, failed, octets_used, pending}
-use Rattle.ion_text.specs.machine.Walked.{rested, GivesTop, WalkedTop}
+use Rattle.ion_text.specs.machine.Walked.{rested}
 use Rattle.ion_text.specs.machine.Alike.{IsFront, IsTop}
 use Rattle.ion_text.proofs.Elsewhere.{state_at, one_value}
 use Rattle.ion_text.proofs.Further.{step_stands}

@@ -1,5 +1,5 @@
 -- The calls of a writer over a whole stream write its document.
-use Rattle.std.proofs.Common.{◌≡◌, List, [], ◌∷◌, ◌++◌, sym, subst}
+use Rattle.std.proofs.Common.{List, [], ◌∷◌, sym, subst}
 use Rattle.ion_model.specs.declared.value.Value.{Value}
 use Rattle.ion_symtab.specs.Took.{Took}
 use Rattle.ion_symtab.specs.laws.Took.{Took-nil, Took-trans, Took-kept}

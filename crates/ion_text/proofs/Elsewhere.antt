@@ -20,12 +20,11 @@ use Rattle.ion_tokens.specs.declared.mode.Action.TheVariants as actions
 use Rattle.ion_tokens.specs.declared.mode.Mode.TheVariants as modes
 use Rattle.ion_tokens.specs.declared.mode.TokenKind.TheVariants as kinds
 use Rattle.ion_tokens.specs.declared.mode.Mark.TheVariants as marks
-use Rattle.ion_tokens.specs.declared.token.Begun.{Begun}
 use Rattle.ion_tokens.specs.machine.Bounds.{is_idle}
 use Rattle.ion_tokens.specs.machine.Ahead.{symbol_waits, long_waits}
 use Rattle.ion_tokens.specs.machine.Views.{begun_in, behind, form_of}
 use Rattle.ion_tokens.specs.machine.Table as table
-use Rattle.ion_tokens.specs.machine.Scanning.{Known, Lexeme, Outcome, Next, Given, Left, Refused, feed, acts, start_of, left_of, kept_after, go_to, cut, past, blob_ends, split_at}
+use Rattle.ion_tokens.specs.machine.Scanning.{Known, Lexeme, Outcome, Next, Given, Left, Refused, feed, acts, start_of, left_of, go_to, cut, past, blob_ends}
 use Rattle.ion_tokens.specs.Blobs.{blob_of}
 use Rattle.ion_tokens.specs.Bodies.{Content, Word, Id, Quoted, Short, Long, Number', TypedNull, Operator, Clob, Blob, Mark'}
 use Rattle.ion_tokens.specs.machine.Said.{said}
@@ -36,8 +35,8 @@ use Rattle.ion_text.specs.declared.state.Now.TheVariants as nows
 use Rattle.ion_text.specs.declared.state.Frame.{Frame}
 use Rattle.ion_text.specs.declared.state.Frame.TheVariants as frames
 use Rattle.ion_text.specs.Grammar.{is_keyword}
-use Rattle.ion_text.specs.machine.EachToken.{Setting, under, spot_at, token_at, begun_at, Reading, Turn, goes, gives, refuses, late, Symbols, at, fresh, place, place_in, settle, settled, turned, within, ended, released, paid, held_payload, number_payload, resolved, deeper, bare_close, list_closed, sexp_closed, struct_closed, on_ready, on_pending, noted, held_symbol, on_long, on_after, on_comma, on_name, on_long_name, on_keyed, named, keyed, turn, Token}
-use Rattle.ion_text.specs.machine.Run.{State, Effect, uses, tells, leaves, fails, is_top, in_segment, has_segment, waits_now, unsettled, shut, reaches, noticed, lesser, or_worse, with_scan, token_of, behind_given, behind_left, on_said, on_scan, on_settled, on_octet, takes, eats, Run, with_value, once_more, run_on, run}
+use Rattle.ion_text.specs.machine.EachToken.{under, spot_at, token_at, begun_at, Reading, Turn, goes, gives, refuses, late, Symbols, at, fresh, place, place_in, settle, turned, within, ended, released, paid, held_payload, number_payload, resolved, deeper, bare_close, list_closed, sexp_closed, struct_closed, on_ready, on_pending, noted, held_symbol, on_long, on_after, on_comma, on_name, on_long_name, on_keyed, named, keyed, turn}
+use Rattle.ion_text.specs.machine.Run.{State, Effect, uses, tells, leaves, fails, is_top, in_segment, has_segment, waits_now, unsettled, shut, reaches, noticed, lesser, or_worse, with_scan, token_of, behind_given, behind_left, on_said, on_scan, on_settled, on_octet, takes, eats, Run, run_on, run}
 
 -- 1. The same, elsewhere.
 

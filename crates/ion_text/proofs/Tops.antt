@@ -1,6 +1,6 @@
 -- Items of the top level that are gone over, with the blank before them.
 use Rattle.std.proofs.Common.{◌≡◌, ℕ, min, ◌+◌, ◌-◌, ◌^◌, ◌<◌, ◌≤◌, Bool, true, false, List, [], ◌∷◌, ◌++◌, length, take, drop, get_or, Option, Some, None, Ok, refl, ap, sym, ◌∙◌, subst, arith, length-drop, length-append, inl, inr}
-use Rattle.std.specs.Prelude.{if◌then◌else◌, nat_le, ◌&&◌, IfSome}
+use Rattle.std.specs.Prelude.{if◌then◌else◌, nat_le, ◌&&◌}
 use Rattle.std.specs.Option.{is_some}
 use Rattle.std.proofs.lemmas.Bool.Decides.{nat_tests}
 use Rattle.std.proofs.lemmas.Grind.{common_steps}
@@ -42,7 +42,7 @@ use Rattle.ion_text.specs.declared.state.Now.{Now}
 use Rattle.ion_text.specs.declared.state.Now.TheVariants as nows
 use Rattle.ion_text.specs.machine.AtOnce.{Passes}
 use Rattle.ion_text.specs.machine.EachToken.{under, spot_at, Reading, Symbols, goes, gives, refuses, at, fresh, place, settle, turn, turned, within, ended, begun_at}
-use Rattle.ion_text.specs.machine.Nested.{Opens, closes}
+use Rattle.ion_text.specs.machine.Nested.{Opens}
 use Rattle.ion_text.specs.machine.Pieces.{led, drive, go_on, Quiet}
 use Rattle.ion_text.specs.machine.Progress.{Advances, Stands}
 use Rattle.ion_text.specs.machine.Run.{State, uses, fails, tells, eats, takes, on_scan, on_said, behind_given, unsettled, reaches, longest_top, is_long_begun, token_of, run, run_on, with_scan}

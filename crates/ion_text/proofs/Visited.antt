@@ -1,21 +1,19 @@
 -- Values that are gone over, and their visitor.
-use Rattle.std.proofs.Common.{◌≡◌, ℕ, ◌+◌, ◌-◌, ◌<◌, ◌≤◌, Bool, get_or, List, [], ◌∷◌, ◌++◌, length, drop, Option, Some, None, IfSome, refl, ap, sym, subst, ◌∙◌, arith, length-append, false}
+use Rattle.std.proofs.Common.{◌≡◌, ℕ, ◌+◌, ◌-◌, ◌<◌, ◌≤◌, Bool, get_or, List, [], ◌∷◌, length, drop, Option, Some, None, IfSome, refl, sym, subst, ◌∙◌, arith, length-append, false}
 use Rattle.ion_model.specs.declared.value.Field.{Field}
 use Rattle.ion_model.specs.declared.value.Value.{Value as AnyValue}
 use Rattle.ion_model.specs.declared.value.Payload.{Payload}
-use Rattle.ion_model.specs.declared.value.Payload.TheVariants as payloads
-use Rattle.ion_model.specs.Measures.{bare, annotated, field_of}
 use Rattle.ion_tokens.specs.declared.mode.Mark.{Mark}
 use Rattle.ion_tokens.specs.declared.mode.Mark.TheVariants as marks
 use Rattle.ion_tokens.specs.declared.mode.Place.{Place}
 use Rattle.ion_tokens.specs.declared.mode.Place.TheVariants as places
 use Rattle.ion_tokens.specs.declared.whole.Rest.{Rest}
 use Rattle.ion_tokens.specs.Places.{is_name}
-use Rattle.ion_visiting.specs.Visits.{IsPart, Visits, part, annotation, name, bare_visited, annotated_visited, VisitedPayload, in_one, in_list, in_sexp, in_struct, VisitedItems, VisitedFields, VisitedAnnotations, no_annotations, one_annotation}
+use Rattle.ion_visiting.specs.Visits.{IsPart, Visits, part, annotation, name, bare_visited, annotated_visited, VisitedPayload, in_one, in_list, in_sexp, in_struct, VisitedItems, VisitedFields, no_annotations, one_annotation}
 use Rattle.ion_text.specs.declared.reader.finders.Scalar.{Scalar}
 use Rattle.ion_text.specs.declared.reader.walks.Tally.{Tally}
 use Rattle.ion_text.specs.machine.Nested.{Opens}
-use Rattle.ion_text.specs.machine.Walked.{behind_open, behind_close, Walked, WalkedInside, WalkedName, WalkedNote, WalkedNotes, WalkedBare}
+use Rattle.ion_text.specs.machine.Walked.{behind_open, behind_close, Walked, WalkedName, WalkedNote, WalkedBare}
 use Rattle.ion_text.specs.visiting.Parts.{bracket_of}
 use Rattle.ion_text.specs.visiting.Walks.{FoundPart, Value, Container, Inside, Name, Notes, Bare, Top}
 use Rattle.ion_text.proofs.Tops.{notes_none, notes_on, walked_bare, walked_top}

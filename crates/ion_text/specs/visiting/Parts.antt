@@ -1,5 +1,5 @@
 -- A token that is a value, as a visitor takes it.
-use Rattle.std.specs.Prelude.{ℕ, List, Some, ⊤}
+use Rattle.std.specs.Prelude.{Some, ⊤}
 use Rattle.ion_model.specs.declared.value.Payload.{Payload}
 use Rattle.ion_model.specs.declared.value.Payload.TheVariants as payloads
 use Rattle.ion_tokens.specs.declared.mode.Mark.{Mark}

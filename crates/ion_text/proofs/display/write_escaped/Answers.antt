@@ -1,6 +1,6 @@
 use Rattle.std.proofs.Common.{◌≡◌, ◌-◌, ◌<◌, false, true, [], ◌++◌, length, get_or, take, drop, refl, rules, arith, append_assoc}
 use Rattle.std.proofs.lemmas.Grind.{common_steps}
-use Rattle.std.proofs.lemmas.Str.{IsCharBoundary-start, IsCharBoundary-after_ascii, IsCharBoundary-before_ascii}
+use Rattle.std.proofs.lemmas.Str.{IsCharBoundary-start, IsCharBoundary-after_ascii}
 use Rattle.std.proofs.Output.{has_written_append, has_written_of_eq}
 use Rattle.ion_text.specs.Output.{of_symbol, escape}
 use Rattle.ion_text.specs.laws.writing.RawRuns.{is_raw}

@@ -24,7 +24,7 @@ use Rattle.ion_tokens.specs.Lexed.{Placed, LexesTo}
 use Rattle.ion_tokens.specs.Places.{is_sexp}
 use Rattle.ion_tokens.specs.machine.Said.{said}
 use Rattle.ion_tokens.specs.machine.Scanning.{Known, Lexeme, Outcome, Next, Given, Left, Refused, feed}
-use Rattle.ion_tokens.specs.machine.Views.{scanned, looks, behind, form_of, begun_in, held_in}
+use Rattle.ion_tokens.specs.machine.Views.{looks, behind, form_of, begun_in, held_in}
 use Rattle.ion_tokens.proofs.Holds.{InMode}
 use Rattle.ion_tokens.proofs.Reaches.{begun_stays}
 use Rattle.ion_text.specs.declared.reader.TextReader.{TextReader}

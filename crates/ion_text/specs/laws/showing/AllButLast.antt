@@ -1,5 +1,5 @@
 -- Of the whole pieces at the front of octets, the octets show all but the last at least.
-use Rattle.std.proofs.Common.{◌≡◌, ℕ, ◌+◌, ◌<◌, ◌≤◌, ◌⊎◌, inl, inr, Bool, true, false, List, [], ◌∷◌, ◌++◌, length, refl, sym, ap, ◌∙◌, subst, arith, append-nil, append_assoc, length-append, Result, Ok, Err, Option, Some, None, option_to_list}
+use Rattle.std.proofs.Common.{◌≡◌, ℕ, ◌+◌, ◌≤◌, ◌⊎◌, inl, inr, Bool, true, false, List, [], ◌∷◌, ◌++◌, length, refl, sym, ap, ◌∙◌, subst, arith, append-nil, append_assoc, length-append, Result, Ok, Err, Option, Some, None, option_to_list}
 use Rattle.std.specs.Prelude.{codes, nat_le}
 use Rattle.std.proofs.lemmas.Bool.Decides.{nat_tests}
 use Rattle.ion_atoms.specs.declared.refusal.Refusal.{Refusal}
@@ -17,10 +17,9 @@ use Rattle.ion_tokens.specs.declared.mode.TokenKind.TheVariants as kinds
 use Rattle.ion_tokens.specs.Bodies.{Content, Mark', IsBody, IsWordBody, id_of, kind_named, null_of}
 use Rattle.ion_tokens.specs.Places.{is_sexp}
 use Rattle.ion_tokens.specs.machine.Scanning.{initial}
-use Rattle.ion_tokens.specs.machine.Said.{said}
 use Rattle.ion_tokens.specs.Lexed.{Placed, BeginsWith, LexesTo, colon_behind}
 use Rattle.ion_text.specs.Grammar.{Whole, ends_long}
-use Rattle.ion_text.specs.machine.EachToken.{Reading, Turn, Token, goes, gives, refuses, late, fresh, settle}
+use Rattle.ion_text.specs.machine.EachToken.{Reading, Turn, goes, gives, refuses, late, fresh, settle}
 use Rattle.ion_text.specs.machine.Run.{State, begun, run, trace, ends_of, token_of}
 use Rattle.ion_text.specs.machine.TokenLists.{Walk, walked, stopped, adds, done, on_turn, then_walk, continues, reads, reads-append}
 use Rattle.ion_text.specs.machine.Passed.{said_body}

@@ -1,12 +1,12 @@
 -- Between whole pieces with the values before a value and whole pieces with it stand at least as many octets as it has nodes.
-use Rattle.std.proofs.Common.{◌≡◌, ℕ, ◌+◌, ◌≤◌, ◌==◌, ◌&&◌, ◌||◌, Bool, true, false, List, [], ◌∷◌, ◌++◌, length, Ok, refl, sym, ap, ◌∙◌, subst, arith, append_assoc, append-nil, length-append, ◌⊎◌, inl, inr, codes}
+use Rattle.std.proofs.Common.{◌≡◌, ℕ, ◌+◌, ◌≤◌, ◌==◌, ◌&&◌, ◌||◌, Bool, true, false, List, [], ◌∷◌, ◌++◌, length, Ok, refl, sym, ap, ◌∙◌, subst, arith, append_assoc, append-nil, length-append, inl, inr, codes}
 use Rattle.std.proofs.lemmas.List.{append_cancel_left}
 use Rattle.std.proofs.lemmas.Bool.Decides.{nat_tests}
 use Rattle.ion_model.specs.declared.value.Value.{Value}
 use Rattle.ion_model.specs.Measures.{nodes}
 use Rattle.ion_symtab.specs.declared.limits.Limits.{Limits}
 use Rattle.ion_symtab.specs.declared.catalog.Catalog.{Catalog}
-use Rattle.ion_symtab.specs.Slots.{Slot, system_slots}
+use Rattle.ion_symtab.specs.Slots.{system_slots}
 use Rattle.ion_tokens.specs.declared.mode.Mark.TheVariants as marks
 use Rattle.ion_tokens.specs.declared.mode.Place.TheVariants as places
 use Rattle.ion_tokens.specs.declared.mode.TokenKind.{TokenKind}
@@ -27,7 +27,7 @@ use Rattle.ion_text.specs.laws.reading.Pieces.{ReadSoFar, pieces_read, walked_no
 use Rattle.ion_text.specs.laws.reading.Going.{Going, TurnGoes, going_said, going_turn, going_settle, mark_kind}
 use Rattle.ion_text.specs.laws.reading.Sizes.{open_nodes, wait_end, Weighs, turn_weighs, settle_weighs}
 use Rattle.ion_text.specs.laws.showing.Cuts.{Parted, parted}
-use Rattle.ion_text.specs.laws.showing.Compare.{Found', TopFirst, Compared, compare, lexes_once, begins_after}
+use Rattle.ion_text.specs.laws.showing.Compare.{Found', Compared, compare, lexes_once, begins_after}
 use Rattle.ion_text.specs.laws.showing.Once.{going_once, some_token, operator_inside, whole_going, whole_found, whole_operators, whole_ends}
 use Rattle.ion_text.specs.laws.showing.Opened.{segment_is, blank_token, colons_token, long_token, quoted_token}
 use Rattle.ion_text.specs.laws.showing.Walks.{walking_said, adds_is, behind_read}

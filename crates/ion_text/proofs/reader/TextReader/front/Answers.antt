@@ -1,4 +1,4 @@
-use Rattle.std.proofs.Common.{◌≡◌, ℕ, min, ◌≤◌, length, length-take, ap, ◌∙◌, arith}
+use Rattle.std.proofs.Common.{◌≡◌, ℕ, min, length, length-take, ap, ◌∙◌, arith}
 use Rattle.ion_text.proofs.Tops.{passed_of}
 use Rattle.ion_text.proofs.reader.TextReader.front.Goals as goal
 

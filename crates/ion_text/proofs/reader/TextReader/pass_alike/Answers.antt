@@ -1,4 +1,4 @@
-use Rattle.std.proofs.Common.{rules, ◌≡◌, None, ap, arith}
+use Rattle.std.proofs.Common.{rules, ◌≡◌, None, ap}
 use Rattle.std.proofs.lemmas.Option.{IfSome_then}
 use Rattle.ion_text.specs.machine.Progress.{failed}
 use Rattle.ion_text.proofs.Alikes.{both_take_up}

@@ -1,4 +1,4 @@
-use Rattle.std.proofs.Common.{◌≡◌, ◌<◌, ◌^◌, refl, sym, ◌∙◌, arith}
+use Rattle.std.proofs.Common.{◌<◌, ◌^◌, refl, sym, ◌∙◌, arith}
 use Rattle.ion_text.proofs.Tops.{outlined, top_advances}
 use Rattle.ion_text.proofs.reader.TextReader.walk.Goals as goal
 

@@ -1,4 +1,3 @@
-use Rattle.std.proofs.Common.{◌≡◌, ◌+◌, take, drop}
 use Rattle.ion_text.proofs.Alikes.{side_advances}
 use Rattle.ion_text.proofs.reader.TextReader.walk_alike.Goals as goal
 

@@ -1,4 +1,4 @@
-use Rattle.std.proofs.Common.{◌-◌, ◌∙◌, Some, ap, sym, subst, take, drop}
+use Rattle.std.proofs.Common.{◌-◌, ◌∙◌, Some, ap, sym, subst, take}
 use Rattle.std.proofs.lemmas.List.{take_rest}
 use Rattle.ion_tokens.specs.declared.mode.Place.TheVariants as places
 use Rattle.ion_text.specs.laws.reading.FrontTokens.{BeginsName}

@@ -1,6 +1,5 @@
-use Rattle.std.proofs.Common.{◌+◌, ◌-◌, ◌∙◌, length, take, drop, ap, sym, subst}
+use Rattle.std.proofs.Common.{◌-◌, ◌∙◌, length, take, drop, ap}
 use Rattle.std.proofs.lemmas.List.{take_rest}
-use Rattle.ion_visiting.specs.Visits.{annotation}
 use Rattle.ion_text.proofs.Tops.{walked_note}
 use Rattle.ion_text.proofs.Visited.{note_visited}
 use Rattle.ion_text.proofs.reader.tops.walk_note.Goals as goal

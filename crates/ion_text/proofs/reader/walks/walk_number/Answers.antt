@@ -4,7 +4,6 @@ use Rattle.ion_tokens.specs.machine.Rests.{past_token}
 use Rattle.ion_text.specs.declared.reader.finders.Scalar.{Scalar}
 use Rattle.ion_text.specs.machine.EachToken.{number_payload}
 use Rattle.ion_text.specs.machine.Walked.{FoundScalar, LeadsBehind}
-use Rattle.ion_text.specs.visiting.Walks.{FoundPart}
 use Rattle.ion_text.proofs.Walking.{found_within, scalar_leads, walked_scalar}
 use Rattle.ion_text.proofs.Visited.{scalar_visited}
 use Rattle.ion_text.proofs.reader.walks.walk_number.Goals as goal
