@@ -42,28 +42,28 @@ between_size w i j h k = grind (arith, common_steps, h, k)
 
 module _ (c : List Slot) (w : List ℕ) where
   -- the octets and symbols are these, and it stands within them
-  pub record Here (a : Comparison) : Type 0 where
+  pub record StandsWithin (a : Comparison) : Type 0 where
     pub context : a.context.now ≡ c
     pub octets : a.octets.now ≡ w
     pub within : a.at ≤ length w
 
   -- from one place to the other the octets are this
   pub record Found (P : List ℕ → Type 0) (a b : Comparison) : Type 0 where
-    pub here : Here b
+    pub here : StandsWithin b
     pub ahead : a.at ≤ b.at
     pub is : P (between w a.at b.at)
 
-  moved : (a b : Comparison) → Here a → Moves a b → Here b
+  moved : (a b : Comparison) → StandsWithin a → Moves a b → StandsWithin b
   moved a b h m = record { context = m.context ∙ h.context; octets = m.octets ∙ h.octets; within = subst (λ (x : List ℕ). b.at ≤ length x) h.octets m.within }
 
-  found_id : (a b : Comparison) (s : Option (List ℕ)) → Here a → IsIdOf a b s → Found (λ x. (n : ℕ) × VarUInt x n × (resolve c n ≡ Ok s)) a b
+  found_id : (a b : Comparison) (s : Option (List ℕ)) → StandsWithin a → IsIdOf a b s → Found (λ x. (n : ℕ) × VarUInt x n × (resolve c n ≡ Ok s)) a b
   found_id a b s h x = record {
     here = moved a b h x.moves;
     ahead = x.moves.ahead;
     is = (x.id, subst (λ (o : List ℕ). VarUInt (between o a.at b.at) x.id) h.octets x.number, subst (λ (d : List Slot). resolve d x.id ≡ Ok s) h.context x.found);
   }
 
-  notes_found : (ss : List (Option (List ℕ))) (a b : Comparison) → VisitedAnnotations comparing ss a b → Here a → Found (λ x. Ids c x ss) a b
+  notes_found : (ss : List (Option (List ℕ))) (a b : Comparison) → VisitedAnnotations comparing ss a b → StandsWithin a → Found (λ x. Ids c x ss) a b
   notes_found _ _ _ (no_annotations a) h = record { here = h; ahead = omega arith; is = subst (λ x. Ids c x []) (sym (nothing_between w a.at)) no_ids }
   notes_found _ _ _ (one_annotation ss s a m b i x) h =
       let f = notes_found ss a m i h in
@@ -75,7 +75,7 @@ module _ (c : List Slot) (w : List ℕ) where
       }
 
   -- a body behind its header
-  framed : (form : Form) (P : List ℕ → Type 0) (Q : List ℕ → Type 0) (end : ℕ) (a m n b : Comparison) → ((h body : List ℕ) → Header form (length body) h → P body → Q (h ++ body)) → Here a → Enters form a m end → (Here m → Found P m n) → StandsAt n b end → Found Q a b
+  framed : (form : Form) (P : List ℕ → Type 0) (Q : List ℕ → Type 0) (end : ℕ) (a m n b : Comparison) → ((h body : List ℕ) → Header form (length body) h → P body → Q (h ++ body)) → StandsWithin a → Enters form a m end → (StandsWithin m → Found P m n) → StandsAt n b end → Found Q a b
   framed form P Q end a m n b make h o i x =
       let f = i (moved a m h o.moves) in
       let size : length (between w m.at n.at) ≡ end - m.at = between_size w m.at n.at f.ahead f.here.within ∙ ap (λ k. k - m.at) x.at in
@@ -90,14 +90,14 @@ module _ (c : List Slot) (w : List ℕ) where
       subst (Found Q a) (sym x.same) done
 
   mutual
-    pub value_found : (v : Value) (a b : Comparison) → Visited comparing v a b → Here a → Found (λ x. Binary c x v) a b
+    pub value_found : (v : Value) (a b : Comparison) → Visited comparing v a b → StandsWithin a → Found (λ x. Binary c x v) a b
     value_found _ _ _ (bare_visited p a b i) h = let f = payload_found p a b i h in record { here = f.here; ahead = f.ahead; is = unannotated _ p f.is }
     value_found _ _ _ (annotated_visited ss p k a m n x y b some o i t j u) h =
         let mid = o.mid in
         let at_mid = moved a mid h o.enters.moves in
         let at_ids = moved mid m at_mid o.moves in
         let ids = notes_found ss m n i at_ids in
-        let f = payload_found p x y j (subst Here (sym t.same) ids.here) in
+        let f = payload_found p x y j (subst StandsWithin (sym t.same) ids.here) in
         let x_at : x.at ≡ n.at = ap (λ (x : Comparison). x.at) t.same in
         let behind_ids : n.at ≤ y.at = omega (arith, x_at, f.ahead) in
         let plain : Plain c (between w n.at y.at) p = subst (λ (k : ℕ). Plain c (between w k y.at) p) x_at f.is in
@@ -122,7 +122,7 @@ module _ (c : List Slot) (w : List ℕ) where
         } in
         subst (Found (λ z. Binary c z (annotated ss p)) a) (sym u.same) done
 
-    payload_found : (p : Payload) (a b : Comparison) → VisitedPayload comparing p a b → Here a → Found (λ x. Plain c x p) a b
+    payload_found : (p : Payload) (a b : Comparison) → VisitedPayload comparing p a b → StandsWithin a → Found (λ x. Plain c x p) a b
     payload_found _ _ _ (in_one p a b i x) h = record {
       here = moved a b h x.moves;
       ahead = x.moves.ahead;
@@ -132,7 +132,7 @@ module _ (c : List Slot) (w : List ℕ) where
     payload_found _ _ _ (in_sexp vs k a m n b o i x) h = framed (forms.Listing listings.Sexp) (λ x. Sequence c x vs) (λ x. Plain c x (payloads.Sexp vs)) k.end a m n b (λ h body d s. is_listing h body listings.Sexp vs d s) h o (items_found vs m n i) x
     payload_found _ _ _ (in_struct ms k a m n b o i x) h = framed forms.Struct (λ x. Fields c x ms) (λ x. Plain c x (payloads.Fields ms)) k.end a m n b (λ h body d s. is_struct h body ms d s) h o (fields_found ms m n i) x
 
-    items_found : (vs : List Value) (a b : Comparison) → VisitedItems comparing vs a b → Here a → Found (λ x. Sequence c x vs) a b
+    items_found : (vs : List Value) (a b : Comparison) → VisitedItems comparing vs a b → StandsWithin a → Found (λ x. Sequence c x vs) a b
     items_found _ _ _ (no_items a) h = record { here = h; ahead = omega arith; is = subst (λ x. Sequence c x []) (sym (nothing_between w a.at)) nothing }
     items_found _ _ _ (one_item vs v a m b i x) h =
         let f = items_found vs a m i h in
@@ -143,7 +143,7 @@ module _ (c : List Slot) (w : List ℕ) where
           is = subst (λ x. Sequence c x (vs ++ v ∷ [])) (sym (between_both w a.at m.at b.at f.ahead g.ahead)) (one_more _ _ vs v f.is g.is);
         }
 
-    fields_found : (ms : List Field) (a b : Comparison) → VisitedFields comparing ms a b → Here a → Found (λ x. Fields c x ms) a b
+    fields_found : (ms : List Field) (a b : Comparison) → VisitedFields comparing ms a b → StandsWithin a → Found (λ x. Fields c x ms) a b
     fields_found _ _ _ (no_fields a) h = record { here = h; ahead = omega arith; is = subst (λ x. Fields c x []) (sym (nothing_between w a.at)) grammar.no_fields }
     fields_found _ _ _ (one_field ms s v a m n b i x j) h =
         let f = fields_found ms a m i h in

@@ -8,7 +8,7 @@ use Rattle.ion_model.specs.declared.value.Field.{Field}
 use Rattle.ion_model.specs.Kept.{KeptItems, no_items, KeptFields, no_fields}
 use Rattle.ion_model.specs.declared.value.Value.{Value}
 use Rattle.ion_model.specs.declared.value.Payload.TheViews.{out-Payload}
-use Rattle.ion_binary.specs.Output.{Names, framed, counted, ids_octets, wrapped, value_octets}
+use Rattle.ion_binary.specs.Output.{Names, framed, with_count, ids_octets, wrapped, value_octets}
 use Rattle.ion_binary.specs.laws.writing.Output.{layer_octets, octets-out}
 use Rattle.ion_binary.specs.writer.Later.{IsLater}
 
@@ -16,14 +16,14 @@ wrapped_none : (names ss : Names) (w : List ℕ) → length ss ≡ 0 → wrapped
 wrapped_none names [] w e = refl
 wrapped_none names (s ∷ ss) w e = absurd (omega (arith, e))
 
-wrapped_some : (names ss : Names) (w : List ℕ) → 0 < length ss → wrapped names ss w ≡ framed 14 (counted (ids_octets names ss) ++ w)
+wrapped_some : (names ss : Names) (w : List ℕ) → 0 < length ss → wrapped names ss w ≡ framed 14 (with_count (ids_octets names ss) ++ w)
 wrapped_some names [] w h = absurd (omega (arith, h))
 wrapped_some names (s ∷ ss) w h = refl
 
 pub octets_bare : (names : Names) (v : Value) → length v.annotations ≡ 0 → value_octets names v ≡ layer_octets names (out-Payload v.payload)
 octets_bare names v e = octets-out names v ∙ wrapped_none names v.annotations _ e
 
-pub octets_wrapped : (names : Names) (v : Value) → 0 < length v.annotations → value_octets names v ≡ framed 14 (counted (ids_octets names v.annotations) ++ layer_octets names (out-Payload v.payload))
+pub octets_wrapped : (names : Names) (v : Value) → 0 < length v.annotations → value_octets names v ≡ framed 14 (with_count (ids_octets names v.annotations) ++ layer_octets names (out-Payload v.payload))
 octets_wrapped names v h = octets-out names v ∙ wrapped_some names v.annotations _ h
 
 -- whichever names are later

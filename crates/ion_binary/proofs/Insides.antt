@@ -16,7 +16,7 @@ use Rattle.ion_binary.specs.Judge.{judge}
 use Rattle.ion_binary.specs.machine.EachOctet.{Spot, under, moved, Machine, Outcome, at, in_body, judged}
 use Rattle.ion_binary.specs.laws.reading.Complete.{body_run}
 use Rattle.ion_binary.specs.machine.Run.{Run, run}
-use Rattle.ion_binary.specs.machine.Pieces.{led, after, then_run, run-append}
+use Rattle.ion_binary.specs.machine.Pieces.{led, run_after, then_run, run-append}
 use Rattle.ion_binary.specs.machine.Views.{machine_of, body_so_far, Gave, GaveLast, Does, Reached}
 use Rattle.ion_binary.specs.machine.AtOnce.{body_goes, pad_goes}
 
@@ -43,25 +43,25 @@ module _ (g : Catalog) (l : Limits) (spot : Spot) (fs : List Frame) (kept : List
 
   -- the body ends with these octets
   pub body_ends : (t : Scalar) (k : ℕ) (phase : Phase) (piece : List ℕ) → phase ≡ InBody t (k - 1) → 0 < k → k ≤ length piece →
-      run g l spot.used (with_phase spot fs kept phase) (take k piece) ≡ after (spot.used + k) (judged (under g l) (moved spot (spot.used + k)) fs (judge spot.context t (kept ++ take k piece)))
+      run g l spot.used (with_phase spot fs kept phase) (take k piece) ≡ run_after (spot.used + k) (judged (under g l) (moved spot (spot.used + k)) fs (judge spot.context t (kept ++ take k piece)))
   body_ends t k phase piece e some within =
       let size : length (take k piece) ≡ k = length-take-le k piece within in
       ap (λ p. run g l spot.used (with_phase spot fs kept p) (take k piece)) e
       ∙ body_run g l spot fs t (k - 1) kept (take k piece) (spot.used + k) (omega arith) (omega arith)
 
 -- a run that a method's outcome ends, where the method gave a value
-gave_last : (o : Outcome) (given : Option Value) (m : Machine) (ran : Run) (to : ℕ) → ran ≡ after to o → Gave o given m → GaveLast ran to given m
-gave_last o (Some v) m ran to e did = e ∙ ap (after to) did
+gave_last : (o : Outcome) (given : Option Value) (m : Machine) (ran : Run) (to : ℕ) → ran ≡ run_after to o → Gave o given m → GaveLast ran to given m
+gave_last o (Some v) m ran to e did = e ∙ ap (run_after to) did
 gave_last o None m ran to e did = absurd did
 
 -- a run that a method's outcome ends
-pub reached : (o : Outcome) (effect : Effect) (r : BinaryReader) (ran : Run) (to : ℕ) → ran ≡ after to o → Does o (Ok effect) r → Reached ran to effect r
-reached o Goes r ran to e did = e ∙ ap (after to) did
+pub reached : (o : Outcome) (effect : Effect) (r : BinaryReader) (ran : Run) (to : ℕ) → ran ≡ run_after to o → Does o (Ok effect) r → Reached ran to effect r
+reached o Goes r ran to e did = e ∙ ap (run_after to) did
 reached o Gives r ran to e did = gave_last o r.given (machine_of r) ran to e did
 
 -- what is refused at the front of a piece is refused with what follows
 pub refused_whole : (g : Catalog) (l : Limits) (used : ℕ) (m : Machine) (piece : List ℕ) (k : ℕ) (reason : Reason) → k ≤ length piece →
-    run g l used m (take k piece) ≡ after (used + k) (Outcome.refuses reason) → run g l used m piece ≡ after (used + k) (Outcome.refuses reason)
+    run g l used m (take k piece) ≡ run_after (used + k) (Outcome.refuses reason) → run g l used m piece ≡ run_after (used + k) (Outcome.refuses reason)
 refused_whole g l used m piece k reason within e =
     let size : length (take k piece) ≡ k = length-take-le k piece within in
     ap (run g l used m) (sym (take-append-drop k piece))

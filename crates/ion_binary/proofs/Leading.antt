@@ -12,19 +12,19 @@ use Rattle.ion_binary.specs.machine.Pieces.{led, then_run, run-append}
 use Rattle.ion_binary.specs.machine.Views.{GaveLast}
 
 -- from `start`, the octets of the piece before i lead to m, whatever follows
-pub record Leads (g : Catalog) (l : Limits) (to : ℕ) (start : Machine) (piece : List ℕ) (i : ℕ) (m : Machine) : Type 0 where
+pub record LeadsFromStart (g : Catalog) (l : Limits) (to : ℕ) (start : Machine) (piece : List ℕ) (i : ℕ) (m : Machine) : Type 0 where
   pub onward : (rest : List ℕ) → run g l to start (take i piece ++ rest) ≡ run g l (to + i) m rest
 
 module _ (g : Catalog) (l : Limits) (to : ℕ) where
   -- at the end of the piece
-  pub leads_to_end : (start m : Machine) (piece : List ℕ) (i : ℕ) → length piece ≤ i → Leads g l to start piece i m →
+  pub leads_to_end : (start m : Machine) (piece : List ℕ) (i : ℕ) → length piece ≤ i → LeadsFromStart g l to start piece i m →
       run g l to start piece ≡ record { given = []; now = Ok m }
   leads_to_end start m piece i whole before =
       let all : take i piece ++ [] ≡ piece = grind (arith, common_steps) in
       ap (run g l to start) (sym all) ∙ before.onward []
 
   -- octets behind which a run is at a machine lead there
-  pub led_leads : (m n : Machine) (piece : List ℕ) (k : ℕ) → k ≤ length piece → run g l to m (take k piece) ≡ led n → Leads g l to m piece k n
+  pub led_leads : (m n : Machine) (piece : List ℕ) (k : ℕ) → k ≤ length piece → run g l to m (take k piece) ≡ led n → LeadsFromStart g l to m piece k n
   led_leads m n piece k within e =
       let size : length (take k piece) ≡ k = length-take-le k piece within in
       record {
@@ -32,7 +32,7 @@ module _ (g : Catalog) (l : Limits) (to : ℕ) where
       }
 
   -- what leads on from where it led
-  pub leads_through : (start m n : Machine) (piece : List ℕ) (i k : ℕ) → Leads g l to start piece i m → Leads g l (to + i) m (drop i piece) k n → Leads g l to start piece (i + k) n
+  pub leads_through : (start m n : Machine) (piece : List ℕ) (i k : ℕ) → LeadsFromStart g l to start piece i m → LeadsFromStart g l (to + i) m (drop i piece) k n → LeadsFromStart g l to start piece (i + k) n
   leads_through start m n piece i k before behind = record {
     onward =
         λ rest.
@@ -51,7 +51,7 @@ whole_rest piece i = grind (arith, common_steps)
 -- octets of the rest of the piece that were taken up at once lead on
 pub leads_by : (g : Catalog) (l : Limits) (to : ℕ) (start m n : Machine) (piece : List ℕ) (i k used : ℕ) (cat : Catalog) (lim : Limits) → cat ≡ g → lim ≡ l → used ≡ to + i →
     k ≤ length (take (length piece - i) (drop i piece)) → run cat lim used m (take k (take (length piece - i) (drop i piece))) ≡ led n →
-    Leads g l to start piece i m → Leads g l to start piece (i + k) n
+    LeadsFromStart g l to start piece i m → LeadsFromStart g l to start piece (i + k) n
 leads_by g l to start m n piece i k used cat lim same_catalog same_limits place within e before =
     let part = take k (take (length piece - i) (drop i piece)) in
     let rest = whole_rest piece i in
@@ -65,7 +65,7 @@ leads_by g l to start m n piece i k used cat lim same_catalog same_limits place 
 -- octets of the rest of the piece with whose last a value came
 leads_to_value : (g : Catalog) (l : Limits) (to : ℕ) (start m n : Machine) (piece : List ℕ) (i k used : ℕ) (cat : Catalog) (lim : Limits) (v : Value) → cat ≡ g → lim ≡ l → used ≡ to + i →
     run cat lim used m (take k (take (length piece - i) (drop i piece))) ≡ record { given = (v, used + k) ∷ []; now = Ok n } →
-    Leads g l to start piece i m → run g l to start (take (i + k) piece) ≡ record { given = (v, to + (i + k)) ∷ []; now = Ok n }
+    LeadsFromStart g l to start piece i m → run g l to start (take (i + k) piece) ≡ record { given = (v, to + (i + k)) ∷ []; now = Ok n }
 leads_to_value g l to start m n piece i k used cat lim v same_catalog same_limits place e before =
     let part = take k (take (length piece - i) (drop i piece)) in
     let behind : used + k ≡ to + (i + k) = omega arith in
@@ -83,7 +83,7 @@ within_rest piece i k some within = omega (arith, length-take {A = ℕ}, length-
 -- a value that came so is what the step gives
 pub leads_to_given : (g : Catalog) (l : Limits) (to : ℕ) (start m n : Machine) (piece : List ℕ) (i k used : ℕ) (cat : Catalog) (lim : Limits) (given : Option Value) → cat ≡ g → lim ≡ l → used ≡ to + i →
     0 < k → k ≤ length (take (length piece - i) (drop i piece)) → GaveLast (run cat lim used m (take k (take (length piece - i) (drop i piece)))) (used + k) given n →
-    Leads g l to start piece i m → Advances to (run g l to start) piece (Ok (record { used = i + k; value = given })) n
+    LeadsFromStart g l to start piece i m → Advances to (run g l to start) piece (Ok (record { used = i + k; value = given })) n
 leads_to_given g l to start m n piece i k used cat lim None same_catalog same_limits place some within e before = absurd e
 leads_to_given g l to start m n piece i k used cat lim (Some v) same_catalog same_limits place some within e before =
     (within_rest piece i k some within, (omega arith, leads_to_value g l to start m n piece i k used cat lim v same_catalog same_limits place e before))

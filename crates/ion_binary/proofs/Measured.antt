@@ -25,7 +25,7 @@ pub record Counts (d n : ℕ) (a b : Measure) : Type 0 where
   pub nodes : b.nodes ≡ a.nodes + n
 
 -- there is room to count it
-pub record Room (d n : ℕ) (a : Measure) : Type 0 where
+pub record LevelsLeft (d n : ℕ) (a : Measure) : Type 0 where
   pub low : a.depth ≤ a.deepest
   pub deep : a.depth + d < 2 ^ 64
   pub many : a.nodes + n < 2 ^ 64
@@ -36,7 +36,7 @@ more_is n h = omega arith
 pub less_is : (n : ℕ) → 0 < n → n < 2 ^ 64 → less n ≡ n - 1
 less_is n h k = omega arith
 
-notes_counted : (ss : List (Option (List ℕ))) (a b : Measure) → VisitedAnnotations measuring ss a b → Room 0 (length ss) a → Counts 0 (length ss) a b
+notes_counted : (ss : List (Option (List ℕ))) (a b : Measure) → VisitedAnnotations measuring ss a b → LevelsLeft 0 (length ss) a → Counts 0 (length ss) a b
 notes_counted _ _ _ (no_annotations a) r = record { same = refl; deepest = omega (arith, r.low); nodes = omega arith }
 notes_counted _ _ _ (one_annotation ss s a m b i e) r =
     let size = length-append ss (s ∷ []) in
@@ -49,7 +49,7 @@ notes_counted _ _ _ (one_annotation ss s a m b i e) r =
     }
 
 -- what stands in brackets
-bracketed : (x : Bracket) (d n : ℕ) (a m k b : Measure) → m ≡ opened a → (Room d n m → Counts d n m k) → b ≡ closed x k → Room (suc d) (suc n) a → Counts (suc d) (suc n) a b
+bracketed : (x : Bracket) (d n : ℕ) (a m k b : Measure) → m ≡ opened a → (LevelsLeft d n m → Counts d n m k) → b ≡ closed x k → LevelsLeft (suc d) (suc n) a → Counts (suc d) (suc n) a b
 bracketed x d n a m k b o i e r =
     let up = more_is a.depth (omega (arith, r.deep)) in
     let m_depth : m.depth ≡ a.depth + 1 = ap (λ (m : Measure). m.depth) o ∙ up in
@@ -68,24 +68,24 @@ bracketed x d n a m k b o i e r =
     }
 
 -- the depth and the nodes are known by another name
-renamed : (d e n k : ℕ) (a b : Measure) → d ≡ e → n ≡ k → (Room e k a → Counts e k a b) → Room d n a → Counts d n a b
+renamed : (d e n k : ℕ) (a b : Measure) → d ≡ e → n ≡ k → (LevelsLeft e k a → Counts e k a b) → LevelsLeft d n a → Counts d n a b
 renamed d e n k a b p q f r =
     let c = f (record { low = r.low; deep = omega (arith, r.deep, p); many = omega (arith, r.many, q) }) in
     record { same = c.same; deepest = omega (arith, c.deepest, p); nodes = omega (arith, c.nodes, q) }
 
 mutual
-  pub value_counted : (v : Value) (a b : Measure) → Visited measuring v a b → Room (depth v) (nodes v) a → Counts (depth v) (nodes v) a b
+  pub value_counted : (v : Value) (a b : Measure) → Visited measuring v a b → LevelsLeft (depth v) (nodes v) a → Counts (depth v) (nodes v) a b
   value_counted _ _ _ (bare_visited p a b e) r = payload_counted p a b e r
   value_counted _ _ _ (annotated_visited ss p k a m n x y b some o i t e u) r =
       let deep = depth-annotated ss p in
       let many = nodes-annotated ss p in
-      let r0 : Room 0 (length ss) m = subst (Room 0 (length ss)) (sym o) (record { low = r.low; deep = omega (arith, r.deep); many = omega (arith, r.many, many) }) in
+      let r0 : LevelsLeft 0 (length ss) m = subst (LevelsLeft 0 (length ss)) (sym o) (record { low = r.low; deep = omega (arith, r.deep); many = omega (arith, r.many, many) }) in
       let c = notes_counted ss m n i r0 in
       let f0 = subst (λ m. Counts 0 (length ss) m x) o (subst (Counts 0 (length ss) m) (sym t) c) in
       let f = payload_counted p x y e (record { low = omega (arith, f0.same, f0.deepest, r.low); deep = omega (arith, f0.same, r.deep, deep); many = omega (arith, f0.nodes, r.many, many) }) in
       subst (Counts (depth (annotated ss p)) (nodes (annotated ss p)) a) (sym u) (record { same = f.same ∙ f0.same; deepest = omega (arith, f.deepest, f0.deepest, f0.same, deep); nodes = omega (arith, f.nodes, f0.nodes, many) })
 
-  payload_counted : (p : Payload) (a b : Measure) → VisitedPayload measuring p a b → Room (depth (bare p)) (nodes (bare p)) a → Counts (depth (bare p)) (nodes (bare p)) a b
+  payload_counted : (p : Payload) (a b : Measure) → VisitedPayload measuring p a b → LevelsLeft (depth (bare p)) (nodes (bare p)) a → Counts (depth (bare p)) (nodes (bare p)) a b
   payload_counted _ _ _ (in_one p a b i e) r =
       let flat = i.flat in
       let one = i.one in
@@ -98,7 +98,7 @@ mutual
   payload_counted _ _ _ (in_sexp vs k a m n b o i e) r = renamed _ (suc (depths vs)) _ (suc (sum (map nodes vs))) a b (depth-listed listings.Sexp vs) (nodes-listed listings.Sexp vs) (bracketed brackets.Sexp (depths vs) (sum (map nodes vs)) a m n b o (items_counted vs m n i) e) r
   payload_counted _ _ _ (in_struct ms k a m n b o i e) r = renamed _ (suc (field_depths ms)) _ (suc (sum (map field_nodes ms))) a b (depth-fields ms) (nodes-fields ms) (bracketed brackets.Fields (field_depths ms) (sum (map field_nodes ms)) a m n b o (fields_counted ms m n i) e) r
 
-  items_counted : (vs : List Value) (a b : Measure) → VisitedItems measuring vs a b → Room (depths vs) (sum (map nodes vs)) a → Counts (depths vs) (sum (map nodes vs)) a b
+  items_counted : (vs : List Value) (a b : Measure) → VisitedItems measuring vs a b → LevelsLeft (depths vs) (sum (map nodes vs)) a → Counts (depths vs) (sum (map nodes vs)) a b
   items_counted _ _ _ (no_items a) r = record { same = refl; deepest = omega (arith, r.low); nodes = omega arith }
   items_counted _ _ _ (one_item vs v a m b i e) r =
       let deep = deepest-more vs v in
@@ -107,7 +107,7 @@ mutual
       let f = value_counted v m b e (record { low = omega (arith, c.same, c.deepest, r.low); deep = omega (arith, c.same, r.deep, deep); many = omega (arith, c.nodes, r.many, many) }) in
       record { same = f.same ∙ c.same; deepest = omega (arith, f.deepest, c.deepest, c.same, deep); nodes = omega (arith, f.nodes, c.nodes, many) }
 
-  fields_counted : (ms : List Field) (a b : Measure) → VisitedFields measuring ms a b → Room (field_depths ms) (sum (map field_nodes ms)) a → Counts (field_depths ms) (sum (map field_nodes ms)) a b
+  fields_counted : (ms : List Field) (a b : Measure) → VisitedFields measuring ms a b → LevelsLeft (field_depths ms) (sum (map field_nodes ms)) a → Counts (field_depths ms) (sum (map field_nodes ms)) a b
   fields_counted _ _ _ (no_fields a) r = record { same = refl; deepest = omega (arith, r.low); nodes = omega arith }
   fields_counted _ _ _ (one_field ms s v a m n b i x e) r =
       let deep = field_deepest-more ms (field_of s v) in

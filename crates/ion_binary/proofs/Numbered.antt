@@ -15,14 +15,14 @@ longer_if : (names : Names) (s : Option (List ℕ)) (b : Bool) → length names 
 longer_if names s true = omega arith
 longer_if names s false = omega (arith, length-append names (s ∷ []))
 
-pub longer : (names ss : Names) → length names ≤ length (with_names names ss)
-longer names [] = omega arith
-longer names (s ∷ ss) = omega (arith, longer_if names s (list_any (symbol_same s) names), longer (with_name names s) ss)
+pub no_fewer : (names ss : Names) → length names ≤ length (with_names names ss)
+no_fewer names [] = omega arith
+no_fewer names (s ∷ ss) = omega (arith, longer_if names s (list_any (symbol_same s) names), no_fewer (with_name names s) ss)
 
 -- what a front of the names asks for, all of them ask for
 pub fault_more : (names ss whole : Names) (f : Fault) → with_names names ss ≡ whole → IsNumberingFault names f → IsNumberingFault whole f
 fault_more names ss whole f e (inl m) = inl m
-fault_more names ss whole f e (inr (t, l)) = inr (t, omega (arith, longer names ss, ap length e))
+fault_more names ss whole f e (inr (t, l)) = inr (t, omega (arith, no_fewer names ss, ap length e))
 
 -- the items of a list one by one
 module _ {X : Type 0} (h : X → Names) where

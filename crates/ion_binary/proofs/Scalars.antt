@@ -21,8 +21,8 @@ pub symbol_past : (c : List Slot) (id : ℕ) (r : Result ℕ Reason) → r ≡ O
 symbol_past c id r e h = ap (symbol_of c) e ∙ ap as_symbol (resolve_past c id h)
 
 -- octets in UTF-8 are a string, and others aren't
-pub text_is : (body t : List ℕ) → t ≡ body → IsUtf8 body → text_of body ≡ Ok (payloads.Str t)
-text_is body t e h = cond-true _ _ _ (is_utf8-from_IsUtf8 body h) ∙ ap (λ w. Ok (payloads.Str w)) (sym e)
+pub text_judged : (body t : List ℕ) → t ≡ body → IsUtf8 body → text_of body ≡ Ok (payloads.Str t)
+text_judged body t e h = cond-true _ _ _ (is_utf8-from_IsUtf8 body h) ∙ ap (λ w. Ok (payloads.Str w)) (sym e)
 
 no_text_by : (body : List ℕ) (b : Bool) → is_utf8 body ≡ b → ¬ (IsUtf8 body) → text_of body ≡ Err BadUtf8
 no_text_by body true e h = absurd (h (IsUtf8-from_is_utf8 body e))

@@ -28,14 +28,14 @@ digits_more n d some small =
     digits_of_step 256 (n * 256 + d) (omega arith) (omega arith)
     ∙ ap₂ (λ (a b : ℕ). digits_of 256 a ++ b ∷ []) (let e : (n * 256 + d) / 256 ≡ n = omega arith in e) (let e : (n * 256 + d) % 256 ≡ d = omega arith in e)
 
-pub one_digit : (o : ℕ) → 0 < o → o < 256 → digits_of 256 o ≡ o ∷ []
-one_digit o some small =
+pub one_digit_written : (o : ℕ) → 0 < o → o < 256 → digits_of 256 o ≡ o ∷ []
+one_digit_written o some small =
     digits_of_step 256 o (omega arith) some
     ∙ ap₂ (λ (a b : ℕ). digits_of 256 a ++ b ∷ []) (let e : o / 256 ≡ 0 = omega arith in e) (let e : o % 256 ≡ o = omega arith in e)
 
 -- what is written of a symbol whose id is one octet
 pub symbol_of_one : (front : List ℕ) (id : ℕ) → 0 < id → id < 256 → (front ++ 0x71 ∷ []) ++ id ∷ [] ≡ front ++ framed 7 (uint_octets id)
-symbol_of_one front id some small = append_assoc front (0x71 ∷ []) (id ∷ []) ∙ ap (λ d. front ++ framed 7 d) (sym (one_digit id some small))
+symbol_of_one front id some small = append_assoc front (0x71 ∷ []) (id ∷ []) ∙ ap (λ d. front ++ framed 7 d) (sym (one_digit_written id some small))
 
 -- a number of these octets, and not 0
 pub record Spells (octets : List ℕ) : Type 0 where
@@ -45,7 +45,7 @@ pub record Spells (octets : List ℕ) : Type 0 where
 spells_front : (first : ℕ) (xs : List ℕ) → 0 < first → first < 256 → AreOctets xs → (i : ℕ) → i ≤ length xs → Spells (first ∷ take i xs)
 spells_front first xs some small all zero h = record {
   some = omega (arith, positional_one 256 first);
-  digits = ap (digits_of 256) (positional_one 256 first) ∙ one_digit first some small;
+  digits = ap (digits_of 256) (positional_one 256 first) ∙ one_digit_written first some small;
 }
 spells_front first xs some small all (suc i) h =
     let s = spells_front first xs some small all i (omega arith) in

@@ -32,8 +32,8 @@ pub symbol_is : (c : List Slot) (body : List ℕ) (id : ℕ) (s : Option (List �
 symbol_is c body id s e small found =
     is_symbol s (subst (λ k. k < 2 ^ 127) e (omega arith)) (subst (λ k. resolve c k ≡ Ok s) e found)
 
-pub text_is : (c : List Slot) (body t : List ℕ) → IsUtf8 body → t ≡ body → IsScalar c body scalars.Str (payloads.Str t)
-text_is c body t good same = subst (λ w. IsScalar c body scalars.Str (payloads.Str w)) (sym same) (is_string good)
+pub text_scalar : (c : List Slot) (body t : List ℕ) → IsUtf8 body → t ≡ body → IsScalar c body scalars.Str (payloads.Str t)
+text_scalar c body t good same = subst (λ w. IsScalar c body scalars.Str (payloads.Str w)) (sym same) (is_string good)
 
 pub clob_is : (c : List Slot) (body b : List ℕ) → b ≡ body → IsScalar c body scalars.Clob (payloads.Clob b)
 clob_is c body b same = subst (λ w. IsScalar c body scalars.Clob (payloads.Clob w)) (sym same) is_clob

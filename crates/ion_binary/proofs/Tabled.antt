@@ -1,50 +1,38 @@
 -- The octets of a local symbol table, part by part.
-use Rattle.std.proofs.Common.{◌≡◌, ℕ, List, [], ◌∷◌, ◌++◌, map, Option, Some, codes, refl, ap, ◌∙◌, append-nil}
+use Rattle.std.proofs.Common.{◌≡◌, ℕ, List, ◌∷◌, [], ◌++◌, map, Option, refl, ap, ◌∙◌, append-nil}
 use Rattle.std.specs.List.{flat_map}
-use Rattle.ion_model.specs.declared.value.Field.{Field}
 use Rattle.ion_model.specs.declared.value.Payload.TheVariants as payloads
 use Rattle.ion_model.specs.declared.value.Payload.TheViews as views
-use Rattle.ion_model.specs.Measures.{Layer, bare, field_of}
+use Rattle.ion_model.specs.Measures.{Layer, bare}
 use Rattle.ion_scalar.specs.binary.Spellings.{uint_octets, var_uint_octets}
-use Rattle.ion_binary.specs.Output.{Names, id_of, framed, counted, wrapped, named, value_octets, text_of, string_value, table_value}
+use Rattle.ion_binary.specs.Output.{Names, id_of, framed, with_count, wrapped, named_octets, value_octets, name_text, string_value, table_value}
 use Rattle.ion_binary.specs.laws.writing.Output.{layer_octets, octets-out}
+use Rattle.ion_binary.specs.laws.writing.TableWritten.{table_word, imports_word, symbols_word, table_fields}
 
-abbrev table_word : Option (List ℕ)
-table_word = Some (codes "$ion_symbol_table")
+string_octets : (names : Names) (s : Option (List ℕ)) → value_octets names (string_value s) ≡ framed 8 (name_text s)
+string_octets names s = octets-out names (string_value s) ∙ ap (layer_octets names) (views.outs-Str (name_text s))
 
-abbrev imports_word : Option (List ℕ)
-imports_word = Some (codes "imports")
-
-abbrev symbols_word : Option (List ℕ)
-symbols_word = Some (codes "symbols")
-
-abbrev table_fields : Names → List Field
-table_fields more = field_of imports_word (bare (payloads.Symbol table_word)) ∷ field_of symbols_word (bare (payloads.List (map string_value more))) ∷ []
-
-string_octets : (names : Names) (s : Option (List ℕ)) → value_octets names (string_value s) ≡ framed 8 (text_of s)
-string_octets names s = octets-out names (string_value s) ∙ ap (layer_octets names) (views.outs-Str (text_of s))
-
-strings_octets : (names more : Names) → flat_map (value_octets names) (map string_value more) ≡ flat_map (λ s. framed 8 (text_of s)) more
+strings_octets : (names more : Names) → flat_map (value_octets names) (map string_value more) ≡ flat_map (λ s. framed 8 (name_text s)) more
 strings_octets names [] = refl
 strings_octets names (s ∷ more) =
-    ap (λ w. w ++ flat_map (value_octets names) (map string_value more)) (string_octets names s) ∙ ap (λ w. framed 8 (text_of s) ++ w) (strings_octets names more)
+    ap (λ w. w ++ flat_map (value_octets names) (map string_value more)) (string_octets names s) ∙ ap (λ w. framed 8 (name_text s) ++ w) (strings_octets names more)
 
 imports_octets : (names : Names) → value_octets names (bare (payloads.Symbol table_word)) ≡ framed 7 (uint_octets (id_of names table_word))
 imports_octets names = octets-out names (bare (payloads.Symbol table_word)) ∙ ap (layer_octets names) (views.outs-Symbol table_word)
 
-symbols_octets : (names more : Names) → value_octets names (bare (payloads.List (map string_value more))) ≡ framed 11 (flat_map (λ s. framed 8 (text_of s)) more)
+symbols_octets : (names more : Names) → value_octets names (bare (payloads.List (map string_value more))) ≡ framed 11 (flat_map (λ s. framed 8 (name_text s)) more)
 symbols_octets names more =
     octets-out names (bare (payloads.List (map string_value more))) ∙ (ap (layer_octets names) (views.outs-List (map string_value more)) ∙ ap (framed 11) (strings_octets names more))
 
 -- the octets of a table behind what names the context so far
 pub table_is : (names more : Names) (base : ℕ) → base ≡ id_of names table_word → value_octets names (table_value more)
-    ≡ framed 14 (counted (var_uint_octets base) ++ framed 13 (named names imports_word (framed 7 (uint_octets base)) ++ named names symbols_word (framed 11 (flat_map (λ s. framed 8 (text_of s)) more))))
+    ≡ framed 14 (with_count (var_uint_octets base) ++ framed 13 (named_octets names imports_word (framed 7 (uint_octets base)) ++ named_octets names symbols_word (framed 11 (flat_map (λ s. framed 8 (name_text s)) more))))
 table_is names more base e =
     let ids = var_uint_octets (id_of names table_word) in
     let imports = value_octets names (bare (payloads.Symbol table_word)) in
     let symbols = value_octets names (bare (payloads.List (map string_value more))) in
     octets-out names (table_value more)
     ∙ (ap (λ (d : Layer). wrapped names (table_word ∷ []) (layer_octets names d)) (views.outs-Fields (table_fields more))
-    ∙ (ap (λ w. framed 14 (counted w ++ framed 13 (named names imports_word imports ++ (named names symbols_word symbols ++ [])))) (append-nil ids)
-    ∙ (ap (λ w. framed 14 (counted ids ++ framed 13 (named names imports_word imports ++ w))) (append-nil (named names symbols_word symbols))
+    ∙ (ap (λ w. framed 14 (with_count w ++ framed 13 (named_octets names imports_word imports ++ (named_octets names symbols_word symbols ++ [])))) (append-nil ids)
+    ∙ (ap (λ w. framed 14 (with_count ids ++ framed 13 (named_octets names imports_word imports ++ w))) (append-nil (named_octets names symbols_word symbols))
     ∙ rw (imports_octets names, symbols_octets names more, e) refl)))

@@ -16,7 +16,7 @@ use Rattle.ion_model.specs.Measures.{bare, annotated, field_of}
 use Rattle.ion_scalar.specs.binary.Spellings.{var_uint_octets}
 use Rattle.ion_binary.specs.declared.transcription.Transcription.{Transcription}
 use Rattle.ion_visiting.specs.Visits.{Visited, bare_visited, annotated_visited, VisitedPayload, in_one, in_list, in_sexp, in_struct, VisitedItems, no_items, one_item, VisitedFields, no_fields, one_field, VisitedAnnotations, no_annotations, one_annotation}
-use Rattle.ion_binary.specs.Output.{Names, id_of, with_name, with_names, names_after, symbols_of, value_octets, framed, counted, ids_octets, null_octet, truth_octet}
+use Rattle.ion_binary.specs.Output.{Names, id_of, with_name, with_names, names_after, symbols_of, value_octets, framed, with_count, ids_octets, null_octet, truth_octet}
 use Rattle.ion_binary.specs.visiting.Transcribing.{transcribing, AddsPart, AddsId, AddsPlace, Frames}
 use Rattle.ion_binary.specs.laws.writing.Output.{layer_octets, layer_symbols, field_octets, field_symbols}
 use Rattle.ion_binary.specs.machine.Transcribed.{Named, Transcribed}
@@ -92,10 +92,10 @@ module _ {S H : Type 0} (N : Names) where
         let v = annotated ss p in
         let layer = layer_octets N (views.out-Payload p) in
         let c = notes_written ss m n i (o.names ∙ e) in
-        let turned : x.out.items ≡ m.out.items ++ counted (ids_octets N ss) = counted_behind k a.out.items (ids_octets N ss) m.out.items n.out.items x.out.items o.place o.octets c.wrote.octets t.octets in
+        let turned : x.out.items ≡ m.out.items ++ with_count (ids_octets N ss) = counted_behind k a.out.items (ids_octets N ss) m.out.items n.out.items x.out.items o.place o.octets c.wrote.octets t.octets in
         let f = payload_written p x y j (t.names ∙ c.wrote.names) in
-        let all : Wrote m y (counted (ids_octets N ss) ++ layer) = record { names = f.wrote.names; octets = f.wrote.octets ∙ (ap (λ w. w ++ layer) turned ∙ append_assoc m.out.items (counted (ids_octets N ss)) layer) } in
-        let whole = framed_behind 14 k a m y b (counted (ids_octets N ss) ++ layer) o all u in
+        let all : Wrote m y (with_count (ids_octets N ss) ++ layer) = record { names = f.wrote.names; octets = f.wrote.octets ∙ (ap (λ w. w ++ layer) turned ∙ append_assoc m.out.items (with_count (ids_octets N ss)) layer) } in
+        let whole = framed_behind 14 k a m y b (with_count (ids_octets N ss) ++ layer) o all u in
         record {
           kept = kepts.kept ss p c.kept f.kept;
           named = sym (of_value N v) ∙ (ap (λ (n : Names). with_names n (layer_symbols (views.out-Payload p))) c.named ∙ f.named);

@@ -19,7 +19,7 @@ use Rattle.ion_atoms.specs.Timestamps.{TimestampParts}
 use Rattle.ion_symtab.specs.Slots.{Slot, resolve}
 use Rattle.ion_binary.specs.declared.form.Scalar.{Scalar}
 use Rattle.ion_binary.specs.Grammar.{IsScalar, is_int, is_negative, is_decimal, is_timestamp, is_symbol, is_string, is_clob, is_blob}
-use Rattle.ion_binary.specs.Output.{Names, with_name, with_names, framed, counted, whole_octets}
+use Rattle.ion_binary.specs.Output.{Names, with_name, with_names, framed, with_count, whole_octets}
 use Rattle.ion_binary.specs.laws.writing.Output.{layer_octets, layer_symbols}
 use Rattle.ion_binary.specs.laws.reading.GivesKept.{negative_whole}
 use Rattle.ion_binary.specs.machine.Transcribed.{Named, HasId, TranscribedScalar}
@@ -46,7 +46,7 @@ pub written_more : {X : Type 0} (f : X → List ℕ) (first now later : List ℕ
 written_more f first now later xs x e h = h ∙ (ap (λ w. w ++ f x) e ∙ flat_map_more f first xs x)
 
 -- the number of the octets behind an octet is put before them
-pub counted_behind : (place : ℕ) (first body at mid new : List ℕ) → place ≡ length first → at ≡ first ++ 0 ∷ [] → mid ≡ at ++ body → new ≡ take (place + 1) mid ++ counted (drop (place + 1) mid) → new ≡ at ++ counted body
+pub counted_behind : (place : ℕ) (first body at mid new : List ℕ) → place ≡ length first → at ≡ first ++ 0 ∷ [] → mid ≡ at ++ body → new ≡ take (place + 1) mid ++ with_count (drop (place + 1) mid) → new ≡ at ++ with_count body
 counted_behind place first body at mid new p a m e =
     let here : place + 1 ≡ length at = omega (arith, p, ap length a, length-append first (0 ∷ [])) in
     let behind : drop (length at) (at ++ body) ≡ body = ap (λ (k : ℕ). drop k (at ++ body)) (let z : length at ≡ length at + 0 = omega arith in z) ∙ drop-append-add at body 0 in

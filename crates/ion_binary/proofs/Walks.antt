@@ -30,7 +30,7 @@ use Rattle.ion_binary.specs.declared.state.Phase.{Phase}
 use Rattle.ion_binary.specs.declared.state.Phase.TheVariants.{Ready}
 use Rattle.ion_binary.specs.machine.EachOctet.{Spot, under, moved, anew, at, deliver, gives, levels, unfit}
 use Rattle.ion_binary.specs.machine.Run.{run, Advances}
-use Rattle.ion_binary.specs.machine.Pieces.{after}
+use Rattle.ion_binary.specs.machine.Pieces.{run_after}
 use Rattle.ion_binary.proofs.Insides.{with_phase}
 use Rattle.ion_binary.proofs.Slotted.{int_is, negative_is, decimal_is, timestamp_is, symbol_is}
 use Rattle.ion_binary.proofs.Wholes.{whole_runs, whole_some}
@@ -118,7 +118,7 @@ walk_gives g l spot fs kept phase piece n e none within v is deep given fits =
       within,
       (
         whole_some spot.context piece n v is,
-        whole_runs g l spot fs kept phase piece n v e within is fits room ∙ ap (after (spot.used + n)) gives
+        whole_runs g l spot fs kept phase piece n v e within is fits room ∙ ap (run_after (spot.used + n)) gives
             ∙ ap (λ p. record { given = (v, spot.used + n) ∷ []; now = Ok (with_phase (anew (spot.used + n) spot.context) fs kept p) }) (sym e),
       ),
     )

@@ -29,13 +29,13 @@ use Rattle.ion_binary.specs.declared.state.Phase.{Phase}
 use Rattle.ion_binary.specs.declared.state.Phase.TheVariants.{Ready}
 use Rattle.ion_binary.specs.Opening.{opening_of}
 use Rattle.ion_binary.specs.Grammar.{Header, listed, IsScalar, Plain, is_null, is_truth, is_scalar, is_listing, is_struct, is_ordered, Binary, unannotated, wrapped, Ids, one_id, IsPad, Sequence, one_more, padded, Fields, one_field, padded_field}
-use Rattle.ion_binary.specs.machine.Framed.{Heads, Framed, IsListing, IsStruct, Wraps}
+use Rattle.ion_binary.specs.machine.Framed.{Heads, Framed, IsListing, IsStructBody, WrapsAs}
 use Rattle.ion_binary.specs.Depths.{depths, field_depths}
 use Rattle.ion_binary.specs.laws.reading.Complete.{depth-listed, depth-fields, depth-annotated, field_deepest-more, binary_run, binary_some}
 use Rattle.ion_binary.specs.machine.EachOctet.{Spot, under, moved, deliver, levels, unfit, or_else, misfits, stray, nameless}
 use Rattle.ion_binary.specs.laws.reading.Sound.{ends_back, misfits_ends}
 use Rattle.ion_binary.specs.machine.Run.{run}
-use Rattle.ion_binary.specs.machine.Pieces.{after}
+use Rattle.ion_binary.specs.machine.Pieces.{run_after}
 use Rattle.ion_binary.proofs.Insides.{with_phase}
 
 -- octets of a slice
@@ -97,10 +97,10 @@ framed_scalar c form t body p e i h d = is_scalar h body t p (subst (λ f. Heade
 pub framed_listing : (c : List Slot) (form : Form) (x : Listing) (body : List ℕ) (p : Payload) → form ≡ forms.Listing x → IsListing c x body p → Framed c form body p
 framed_listing c form x body p e l h d = subst (Plain c (h ++ body)) (sym l.same) (is_listing h body x l.values (subst (λ f. Header f (length body) h) e d) l.items)
 
-pub framed_struct : (c : List Slot) (form : Form) (body : List ℕ) (p : Payload) → form ≡ forms.Struct → IsStruct c body p → Framed c form body p
+pub framed_struct : (c : List Slot) (form : Form) (body : List ℕ) (p : Payload) → form ≡ forms.Struct → IsStructBody c body p → Framed c form body p
 framed_struct c form body p e l h d = subst (Plain c (h ++ body)) (sym l.same) (is_struct h body l.fields (subst (λ f. Header f (length body) h) e d) l.items)
 
-pub framed_ordered : (c : List Slot) (form : Form) (body : List ℕ) (p : Payload) → form ≡ forms.OrderedStruct → 0 < length body → IsStruct c body p → Framed c form body p
+pub framed_ordered : (c : List Slot) (form : Form) (body : List ℕ) (p : Payload) → form ≡ forms.OrderedStruct → 0 < length body → IsStructBody c body p → Framed c form body p
 framed_ordered c form body p e some l h d = subst (Plain c (h ++ body)) (sym l.same) (is_ordered h body l.fields (subst (λ f. Header f (length body) h) e d) some l.items)
 
 -- a value without annotations
@@ -172,7 +172,7 @@ last_was xs new b d n e l =
 
 -- wrappers
 pub wraps : (c : List Slot) (body ids inner : List ℕ) (used size n : ℕ) (ss : List (Option (List ℕ))) (p : Payload) → ids ≡ take size (drop used body) → inner ≡ drop (used + size) body → VarUInt (take used body) size → 0 < size → used + size ≤ length body
-    → Ids c ids ss → Plain c (take n inner) p → length inner ≤ n → Wraps c body (annotated ss p)
+    → Ids c ids ss → Plain c (take n inner) p → length inner ≤ n → WrapsAs c body (annotated ss p)
 wraps c body ids inner used size n ss p ei en v some fits i b all h d =
     let cut : length (take size (drop used body)) ≡ size = grind (arith, common_steps) in
     let size_ids : length ids ≡ size = ap length ei ∙ cut in
@@ -189,7 +189,7 @@ either_none None p h = (refl, h)
 either_none (Some e) p h = absurd cc
 
 pub whole_runs : (g : Catalog) (l : Limits) (spot : Spot) (fs : List Frame) (kept : List ℕ) (phase : Phase) (piece : List ℕ) (n : ℕ) (v : Value) → phase ≡ Ready → n ≤ length piece → Binary spot.context (take n piece) v → unfit l.item spot.start fs forms.Wrapper (spot.used + n) ≡ None → depth v + levels fs ≤ l.depth
-    → run g l spot.used (with_phase spot fs kept phase) (take n piece) ≡ after (spot.used + n) (deliver (under g l) (moved spot (spot.used + n)) fs v)
+    → run g l spot.used (with_phase spot fs kept phase) (take n piece) ≡ run_after (spot.used + n) (deliver (under g l) (moved spot (spot.used + n)) fs v)
 whole_runs g l spot fs kept phase piece n v e within b fits deep =
     let size = length-take-le n piece within in
     let first = either_none (stray fs forms.Wrapper) (or_else (misfits l.item spot.start fs forms.Wrapper (spot.used + n)) (nameless fs forms.Wrapper)) fits in

@@ -12,7 +12,7 @@ use Rattle.ion_atoms.specs.declared.refusal.Reason.TheVariants.{TooLarge, Malfor
 use Rattle.ion_atoms.specs.Reasons.{reason_number}
 use Rattle.ion_scalar.specs.declared.descriptor.Size.{Size}
 use Rattle.ion_scalar.specs.declared.descriptor.Size.TheVariants.{Known, Follows}
-use Rattle.ion_scalar.specs.binary.Fields.{positional, Digits, VarUInt, seven_bits}
+use Rattle.ion_scalar.specs.binary.Fields.{positional, Digits128, VarUInt, seven_bits}
 use Rattle.ion_symtab.specs.declared.limits.Limits.{Limits}
 use Rattle.ion_symtab.specs.declared.catalog.Catalog.{Catalog}
 use Rattle.ion_symtab.specs.Slots.{Slot, resolve}
@@ -40,19 +40,19 @@ pub data Container : Type 0 where
   -- a wrapper, behind its annotations
   Noted : ℕ → Container
 
-abbrev pub end_of : Container → ℕ
-end_of (Items end) = end
-end_of (Names end) = end
-end_of (Named end id) = end
-end_of (Noted end) = end
+abbrev pub container_end : Container → ℕ
+container_end (Items end) = end
+container_end (Names end) = end
+container_end (Named end id) = end
+container_end (Noted end) = end
 
 -- how many of them are lists, s-expressions and structs
-abbrev pub levels : List Container → ℕ
-levels [] = 0
-levels (Noted end ∷ ks) = levels ks
-levels (Items end ∷ ks) = suc (levels ks)
-levels (Names end ∷ ks) = suc (levels ks)
-levels (Named end id ∷ ks) = suc (levels ks)
+abbrev pub container_levels : List Container → ℕ
+container_levels [] = 0
+container_levels (Noted end ∷ ks) = container_levels ks
+container_levels (Items end ∷ ks) = suc (container_levels ks)
+container_levels (Names end ∷ ks) = suc (container_levels ks)
+container_levels (Named end id ∷ ks) = suc (container_levels ks)
 
 -- a descriptor comes next, and not a field's name
 abbrev pub TakesValue : List Container → Type 0
@@ -71,7 +71,7 @@ MayBegin c _ pad wrapper = Unit {0}
 abbrev pub MayReach : Limits → ℕ → List Container → Bool → ℕ → Type 0
 MayReach l start [] pad to = pad ≡ false → to ≤ start + l.item
 MayReach l start (Noted end ∷ ks) pad to = to ≡ end
-MayReach l start (k ∷ ks) pad to = to ≤ end_of k
+MayReach l start (k ∷ ks) pad to = to ≤ container_end k
 
 -- behind octets that Outer describes, in the containers ks, the header of a body that ends with the octet `end` and may do so
 pub record Headed (l : Limits) (c : List Slot) (start : ℕ) (Outer : List ℕ → Type 0) (ks : List Container) (form : Form) (end : ℕ) (u : List ℕ) : Type 0 where
@@ -100,7 +100,7 @@ pub record InStruct (l : Limits) (c : List Slot) (start : ℕ) (Outer : List ℕ
   pub headed : Headed l c start Outer ks form end front
   pub struct : IsStruct form
   pub come : Fields c body fields
-  pub deep : field_depths fields + suc (levels ks) ≤ l.depth
+  pub deep : field_depths fields + suc (container_levels ks) ≤ l.depth
   pub more : length u < end
 
 -- The octets u are whole pieces, and behind them these containers stand open, the innermost first; of each some octets are still to come.
@@ -116,7 +116,7 @@ Open g l c start (Items end ∷ ks) u =
       parts : u ≡ front ++ body;
       headed : Headed l c start (Open g l c start ks) ks (forms.Listing listing) end front;
       come : Sequence c body items;
-      deep : depths items + suc (levels ks) ≤ l.depth;
+      deep : depths items + suc (container_levels ks) ≤ l.depth;
       more : length u < end;
     }
 Open g l c start (Names end ∷ ks) u = InStruct l c start (Open g l c start ks) ks end u
@@ -171,7 +171,7 @@ module _ (g : Catalog) (l : Limits) (c : List Slot) (start : ℕ) where
 
   -- the octet with which it must have ended; the length of an item or a pad at the top level has none such
   pub data LastOctet : List Container → Number → ℕ → Type 0 where
-    of_container : (k : Container) (ks : List Container) (form : Form) → LastOctet (k ∷ ks) (Length form) (end_of k)
+    of_container : (k : Container) (ks : List Container) (form : Form) → LastOctet (k ∷ ks) (Length form) (container_end k)
     of_struct : (end : ℕ) (ks : List Container) → LastOctet (Names end ∷ ks) Name end
     of_wrapper : (ks : List Container) (end : ℕ) → LastOctet ks (Count end) end
     of_annotations : (ks : List Container) (stop : ℕ) → LastOctet ks (Id stop) stop
@@ -187,7 +187,7 @@ module _ (g : Catalog) (l : Limits) (c : List Slot) (start : ℕ) where
     pub digits : List ℕ
     pub parts : u ≡ before ++ digits
     pub comes : Before ks p before
-    pub small : Digits digits
+    pub small : Digits128 digits
     pub value : a ≡ positional 128 digits
     pub bound : a < 2 ^ 63
     pub goes_on : MayGoOn ks p (length u)
@@ -249,7 +249,7 @@ pub data Decides (g : Catalog) (l : Limits) : List ℕ → Reason → Type 0 whe
       → Decides g l (u ++ b ∷ []) TooLarge
   -- | a length past its container, one that doesn't fill its wrapper, 0 behind `D1`, `Depth`, `ItemTooLong` | the last octet of the length, or the descriptor if none follows |
   past_container : (c : List Slot) (start : ℕ) (k : Container) (ks : List Container) (pad : Bool) (to : ℕ) (u : List ℕ)
-      → Reaches g l c start (k ∷ ks) pad to u → end_of k < to
+      → Reaches g l c start (k ∷ ks) pad to u → container_end k < to
       → Decides g l u Malformed
   wrapper_unfilled : (c : List Slot) (start end : ℕ) (ks : List Container) (pad : Bool) (to : ℕ) (u : List ℕ)
       → Reaches g l c start (Noted end ∷ ks) pad to u → to < end
@@ -257,7 +257,7 @@ pub data Decides (g : Catalog) (l : Limits) : List ℕ → Reason → Type 0 whe
   no_fields : (c : List Slot) (start : ℕ) (ks : List Container) (u : List ℕ) → EndsHeader g l c start ks forms.OrderedStruct 0 u
       → Decides g l u Malformed
   too_deep : (c : List Slot) (start : ℕ) (ks : List Container) (form : Form) (n : ℕ) (u : List ℕ)
-      → EndsHeader g l c start ks form n u → IsContainer form → l.depth ≤ levels ks
+      → EndsHeader g l c start ks form n u → IsContainer form → l.depth ≤ container_levels ks
       → Decides g l u Depth
   too_long : (c : List Slot) (start to : ℕ) (u : List ℕ) → Reaches g l c start [] false to u → start + l.item < to
       → Decides g l u ItemTooLong
@@ -276,7 +276,7 @@ pub data Decides (g : Catalog) (l : Limits) : List ℕ → Reason → Type 0 whe
       → InNumber g l c start ks p a u → b < 128 → LastOctet g l c start ks p last → last ≤ length u + 1
       → Decides g l (u ++ b ∷ []) Malformed
   no_length : (c : List Slot) (start : ℕ) (k : Container) (ks : List Container) (u : List ℕ) (b : ℕ) (form : Form)
-      → Open g l c start (k ∷ ks) u → TakesValue (k ∷ ks) → opening_of b ≡ Sized form Follows → end_of k ≤ length u + 1
+      → Open g l c start (k ∷ ks) u → TakesValue (k ∷ ks) → opening_of b ≡ Sized form Follows → container_end k ≤ length u + 1
       → Decides g l (u ++ b ∷ []) Malformed
   no_count : (c : List Slot) (start : ℕ) (ks : List Container) (u : List ℕ) → EndsHeader g l c start ks forms.Wrapper 0 u
       → Decides g l u Malformed

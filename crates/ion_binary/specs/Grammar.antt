@@ -10,7 +10,7 @@ use Rattle.ion_atoms.specs.Decimals.{DecimalParts, IsDecimal}
 use Rattle.ion_atoms.specs.Timestamps.{TimestampParts}
 use Rattle.ion_model.specs.Measures.{depth, bare, annotated, field_of}
 use Rattle.ion_model.specs.Kinds.{is_table}
-use Rattle.ion_scalar.specs.binary.Fields.{positional, Digits, VarUInt}
+use Rattle.ion_scalar.specs.binary.Fields.{positional, Digits128, VarUInt}
 use Rattle.ion_scalar.specs.binary.Decimal.{IsDecimalField}
 use Rattle.ion_scalar.specs.binary.Timestamp.{IsTimestampBody}
 use Rattle.ion_scalar.specs.declared.descriptor.Size.TheVariants.{Known, Follows}
@@ -111,5 +111,5 @@ pub data Whole (g : Catalog) (l : Limits) : List ℕ → List Value → Type 0 w
 pub data OpenRest (l : Limits) : List ℕ → Type 0 where
   of_marker : (w : List ℕ) → length w ≤ 3 → OpenRest l w
   of_item : (w : List ℕ) → length w ≤ l.item → OpenRest l w
-  of_pad_length : (b : ℕ) (w : List ℕ) → opening_of b ≡ Sized forms.Pad Follows → Digits w → positional 128 w < 2 ^ 63 → OpenRest l (b ∷ w)
+  of_pad_length : (b : ℕ) (w : List ℕ) → opening_of b ≡ Sized forms.Pad Follows → Digits128 w → positional 128 w < 2 ^ 63 → OpenRest l (b ∷ w)
   of_pad : (h body : List ℕ) (n : ℕ) → Header forms.Pad n h → length body < n → OpenRest l (h ++ body)

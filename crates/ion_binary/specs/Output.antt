@@ -56,8 +56,8 @@ abbrev pub framed : ℕ → List ℕ → List ℕ
 framed code body = header code (length body) ++ body
 
 -- octets behind their number
-abbrev pub counted : List ℕ → List ℕ
-counted w = var_uint_octets (length w) ++ w
+abbrev pub with_count : List ℕ → List ℕ
+with_count w = var_uint_octets (length w) ++ w
 
 abbrev pub null_octet : Kind → ℕ
 null_octet kinds.Null = 0x0F
@@ -89,11 +89,11 @@ ids_octets names ss = flat_map (λ s. var_uint_octets (id_of names s)) ss
 -- annotations before the octets of a payload: a wrapper, or nothing where there are none
 abbrev pub wrapped : Names → List (Option (List ℕ)) → List ℕ → List ℕ
 wrapped names [] w = w
-wrapped names (s ∷ ss) w = framed 14 (counted (ids_octets names (s ∷ ss)) ++ w)
+wrapped names (s ∷ ss) w = framed 14 (with_count (ids_octets names (s ∷ ss)) ++ w)
 
 -- the id of a field's name before the octets of its value
-abbrev pub named : Names → Option (List ℕ) → List ℕ → List ℕ
-named names s w = var_uint_octets (id_of names s) ++ w
+abbrev pub named_octets : Names → Option (List ℕ) → List ℕ → List ℕ
+named_octets names s w = var_uint_octets (id_of names s) ++ w
 
 -- of one level, in which each value inside is its octets already
 abbrev pub octets_step : Names → Payload-F (List ℕ) (List ℕ) (List ℕ) → List ℕ
@@ -112,17 +112,17 @@ octets_step names (Payload-F.Fields fs) = framed 13 (flat_map (λ w. w) fs)
 
 -- the octets of a value whose symbols have these ids
 unfoldable pub value_octets : Names → Value → List ℕ
-value_octets names v = fold-Value (List ℕ) (List ℕ) (List ℕ) (octets_step names) (λ f. named names f.name f.value) (λ v. wrapped names v.annotations v.payload) v
+value_octets names v = fold-Value (List ℕ) (List ℕ) (List ℕ) (octets_step names) (λ f. named_octets names f.name f.value) (λ v. wrapped names v.annotations v.payload) v
 
 -- 3. Tables ("Local Symbol Tables").
 
 -- a name as an element of `symbols`
-abbrev pub text_of : Option (List ℕ) → List ℕ
-text_of None = []
-text_of (Some t) = t
+abbrev pub name_text : Option (List ℕ) → List ℕ
+name_text None = []
+name_text (Some t) = t
 
 abbrev pub string_value : Option (List ℕ) → Value
-string_value s = bare (payloads.Str (text_of s))
+string_value s = bare (payloads.Str (name_text s))
 
 -- the local symbol table that appends these names
 abbrev pub table_value : Names → Value

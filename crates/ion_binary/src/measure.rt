@@ -1,6 +1,6 @@
 //! The visitor that counts the outline of a value: kind, depth and number of nodes.
 ghost use Rattle.std.specs.Prelude.{◌≡◌, ◌+◌, ◌-◌, ◌≤◌, ◌<◌, ◌^◌, ◌%◌, max};
-ghost use Rattle.ion_binary.specs.visiting.Measuring.{measuring, counted, opened, closed};
+ghost use Rattle.ion_binary.specs.visiting.Measuring.{measuring, counted_node, opened, closed};
 
 use crate::form::{Form, Scalar, kind_in, kind_of};
 use crate::visitor::Visitor;
@@ -56,7 +56,7 @@ impl Measure {
     /// Counts the node of a value of this kind.
     #[inline(always)]
     fn count(&mut self, kind: Kind)
-        ensures { self.new ≡ counted kind self.old }
+        ensures { self.new ≡ counted_node kind self.old }
     {
         self.kind = kind;
         self.nodes = self.nodes.wrapping_add(1);

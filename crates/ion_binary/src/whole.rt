@@ -6,7 +6,7 @@ ghost use Rattle.ion_scalar.specs.binary.Fields.{VarUInt};
 ghost use Rattle.ion_binary.specs.Opening.{opening_of};
 ghost use Rattle.ion_binary.specs.Grammar.{listed, Ids, IsPad, Plain, Binary, Fields, Sequence as Items};
 ghost use Rattle.ion_binary.specs.Depths.{depths, field_depths};
-ghost use Rattle.ion_binary.specs.machine.Framed.{Heads, Framed, Wraps, IsListing, IsStruct};
+ghost use Rattle.ion_binary.specs.machine.Framed.{Heads, Framed, WrapsAs, IsListing, IsStructBody};
 
 use crate::form::{Form, Listing, Opening, opening_of};
 use crate::slots::{put, put_scalar};
@@ -188,7 +188,7 @@ pub(crate) fn whole_value(
 #[cycle(whole)]
 #[inline(never)]
 fn wrapped(alloc: Global, context: &Context, body: &[u8], level: u32, slot: &mut Value) -> bool
-    ensures value { result ≡ true → Wraps context.now body.now slot.new }
+    ensures value { result ≡ true → WrapsAs context.now body.now slot.new }
     ensures depth { result ≡ true → depth slot.new ≤ level }
 {
     let Some((size, used)) = number(body) else {
@@ -346,7 +346,7 @@ fn gather_items(
 #[cycle(whole)]
 #[inline(never)]
 fn fields(alloc: Global, context: &Context, body: &[u8], level: u32, slot: &mut Payload) -> bool
-    ensures value { result ≡ true → IsStruct context.now body.now slot.new }
+    ensures value { result ≡ true → IsStructBody context.now body.now slot.new }
     ensures depth { result ≡ true → depth (bare slot.new) ≤ level }
 {
     let mut rows: Vec<Field> = Vec::new(alloc);

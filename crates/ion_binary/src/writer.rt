@@ -117,7 +117,7 @@ impl<S: BuildHasher + Drop> BinaryWriter<S> {
             return Err(fault);
         }
         let answer = self.put_next(out, value);
-        self.note(answer)
+        self.note_fault(answer)
     }
 
     /// Writes the value that these octets are, of at most so many levels, without building it; its ids stand
@@ -148,7 +148,7 @@ impl<S: BuildHasher + Drop> BinaryWriter<S> {
         }
         let answer = put_opened(out, self.begun, &self.octets);
         self.begun = true;
-        Some(self.note(answer))
+        Some(self.note_fault(answer))
     }
 
     /// Writes the version marker where no value was put, and makes the device pass on all that it took.
@@ -173,7 +173,7 @@ impl<S: BuildHasher + Drop> BinaryWriter<S> {
     }
 
     // Keeps a fault for the later calls.
-    fn note(&mut self, answer: Result<(), Fault>) -> Result<(), Fault>
+    fn note_fault(&mut self, answer: Result<(), Fault>) -> Result<(), Fault>
         ensures answer { result ≡ answer }
         ensures failed { IfErr result (λ fault. self.new.failed ≡ Some fault) }
         ensures kept { OnOk result (self.new ≡ self.old) }

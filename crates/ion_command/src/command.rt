@@ -175,7 +175,7 @@ fn answer<N: Sources, H: Hashers, O: Outlet, E: Outlet>(
         (H.refuses hashers.now) ⟦<DocReader<'static> as Items>⟧ O.Outlet E.Outlet
         (Option.Some (told request.now)) out.old out.new err.old err.new (code_of result) }
 {
-    match carry_out(alloc, request, sources, hashers, out) {
+    match with_catalog(alloc, request, sources, hashers, out) {
         Ok(Ending::Accepted) => Status::Accepted,
         Ok(Ending::Different) => Status::Different,
         Ok(Ending::Refused(whose, refusal)) => tell_refusal(alloc, whose, refusal, err),
@@ -184,7 +184,7 @@ fn answer<N: Sources, H: Hashers, O: Outlet, E: Outlet>(
 }
 
 /// Does what is asked for under the catalog, which is opened and loaded first.
-fn carry_out<N: Sources, H: Hashers, O: Outlet>(
+fn with_catalog<N: Sources, H: Hashers, O: Outlet>(
     alloc: Global,
     request: &Request<'_>,
     sources: &mut N,

@@ -1,6 +1,6 @@
 //! The parts of decimal tokens (Ion 1.0, "Ion Text Encoding" and its grammar, decimals).
 ghost use Rattle.std.specs.Prelude.{Bool, ℕ, ℤ, ◌≡◌, ◌<◌, ◌≤◌, ◌^◌, ◌++◌, List, length, take, min, pos, ◌-ℤ◌, IfSome, IfNone};
-ghost use Rattle.ion_scalar.specs.text.Ints.{number, GoesNotOn, IsWhole};
+ghost use Rattle.ion_scalar.specs.text.Ints.{number, GoesNotOn, IsWholePart};
 ghost use Rattle.ion_scalar.specs.text.Decimals.{signed, IsPlain, IsSigned, IsExponent, IsEnd, IsFraction, IsTail, IsPower, Shows};
 
 use crate::digits::{Digits, all_digits, digits_at};
@@ -151,10 +151,10 @@ pub fn tail_of(tail: &[u8], before: u128) -> Option<Tail>
 /// The whole part at the front: `0`, or digits that begin with 1 to 9.
 pub fn whole_of(body: &[u8]) -> Option<Digits>
     ensures within { IfSome result (λ d. d.used ≤ length body.now) }
-    ensures whole { IfSome result (λ d. IsWhole (take d.used body.now)) }
+    ensures whole { IfSome result (λ d. IsWholePart (take d.used body.now)) }
     ensures value { IfSome result (λ d. d.value ≡ min (number 10 (take d.used body.now)) (2 ^ 127)) }
-    ensures only { IfSome result (λ d. (w t : List ℕ) → body.now ≡ w ++ t → IsWhole w → GoesNotOn 10 t → w ≡ take d.used body.now) }
-    ensures none { IfNone result ((w t : List ℕ) → body.now ≡ w ++ t → IsWhole w → GoesNotOn 10 t → ⊥) }
+    ensures only { IfSome result (λ d. (w t : List ℕ) → body.now ≡ w ++ t → IsWholePart w → GoesNotOn 10 t → w ≡ take d.used body.now) }
+    ensures none { IfNone result ((w t : List ℕ) → body.now ≡ w ++ t → IsWholePart w → GoesNotOn 10 t → ⊥) }
 {
     let digits = digits_at(body, 10, 0);
     if digits.used == 0 {

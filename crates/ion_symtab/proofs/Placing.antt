@@ -5,21 +5,21 @@ use Rattle.std.specs.Cmp.Lexicographic.{bytes_decides}
 use Rattle.std.specs.BTreeMap.{get, get_by_text}
 use Rattle.std.specs.Map.{update}
 use Rattle.std.specs.Ordering.{nat_cmp}
-use Rattle.ion_symtab.specs.kept.Places.{version_of, newest_among}
+use Rattle.ion_symtab.specs.kept.Places.{version_kept, newest_among}
 use Rattle.ion_symtab.specs.declared.places.Versions.{Versions}
 
 -- the versions of a name have one place more
 abbrev HasOneMore : Option Versions → Versions → ℕ → ℕ → Type 0
-HasOneMore before after version place = (v : ℕ) → get nat_cmp after.places v ≡ cond (version == v) (Some place) (version_of before v)
+HasOneMore before after version place = (v : ℕ) → get nat_cmp after.places v ≡ cond (version == v) (Some place) (version_kept before v)
 
 placed_at : (before other : Option Versions) (after : Versions) (version place v : ℕ) (same : Bool) → HasOneMore before after version place → (same ≡ true → other ≡ before) →
-    version_of (cond same (Some after) other) v ≡ cond (same && (version == v)) (Some place) (version_of other v)
-placed_at before other after version place v true h s = h v ∙ ap (λ o. cond (version == v) (Some place) (version_of o v)) (sym (s refl))
+    version_kept (cond same (Some after) other) v ≡ cond (same && (version == v)) (Some place) (version_kept other v)
+placed_at before other after version place v true h s = h v ∙ ap (λ o. cond (version == v) (Some place) (version_kept o v)) (sym (s refl))
 placed_at before other after version place v false h s = refl
 
-placed_as : (before other : Option Versions) (after : Versions) (v : ℕ) (same : Bool) → get nat_cmp after.places v ≡ version_of before v → (same ≡ true → other ≡ before) →
-    version_of (cond same (Some after) other) v ≡ version_of other v
-placed_as before other after v true h s = h ∙ ap (λ o. version_of o v) (sym (s refl))
+placed_as : (before other : Option Versions) (after : Versions) (v : ℕ) (same : Bool) → get nat_cmp after.places v ≡ version_kept before v → (same ≡ true → other ≡ before) →
+    version_kept (cond same (Some after) other) v ≡ version_kept other v
+placed_as before other after v true h s = h ∙ ap (λ o. version_kept o v) (sym (s refl))
 placed_as before other after v false h s = refl
 
 newest_as : (before other : Option Versions) (after : Versions) (same : Bool) → Some after.newest ≡ newest_among before → (same ≡ true → other ≡ before) →
@@ -37,14 +37,14 @@ module _ {Y : Type 0} (old new : BTreeMap (String Y) Versions) (name : List ℕ)
   same_name q e = ap (get_by_text old) (sym ((bytes_decides name q).0 e))
 
   pub placed : (version place : ℕ) → HasOneMore (get_by_text old name) after version place → (q : List ℕ) (v : ℕ) →
-      version_of (get_by_text new q) v ≡ cond (bytes_eq name q && (version == v)) (Some place) (version_of (get_by_text old q) v)
+      version_kept (get_by_text new q) v ≡ cond (bytes_eq name q && (version == v)) (Some place) (version_kept (get_by_text old q) v)
   placed version place h q v =
-      ap (λ o. version_of o v) (updates q)
+      ap (λ o. version_kept o v) (updates q)
       ∙ placed_at (get_by_text old name) (get_by_text old q) after version place v (bytes_eq name q) h (same_name q)
 
-  pub places_stay : ((v : ℕ) → get nat_cmp after.places v ≡ version_of (get_by_text old name) v) → (q : List ℕ) (v : ℕ) →
-      version_of (get_by_text new q) v ≡ version_of (get_by_text old q) v
-  places_stay h q v = ap (λ o. version_of o v) (updates q) ∙ placed_as (get_by_text old name) (get_by_text old q) after v (bytes_eq name q) (h v) (same_name q)
+  pub places_stay : ((v : ℕ) → get nat_cmp after.places v ≡ version_kept (get_by_text old name) v) → (q : List ℕ) (v : ℕ) →
+      version_kept (get_by_text new q) v ≡ version_kept (get_by_text old q) v
+  places_stay h q v = ap (λ o. version_kept o v) (updates q) ∙ placed_as (get_by_text old name) (get_by_text old q) after v (bytes_eq name q) (h v) (same_name q)
 
   pub newest_stays : Some after.newest ≡ newest_among (get_by_text old name) → (q : List ℕ) → newest_among (get_by_text new q) ≡ newest_among (get_by_text old q)
   newest_stays h q = ap newest_among (updates q) ∙ newest_as (get_by_text old name) (get_by_text old q) after (bytes_eq name q) h (same_name q)

@@ -38,7 +38,7 @@ use Rattle.ion_text.specs.machine.Run.{is_top, with_scan, token_of}
 use Rattle.ion_text.specs.machine.Pieces.{Quiet}
 use Rattle.ion_text.specs.machine.Views.{setting_of, spot_of, state_of, reading_of, open_frames, IsCalm, SameSetting}
 use Rattle.ion_text.specs.machine.AtOnce.{Passes, IsStill, Inside, Strides}
-use Rattle.ion_text.proofs.Passing.{Notices, inner_notices, passes_blank, passes_left, passes_given, calm_quiet}
+use Rattle.ion_text.proofs.Passing.{NoticesNothing, inner_notices, passes_blank, passes_left, passes_given, calm_quiet}
 use Rattle.ion_text.proofs.Striding.{still_settles}
 
 begun_inner : (start begin : ℕ) (fs : List Frame) (ss : Symbols) → is_top fs ≡ false → begun_at start begin fs ss ≡ start
@@ -89,7 +89,7 @@ module _ (g : Catalog) (l : Limits) (r : Reading) (still : settle g l r ≡ goes
       let shown = f.shown in
       passes_left g l r still (resting rest) f.known (resting (past_token (place r) rest kind n)) octets n (lexeme_at rest kind kept n) c q shown quiet f.ran says turns refl refl f.ends
 
-  pub given_found : IsFound (place r) rest octets kind kept n false → Quiet g l r (place r) (resting rest) (take (n - 1) octets) → (most : ℕ) → Notices l q most → rest.used + length octets ≤ most → Passes g l (with_scan (resting rest) r) octets n (with_scan (resting (past_token (place r) rest kind n)) q)
+  pub given_found : IsFound (place r) rest octets kind kept n false → Quiet g l r (place r) (resting rest) (take (n - 1) octets) → (most : ℕ) → NoticesNothing l q most → rest.used + length octets ≤ most → Passes g l (with_scan (resting rest) r) octets n (with_scan (resting (past_token (place r) rest kind n)) q)
   given_found f quiet most notices room =
       let some = f.some in
       let shown = f.shown in
@@ -255,8 +255,8 @@ pub released_inner : (setting : Setting) (spot : Spot) (fs : List Frame) (ss : S
 released_inner setting spot [] ss h e = absurd cc
 released_inner setting spot (f ∷ fs) ss h e = refl
 
-pub same_place : (fs : List Frame) (n m : Now) → (n ≡ nows.Ready) → (h : Held) (e : ℕ) → m ≡ nows.Pending h e → place_in fs m ≡ place_in fs nows.Ready
-same_place fs n m a h e i = ap (place_in fs) i ∙ by fs
+pub same_place_in : (fs : List Frame) (n m : Now) → (n ≡ nows.Ready) → (h : Held) (e : ℕ) → m ≡ nows.Pending h e → place_in fs m ≡ place_in fs nows.Ready
+same_place_in fs n m a h e i = ap (place_in fs) i ∙ by fs
   where
     by : (fs : List Frame) → place_in fs (nows.Pending h e) ≡ place_in fs nows.Ready
     by [] = refl

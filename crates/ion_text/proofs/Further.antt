@@ -95,29 +95,29 @@ module _ (g : Catalog) (l : Limits) where
     }
 
 -- a refusal at one of these octets, of which there are n behind the next one
-abbrev Within : ℕ → ℕ → Refusal → Type 0
-Within to n r = (to < r.offset) × (r.offset ≤ to + 1 + n)
+abbrev RefusedWithin : ℕ → ℕ → Refusal → Type 0
+RefusedWithin to n r = (to < r.offset) × (r.offset ≤ to + 1 + n)
 
 abbrev refused_at : ℕ → Reason → Result State Refusal
 refused_at to y = Err (record { offset = to + 1; reason = y })
 
-refused_here : (to n : ℕ) (y : Reason) (r : Refusal) → refused_at to y ≡ Err r → Within to n r
+refused_here : (to n : ℕ) (y : Reason) (r : Refusal) → refused_at to y ≡ Err r → RefusedWithin to n r
 refused_here to n y r e =
     let same : record { offset = to + 1; reason = y } ≡ r = cc in
     let k = ap (λ (q : Refusal). q.offset) same in
     (omega (arith, k), omega (arith, k))
 
 module _ (to n : ℕ) (rest : State → Run) (r : Refusal) (later : (m : State) → (rest m).now ≡ Err r → (to + 1 < r.offset) × (r.offset ≤ to + 1 + n)) where
-  further_on : (m : State) → (rest m).now ≡ Err r → Within to n r
+  further_on : (m : State) → (rest m).now ≡ Err r → RefusedWithin to n r
   further_on m e = let k = later m e in (omega (arith, k.0), k.1)
 
-  more_within : (x : Effect) → (once_more to rest x).now ≡ Err r → Within to n r
+  more_within : (x : Effect) → (once_more to rest x).now ≡ Err r → RefusedWithin to n r
   more_within (uses m) e = further_on m e
   more_within (tells v m) e = further_on m e
   more_within (leaves v m) e = refused_here to n reasons.Unexpected r e
   more_within (fails y) e = refused_here to n y r e
 
-  on_within : (again : State → Effect) (x : Effect) → (run_on to again rest x).now ≡ Err r → Within to n r
+  on_within : (again : State → Effect) (x : Effect) → (run_on to again rest x).now ≡ Err r → RefusedWithin to n r
   on_within again (uses m) e = further_on m e
   on_within again (tells v m) e = further_on m e
   on_within again (leaves v m) e = more_within (again m) e

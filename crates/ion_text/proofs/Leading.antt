@@ -55,13 +55,13 @@ module _ (g : Catalog) (l : Limits) where
           total d (x ∷ xs) = x.1
 
 -- from the start, the octets of the piece before i lead to m, whatever follows
-pub record Leads (g : Catalog) (l : Limits) (again : Bool) (to : ℕ) (start : State) (piece : List ℕ) (i : ℕ) (m : State) : Type 0 where
+pub record LeadsFromStart (g : Catalog) (l : Limits) (again : Bool) (to : ℕ) (start : State) (piece : List ℕ) (i : ℕ) (m : State) : Type 0 where
   pub onward : (rest : List ℕ) → 0 < i → resumed g l again to start (take i piece ++ rest) ≡ run g l (to + i) m rest
   pub fresh : i ≡ 0 → m ≡ start
 
 module _ (g : Catalog) (l : Limits) (again : Bool) (to : ℕ) (start : State) (piece : List ℕ) where
   -- so they do where an octet follows that shows the end of no value before it
-  through : (i : ℕ) (m : State) → Leads g l again to start piece i m → (o : ℕ) (os : List ℕ) → NotLeft g l (eats g l m o) → resumed g l again to start (take i piece ++ o ∷ os) ≡ run g l (to + i) m (o ∷ os)
+  through : (i : ℕ) (m : State) → LeadsFromStart g l again to start piece i m → (o : ℕ) (os : List ℕ) → NotLeft g l (eats g l m o) → resumed g l again to start (take i piece ++ o ∷ os) ≡ run g l (to + i) m (o ∷ os)
   through zero m h o os nl =
       let same : to ≡ to + 0 = omega arith in
       ap (λ n. resumed g l again to n (o ∷ os)) (sym (h.fresh refl))
@@ -70,18 +70,18 @@ module _ (g : Catalog) (l : Limits) (again : Bool) (to : ℕ) (start : State) (p
   through (suc i) m h o os nl = h.onward (o ∷ os) (omega arith)
 
   -- octets that are more than none
-  record First (w : List ℕ) : Type 0 where
+  record HasOctet (w : List ℕ) : Type 0 where
     octet : ℕ
     octets : List ℕ
     is : w ≡ octet ∷ octets
 
-  first : (w : List ℕ) → 0 < length w → First w
+  first : (w : List ℕ) → 0 < length w → HasOctet w
   first [] h = absurd (omega arith)
   first (o ∷ os) h = record { octet = o; octets = os; is = refl }
 
-  module _ (i : ℕ) (m : State) (before : Leads g l again to start piece i m) where
+  module _ (i : ℕ) (m : State) (before : LeadsFromStart g l again to start piece i m) where
     -- octets behind which a run is at a state lead there
-    leads_on : (k : ℕ) (n : State) → 0 < k → k ≤ length (drop i piece) → run g l (to + i) m (take k (drop i piece)) ≡ led n → Leads g l again to start piece (i + k) n
+    leads_on : (k : ℕ) (n : State) → 0 < k → k ≤ length (drop i piece) → run g l (to + i) m (take k (drop i piece)) ≡ led n → LeadsFromStart g l again to start piece (i + k) n
     leads_on k n some within e =
         let part = take k (drop i piece) in
         let size : length part ≡ k = length-take-le k (drop i piece) within in
@@ -133,7 +133,7 @@ module _ (g : Catalog) (l : Limits) (again : Bool) (to : ℕ) (start : State) (p
     ends_here : again ≡ false → resumed g l again to start (take i piece) ≡ led m
     ends_here none = by i before
       where
-        by : (j : ℕ) → Leads g l again to start piece j m → resumed g l again to start (take j piece) ≡ led m
+        by : (j : ℕ) → LeadsFromStart g l again to start piece j m → resumed g l again to start (take j piece) ≡ led m
         by zero h = ap (λ b. resumed g l b to start []) none ∙ ap led (sym (h.fresh refl))
         by (suc j) h = ap (resumed g l again to start) (sym (append-nil (take (suc j) piece))) ∙ h.onward [] (omega arith)
 
@@ -144,11 +144,11 @@ module _ (g : Catalog) (l : Limits) (again : Bool) (to : ℕ) (start : State) (p
 whole_rest : (piece : List ℕ) (i : ℕ) → take (length piece - i) (drop i piece) ≡ drop i piece
 whole_rest piece i = grind (arith, common_steps)
 
-pub leads_first : (g : Catalog) (l : Limits) (again : Bool) (to : ℕ) (start : State) (piece : List ℕ) → Leads g l again to start piece 0 start
+pub leads_first : (g : Catalog) (l : Limits) (again : Bool) (to : ℕ) (start : State) (piece : List ℕ) → LeadsFromStart g l again to start piece 0 start
 leads_first g l again to start piece = record { onward = λ rest h. absurd (omega arith); fresh = λ h. refl }
 
 -- at the end of the piece
-pub leads_to_end : (g : Catalog) (l : Limits) (again : Bool) (to : ℕ) (start m : State) (piece : List ℕ) (i : ℕ) → length piece ≤ i → (again ≡ true → 0 < length piece) → i ≤ length piece → Leads g l again to start piece i m → resumed g l again to start piece ≡ led m
+pub leads_to_end : (g : Catalog) (l : Limits) (again : Bool) (to : ℕ) (start m : State) (piece : List ℕ) (i : ℕ) → length piece ≤ i → (again ≡ true → 0 < length piece) → i ≤ length piece → LeadsFromStart g l again to start piece i m → resumed g l again to start piece ≡ led m
 leads_to_end g l again to start m piece i whole some within before = by again refl
   where
     all : take i piece ≡ piece
@@ -160,7 +160,7 @@ leads_to_end g l again to start m piece i whole some within before = by again re
 
 -- what was taken up of the rest of the piece, by a reader of the same setting behind so many octets
 module _ (g : Catalog) (l : Limits) (again : Bool) (to : ℕ) (start m : State) (piece : List ℕ) (i used : ℕ) (cat : Catalog) (lim : Limits)
-    (same_catalog : cat ≡ g) (same_limits : lim ≡ l) (counted : used ≡ to + i) (before : Leads g l again to start piece i m) where
+    (same_catalog : cat ≡ g) (same_limits : lim ≡ l) (counted : used ≡ to + i) (before : LeadsFromStart g l again to start piece i m) where
   here : (w : List ℕ) (r : Run) → run cat lim used m w ≡ r → run g l (to + i) m w ≡ r
   here w r e =
       ap (λ p. run g l p m w) (sym counted)
@@ -173,7 +173,7 @@ module _ (g : Catalog) (l : Limits) (again : Bool) (to : ℕ) (start m : State) 
   fits : (k : ℕ) → k ≤ length (take (length piece - i) (drop i piece)) → k ≤ length (drop i piece)
   fits k h = subst (λ (w : List ℕ). k ≤ length w) (whole_rest piece i) h
 
-  pub leads_by : (k : ℕ) (n : State) → 0 < k → k ≤ length (take (length piece - i) (drop i piece)) → run cat lim used m (take k (take (length piece - i) (drop i piece))) ≡ led n → Leads g l again to start piece (i + k) n
+  pub leads_by : (k : ℕ) (n : State) → 0 < k → k ≤ length (take (length piece - i) (drop i piece)) → run cat lim used m (take k (take (length piece - i) (drop i piece))) ≡ led n → LeadsFromStart g l again to start piece (i + k) n
   leads_by k n some within e = leads_on g l again to start piece i m before k n some (fits k within) (part k (led n) e)
 
   -- the octets up to there are of the piece

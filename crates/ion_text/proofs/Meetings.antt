@@ -17,7 +17,7 @@ use Rattle.ion_text.specs.declared.state.Met.TheVariants as met
 use Rattle.ion_tokens.specs.machine.Said.{said, says}
 use Rattle.ion_text.specs.machine.EachToken.{Reading, turn}
 use Rattle.ion_text.specs.machine.Run.{State, Effect, uses, tells, leaves, fails, noticed, behind_given, behind_left, on_said, on_scan, token_of}
-use Rattle.ion_text.specs.machine.Views.{state_of, token_in, Told, DidMeet, IsBehind, is_left, decided, comes_again, Meets, MeetsWith}
+use Rattle.ion_text.specs.machine.Views.{state_of, token_in, Told, DidMeet, IsBehind, is_left, decided, comes_again, DidWhatCame, MeetsWith}
 
 told_same : (e f : Effect) (with_it : Value → State → Effect) (given : Option Value) (m : State) → e ≡ f → Told f with_it given m → Told e with_it given m
 told_same e f with_it None m h t = t
@@ -78,7 +78,7 @@ module _ (g : Catalog) (l : Limits) (r : Reading) where
   no_token before (Left x s) scan now a e = absurd (subst (λ t. GivesToken x t) e a.1)
   no_token before (Refused n y) scan now a e = absurd a
 
-  pub next_meets : (before : ℕ) (x : Outcome) (scan : Stepped) (now : Known) (new : TextReader) → Answers before x (Ok scan) now → scan.token ≡ None → scanned new.scanner ≡ now → noticed l r now ≡ uses (state_of new) → Meets g l r x met.Uses new
+  pub next_meets : (before : ℕ) (x : Outcome) (scan : Stepped) (now : Known) (new : TextReader) → Answers before x (Ok scan) now → scan.token ≡ None → scanned new.scanner ≡ now → noticed l r now ≡ uses (state_of new) → DidWhatCame g l r x met.Uses new
   next_meets before x scan now new a e same did =
       let h = (no_token before x scan now a e).is in
       record {
@@ -119,7 +119,7 @@ module _ (g : Catalog) (l : Limits) (r : Reading) where
   left_token before (Refused n y) scan t now a e f = absurd a
 
   pub given_meets : (before : ℕ) (x : Outcome) (scan : Stepped) (t : Found) (now : Known) (m : Met) (new : TextReader) → Answers before x (Ok scan) now → scan.token ≡ Some t → scan.left ≡ false
-      → scanned new.scanner ≡ now → comes_again m ≡ false → DidMeet (λ _. behind_given l now (turn g l r (token_in t))) (Ok m) new → Meets g l r x m new
+      → scanned new.scanner ≡ now → comes_again m ≡ false → DidMeet (λ _. behind_given l now (turn g l r (token_in t))) (Ok m) new → DidWhatCame g l r x m new
   given_meets before x scan t now m new a e f same ends did =
       let h = given_token before x scan t now a e f in
       record {
@@ -138,7 +138,7 @@ module _ (g : Catalog) (l : Limits) (r : Reading) where
       λ other. (here ∙ sym (ap decided h.is), λ again. ap (λ y. on_scan g l again r y) h.is ∙ (on_given again h.lexeme t now now refl h.token ∙ (did (λ m. other (cause ∙ m)) again ∙ ap fails (sym cause))))
 
   pub left_meets : (before : ℕ) (x : Outcome) (scan : Stepped) (t : Found) (now : Known) (m : Met) (new : TextReader) → Answers before x (Ok scan) now → scan.token ≡ Some t → scan.left ≡ true
-      → scanned new.scanner ≡ now → comes_again m ≡ true → DidMeet (λ again. behind_left again now (turn g l r (token_in t))) (Ok m) new → Meets g l r x m new
+      → scanned new.scanner ≡ now → comes_again m ≡ true → DidMeet (λ again. behind_left again now (turn g l r (token_in t))) (Ok m) new → DidWhatCame g l r x m new
   left_meets before x scan t now m new a e f same ends did =
       let h = left_token before x scan t now a e f in
       record {

@@ -28,7 +28,7 @@ use Rattle.ion_text.specs.declared.reader.TextReader.{TextReader}
 use Rattle.ion_text.specs.machine.EachToken.{Setting, Spot, under, spot_at, token_at, Reading, Turn, Symbols, goes, at, place, place_in, settle, turn, turn_now, begun_at, on_ready}
 use Rattle.ion_text.specs.machine.Run.{is_top, with_scan, token_of}
 use Rattle.ion_text.specs.machine.Pieces.{Quiet}
-use Rattle.ion_text.specs.machine.Nested.{Opens, OpensStruct, Closes, closes, close_octet, closed}
+use Rattle.ion_text.specs.machine.Nested.{OpensAt, OpensStruct, ClosesAt, closes, close_octet, closed}
 use Rattle.ion_text.specs.machine.Views.{setting_of, spot_of, reading_of, state_of, open_frames, IsCalm, SameSetting, SameReader}
 use Rattle.ion_text.specs.machine.AtOnce.{Passes, IsStill, Inside, Strides}
 use Rattle.ion_text.proofs.Passing.{passes_left, top_quiet}
@@ -36,11 +36,11 @@ use Rattle.ion_text.proofs.Striding.{still_settles}
 use Rattle.ion_text.proofs.Arms.{StaysIn, Moved, with_scanner, went, ready_turns, ended_stays, mark_says, token_strides}
 
 -- An open. That of a struct shows its end by the octet behind it.
-abbrev pub is_left : Mark → Bool
-is_left marks.FieldsOpen = true
-is_left _ = false
+abbrev pub is_open_left : Mark → Bool
+is_open_left marks.FieldsOpen = true
+is_open_left _ = false
 
-pub open_found : (m : Mark) (p : Place) (r : Rest) (octets : List ℕ) → Opens octets m → 1 < length octets → is_name p ≡ false → IsFound p r octets (kinds.Mark m) [] 1 (is_left m)
+pub open_found : (m : Mark) (p : Place) (r : Rest) (octets : List ℕ) → OpensAt octets m → 1 < length octets → is_name p ≡ false → IsFound p r octets (kinds.Mark m) [] 1 (is_open_left m)
 open_found marks.ListOpen p r octets opens more name = list_open_found p r octets name (omega arith) opens
 open_found marks.SexpOpen p r octets opens more name = sexp_open_found p r octets name (omega arith) opens
 open_found marks.FieldsOpen p r octets opens more name = fields_open_found p r octets name more opens.0 opens.1
@@ -57,7 +57,7 @@ module _ (setting : Setting) (spot : Spot) (fs : List Frame) (ss : Symbols) wher
   deepens true a q deep never stays does = went (StaysIn spot.start) a q does stays
   deepens false a q deep never stays does = absurd (never does)
 
-  open_stays : (m : Mark) (octets : List ℕ) (q : Reading) → Opens octets m → on_ready setting spot fs ss (Mark' m) ≡ goes q → StaysIn spot.start q
+  open_stays : (m : Mark) (octets : List ℕ) (q : Reading) → OpensAt octets m → on_ready setting spot fs ss (Mark' m) ≡ goes q → StaysIn spot.start q
   open_stays marks.ListOpen octets q opens does = deepens (nat_lt (length fs) setting.limits.depth) _ q _ (λ never. cc) (refl, refl, tt) does
   open_stays marks.SexpOpen octets q opens does = deepens (nat_lt (length fs) setting.limits.depth) _ q _ (λ never. cc) (refl, refl, tt) does
   open_stays marks.FieldsOpen octets q opens does = deepens (nat_lt (length fs) setting.limits.depth) _ q _ (λ never. cc) (refl, refl, tt) does
@@ -69,10 +69,10 @@ module _ (setting : Setting) (spot : Spot) (fs : List Frame) (ss : Symbols) wher
   open_stays marks.Colons octets q opens does = absurd opens
 
 pub open_strides : (old new : TextReader) (moved : Scanner) (rest behind : Rest) (octets : List ℕ) (m : Mark) → Inside old octets → scanned old.scanner ≡ resting rest → Moved old.scanner moved behind → SameSetting (with_scanner old moved) new
-    → 1 < length octets → Opens octets m → is_name (place (reading_of old)) ≡ false → behind ≡ past_token (place (reading_of old)) rest (kinds.Mark m) 1 → old.stage ≡ nows.Ready
+    → 1 < length octets → OpensAt octets m → is_name (place (reading_of old)) ≡ false → behind ≡ past_token (place (reading_of old)) rest (kinds.Mark m) 1 → old.stage ≡ nows.Ready
     → on_ready (setting_of old) (spot_of old (rest.used + 1)) (open_frames old) old.notes (Mark' m) ≡ goes (reading_of new) → Strides old new octets 1
 open_strides old new moved rest behind octets m inside rests move setting within opens name there now does =
-    token_strides old new moved rest behind octets inside rests move setting (kinds.Mark m) [] 1 (is_left m) (Mark' m) within there (subst IsStill (sym now) tt) (inl (subst IsCalm (sym now) tt))
+    token_strides old new moved rest behind octets inside rests move setting (kinds.Mark m) [] 1 (is_open_left m) (Mark' m) within there (subst IsStill (sym now) tt) (inl (subst IsCalm (sym now) tt))
     (open_found m (place (reading_of old)) rest octets opens within name) (mark_says m)
     (ready_turns old.catalog.now old.limits (reading_of old) (lexeme_at rest (kinds.Mark m) [] 1) (Mark' m) now inside.inner ∙ does)
     (open_stays (setting_of old) (spot_of old (rest.used + 1)) (open_frames old) old.notes m octets (reading_of new) opens does)
@@ -159,10 +159,10 @@ close_found marks.Colons fs now r octets h some first = absurd cc
 
 module _ (g : Catalog) (l : Limits) (begin end start : ℕ) (c : List Slot) where
   -- in such a state the mark closes, and nothing waits
-  abbrev pub Closing : Mark → List Frame → Now → Type 0
-  Closing m fs now = (turn_now (under g l) (at start c fs [] now) (token_at begin end (Mark' m)) now ≡ closed m (under g l) (spot_at end start c) fs) × IsStill now
+  abbrev pub MarkCloses : Mark → List Frame → Now → Type 0
+  MarkCloses m fs now = (turn_now (under g l) (at start c fs [] now) (token_at begin end (Mark' m)) now ≡ closed m (under g l) (spot_at end start c) fs) × IsStill now
 
-  pub closing : (m : Mark) (fs : List Frame) (now : Now) → closes m fs now ≡ true → Closing m fs now
+  pub closing : (m : Mark) (fs : List Frame) (now : Now) → closes m fs now ≡ true → MarkCloses m fs now
   closing marks.ListClose [] now h = absurd cc
   closing marks.ListClose (frames.List ss vs ∷ fs) nows.Ready h = (refl, tt)
   closing marks.ListClose (frames.List ss vs ∷ fs) (nows.Pending held e) h = absurd cc
@@ -261,7 +261,7 @@ close_stays setting spot q marks.Colons (frames.Fields ss ms ∷ f ∷ fs) more 
 close_stays setting spot q marks.Colons (frames.Named ss ms key ∷ fs) more does = absurd cc
 
 pub close_strides : (old new : TextReader) (moved : Scanner) (rest behind : Rest) (octets : List ℕ) (m : Mark) → Inside old octets → scanned old.scanner ≡ resting rest → Moved old.scanner moved behind → SameSetting (with_scanner old moved) new
-    → 1 < length octets → Closes (reading_of old) (slice_index octets 0) m → behind ≡ past_token (place (reading_of old)) rest (kinds.Mark m) 1
+    → 1 < length octets → ClosesAt (reading_of old) (slice_index octets 0) m → behind ≡ past_token (place (reading_of old)) rest (kinds.Mark m) 1
     → closed m (setting_of old) (spot_of old (rest.used + 1)) (open_frames old) ≡ goes (reading_of new) → Strides old new octets 1
 close_strides old new moved rest behind octets m inside rests move setting within h there does =
     let k = closing old.catalog.now old.limits rest.used (rest.used + 1) old.start old.context m (open_frames old) old.stage h.fits in

@@ -17,7 +17,7 @@ use Rattle.ion_text.specs.declared.state.Met.{Met}
 use Rattle.ion_text.specs.declared.state.Met.TheVariants as met
 use Rattle.ion_text.specs.machine.EachToken.{Reading, Turn, goes, gives, late, place, settle}
 use Rattle.ion_text.specs.machine.Run.{State, Effect, tells, leaves, fails, lesser, or_worse, unsettled, with_scan, on_scan, on_settled, on_octet, takes}
-use Rattle.ion_text.specs.machine.Views.{state_of, Told, DidTake, DidMeet, Gave, IsBehind, Meets, MeetsWith, is_left, comes_again, worse}
+use Rattle.ion_text.specs.machine.Views.{state_of, Told, DidTake, DidMeet, Gave, IsBehind, DidWhatCame, MeetsWith, is_left, comes_again, worse}
 
 told_same : (e f : Effect) (with_it : Value → State → Effect) (given : Option Value) (m : State) → e ≡ f → Told f with_it given m → Told e with_it given m
 told_same e f with_it None m h t = t
@@ -142,10 +142,10 @@ module _ (g : Catalog) (l : Limits) (n o : ℕ) where
       (ap (on_scan g l (λ m. takes g l n m o) r) (sym (one_octet p s o))) d
 
   -- the octet is used, or used with a token, or left behind one
-  pub once_did : (r : Reading) (p : Place) (s : Known) (y z : Met) (t : Taken) (mid : TextReader) → y ≡ z → Meets g l r (run p (o ∷ []) s) y mid → ((e : (State → Effect) → Effect) → DidMeet e (Ok z) mid → DidTake (e (λ m. takes g l n m o)) (Ok t) mid)
+  pub once_did : (r : Reading) (p : Place) (s : Known) (y z : Met) (t : Taken) (mid : TextReader) → y ≡ z → DidWhatCame g l r (run p (o ∷ []) s) y mid → ((e : (State → Effect) → Effect) → DidMeet e (Ok z) mid → DidTake (e (λ m. takes g l n m o)) (Ok t) mid)
       → DidTake (on_scan g l (λ m. takes g l n m o) r (feed p s o)) (Ok t) mid
   once_did r p s y z t mid is h takes_it =
-      let there = subst (λ (y : Met). Meets g l r (run p (o ∷ []) s) y mid) is h in
+      let there = subst (λ (y : Met). DidWhatCame g l r (run p (o ∷ []) s) y mid) is h in
       here_did r p s (Ok t) mid (takes_it (λ again. on_scan g l again r (run p (o ∷ []) s)) there.did)
 
   -- the octet is refused
@@ -153,17 +153,17 @@ module _ (g : Catalog) (l : Limits) (n o : ℕ) where
   err_did r p s refusal mid h = here_did r p s (Err refusal.reason) mid (λ other. (h other).1 (λ m. takes g l n m o))
 
   -- the octet comes again
-  pub again_did : (r : Reading) (p : Place) (s : Known) (y : Met) (mid : TextReader) (result : Result Taken Reason) (new : TextReader) → y ≡ met.Again → Meets g l r (run p (o ∷ []) s) y mid
+  pub again_did : (r : Reading) (p : Place) (s : Known) (y : Met) (mid : TextReader) (result : Result Taken Reason) (new : TextReader) → y ≡ met.Again → DidWhatCame g l r (run p (o ∷ []) s) y mid
       → mid.catalog.now ≡ g → mid.limits ≡ l → DidTake (takes mid.catalog.now mid.limits n (state_of mid) o) result new → DidTake (on_scan g l (λ m. takes g l n m o) r (feed p s o)) result new
   again_did r p s y mid result new is h e f d =
-      let there = subst (λ (y : Met). Meets g l r (run p (o ∷ []) s) y mid) is h in
+      let there = subst (λ (y : Met). DidWhatCame g l r (run p (o ∷ []) s) y mid) is h in
       take_same (on_scan g l (λ m. takes g l n m o) r (feed p s o)) (takes mid.catalog.now mid.limits n (state_of mid) o) result new
       (ap (on_scan g l (λ m. takes g l n m o) r) (sym (one_octet p s o)) ∙ (there.did (λ m. takes g l n m o) ∙ same_takes g mid.catalog.now l mid.limits n o (state_of mid) e f)) d
 
-  pub late_did : (r : Reading) (p : Place) (s : Known) (y : Met) (reason cause : Reason) (mid : TextReader) (result : Result Taken Reason) (new : TextReader) → y ≡ met.Late reason → Meets g l r (run p (o ∷ []) s) y mid
+  pub late_did : (r : Reading) (p : Place) (s : Known) (y : Met) (reason cause : Reason) (mid : TextReader) (result : Result Taken Reason) (new : TextReader) → y ≡ met.Late reason → DidWhatCame g l r (run p (o ∷ []) s) y mid
       → mid.catalog.now ≡ g → mid.limits ≡ l → DidTake (takes mid.catalog.now mid.limits n (state_of mid) o) result new → cause ≡ worse reason result → cause ≢ reasons.Memory → on_scan g l (λ m. takes g l n m o) r (feed p s o) ≡ fails cause
   late_did r p s y reason cause mid result new is h e f d same other =
-      let there = subst (λ (y : Met). Meets g l r (run p (o ∷ []) s) y mid) is h in
+      let there = subst (λ (y : Met). DidWhatCame g l r (run p (o ∷ []) s) y mid) is h in
       ap (on_scan g l (λ m. takes g l n m o) r) (sym (one_octet p s o))
       ∙ (there.did (λ m. takes g l n m o)
       ∙ (ap (or_worse reason) (same_takes g mid.catalog.now l mid.limits n o (state_of mid) e f)

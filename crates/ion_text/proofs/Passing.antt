@@ -171,11 +171,11 @@ top_quiet g l r item calm top bare s rests octets some =
     quiet_within g l r (floor s) calm (place r) (take 1 octets) s (omega arith) (omega arith) (omega arith)
 
 -- what is noticed where no token has begun that surely is one, as long as no more octets than these were used
-abbrev pub Notices : Limits → Reading → ℕ → Type 0
-Notices l r most = (s : Known) → is_idle s.mode ≡ true → s.used ≤ most → noticed l r s ≡ uses (with_scan s r)
+abbrev pub NoticesNothing : Limits → Reading → ℕ → Type 0
+NoticesNothing l r most = (s : Known) → is_idle s.mode ≡ true → s.used ≤ most → noticed l r s ≡ uses (with_scan s r)
 
 -- where a container is open, that the item isn't too long yet
-pub inner_notices : (l : Limits) (r : Reading) → is_top r.frames ≡ false → Notices l r (l.item + r.start)
+pub inner_notices : (l : Limits) (r : Reading) → is_top r.frames ≡ false → NoticesNothing l r (l.item + r.start)
 inner_notices l r inner s idle room = idle_noticed l r s idle inner room
 
 module _ (g : Catalog) (l : Limits) (r : Reading) where
@@ -188,7 +188,7 @@ module _ (g : Catalog) (l : Limits) (r : Reading) where
         subst (λ x. OnNext x (λ t. Waiting g l r p t os)) (sym f.1) (blank_waits h end now p os f.0 t x.0 idle f.2),
       )
 
-  module _ (most : ℕ) (notices : Notices l r most) where
+  module _ (most : ℕ) (notices : NoticesNothing l r most) where
     pub blank_quiet : (p : Place) (os : List ℕ) (s t : Known) → is_sane s.mode ≡ true → is_idle t.mode ≡ true → scanning.run p os s ≡ Next t → s.used + length os ≤ most → Quiet g l r p s os
     blank_quiet p [] s t sane idle e room = tt
     blank_quiet p (o ∷ os) s t sane idle e room =
@@ -256,7 +256,7 @@ module _ (g : Catalog) (l : Limits) (r : Reading) where
         ∙ (ap (λ a. on_said a (λ c. behind_left again b (turn g l r (token_of x c)))) says
         ∙ (ap (behind_left again b) turns ∙ twice_fuel g l (with_scan b q) octet (blank_twice b octet blank)))) before
 
-    pub passes_given : is_idle b.mode ≡ true → b.used ≡ s.used + n + 1 → (most : ℕ) → Notices l q most → b.used ≤ most → feed (place r) k octet ≡ Given x b → Passes g l (with_scan s r) octets (n + 1) (with_scan b q)
+    pub passes_given : is_idle b.mode ≡ true → b.used ≡ s.used + n + 1 → (most : ℕ) → NoticesNothing l q most → b.used ≤ most → feed (place r) k octet ≡ Given x b → Passes g l (with_scan s r) octets (n + 1) (with_scan b q)
     passes_given idle used most notices room f =
         passes_on g l (with_scan s r) (with_scan k r) (with_scan b q) octets n 1 before
         (passes_octet (drop n octets) (let i = length_drop n octets in omega arith) octet (get_drop n octets shown)
@@ -278,7 +278,7 @@ module _ (g : Catalog) (l : Limits) (r : Reading) where
 module _ (g : Catalog) (l : Limits) (r : Reading) where
   -- `::` behind what may be a symbol: its last octet, where the scanner knows this before it
   pub passes_colons : (h : Held) (end : ℕ) → r.now ≡ nows.Pending h end → (k b : Known) (octets : List ℕ) (x : Lexeme) (c : Content) (q : Reading) → 0 < length octets → feed (place r) k (get_or octets 0 0) ≡ Given x b → is_colons x.kind ≡ true → said x.kind x.octets ≡ Ok c → turn g l r (token_of x c) ≡ goes q
-      → is_idle b.mode ≡ true → b.used ≡ k.used + 1 → (most : ℕ) → Notices l q most → b.used ≤ most → Passes g l (with_scan k r) octets 1 (with_scan b q)
+      → is_idle b.mode ≡ true → b.used ≡ k.used + 1 → (most : ℕ) → NoticesNothing l q most → b.used ≤ most → Passes g l (with_scan k r) octets 1 (with_scan b q)
   passes_colons h end now k b octets x c q some f colons says turns idle used most notices room =
       passes_one g l (with_scan k r) (with_scan b q) octets some used
       (go_on g l (λ m. takes g l 2 m (get_or octets 0 0)) r k (feed (place r) k (get_or octets 0 0)) (unsettled k r (feed (place r) k (get_or octets 0 0))) (inl waits_on)

@@ -30,13 +30,13 @@ use Rattle.ion_text.specs.declared.state.Now.{Now}
 use Rattle.ion_text.specs.declared.state.Now.TheVariants as nows
 use Rattle.ion_text.specs.declared.state.Frame.{Frame}
 use Rattle.ion_text.specs.machine.EachToken.{Setting, under, Reading, Symbols, goes, at, place, settle, settled}
-use Rattle.ion_text.specs.machine.Run.{State, Effect, or_worse, uses, tells, leaves, fails, noticed, shut, reaches, longest_top, is_long_begun, with_scan, eats, takes, on_scan, on_settled, unsettled, failed, run, run_on}
+use Rattle.ion_text.specs.machine.Run.{State, Effect, or_worse, uses, tells, leaves, fails, noticed, shut, reaches, longest_top, is_long_begun, with_scan, eats, takes, on_scan, on_settled, unsettled, failed_at, run, run_on}
 use Rattle.ion_text.specs.declared.reader.TextReader.{TextReader}
 use Rattle.ion_text.specs.declared.state.Taken.{Taken}
 use Rattle.ion_text.specs.declared.state.Taken.TheVariants as taken
 use Rattle.ion_text.specs.declared.state.Met.{Met}
 use Rattle.ion_text.specs.declared.state.Met.TheVariants as met
-use Rattle.ion_text.specs.machine.Views.{floor, IsCalm, base, worse, state_of, Told, DidTake, Meets, MeetsWith, comes_again}
+use Rattle.ion_text.specs.machine.Views.{floor, IsCalm, base, worse, state_of, Told, DidTake, DidWhatCame, MeetsWith, comes_again}
 use Rattle.ion_text.specs.machine.Progress.{GaveLast, LedLeaving}
 use Rattle.ion_text.proofs.Octets.{given_here, left_here, take_worse}
 use Rattle.ion_tokens.specs.machine.Ahead.{OnNext}
@@ -246,7 +246,7 @@ module _ (g : Catalog) (l : Limits) (r : Reading) (calm : IsCalm r.now) (s : Kno
     pub before : run g l s.used (with_scan s r) (take count piece) ≡ led (with_scan known r)
     pub with_it : run g l s.used (with_scan s r) (take (count + 1) piece) ≡ run_on (s.used + count) (λ n. eats g l n octet) led (on_scan g l (λ m. takes g l 2 m octet) r x)
     pub does : eats g l (with_scan known r) octet ≡ on_scan g l (λ m. takes g l 2 m octet) r x
-    pub refuses : (e : Reason) → on_scan g l (λ m. takes g l 2 m octet) r x ≡ fails e → run g l s.used (with_scan s r) piece ≡ failed (s.used + count + 1) e
+    pub refuses : (e : Reason) → on_scan g l (λ m. takes g l 2 m octet) r x ≡ fails e → run g l s.used (with_scan s r) piece ≡ failed_at (s.used + count + 1) e
     pub fed : feed (place r) known octet ≡ x
     pub counted : known.used ≡ s.used + count
 
@@ -296,7 +296,7 @@ module _ (g : Catalog) (l : Limits) (r : Reading) (calm : IsCalm r.now) (s : Kno
     next_count : (t : Known) (new : TextReader) (count : ℕ) → scanning.run (place r) piece s ≡ Next t → scanned new.scanner ≡ t → (scanned new.scanner).used ≡ s.used + count → count ≡ length piece
     next_count t new count e b u = let n = next_used (place r) piece s t (sym e) in let m = ap (λ (k : Known). k.used) b in omega arith
 
-    pub uses_by : (x : Outcome) (new : TextReader) (count : ℕ) → scanning.run (place r) piece s ≡ x → Meets g l r x met.Uses new → (scanned new.scanner).used ≡ s.used + count
+    pub uses_by : (x : Outcome) (new : TextReader) (count : ℕ) → scanning.run (place r) piece s ≡ x → DidWhatCame g l r x met.Uses new → (scanned new.scanner).used ≡ s.used + count
         → (0 < count) × (count ≤ length piece) × (run g l s.used (with_scan s r) (take count piece) ≡ led (state_of new))
     uses_by (Next t) new count e h u =
         let n = next_count t new count e h.behind u in
@@ -311,7 +311,7 @@ module _ (g : Catalog) (l : Limits) (r : Reading) (calm : IsCalm r.now) (s : Kno
     uses_by (Left y t) new count e h u = let n = h.left in absurd cc
     uses_by (Refused n y) new count e h u = absurd h.behind
 
-    pub tells_by : (x : Outcome) (new : TextReader) (count : ℕ) → scanning.run (place r) piece s ≡ x → Meets g l r x met.Tells new → (scanned new.scanner).used ≡ s.used + count
+    pub tells_by : (x : Outcome) (new : TextReader) (count : ℕ) → scanning.run (place r) piece s ≡ x → DidWhatCame g l r x met.Tells new → (scanned new.scanner).used ≡ s.used + count
         → (0 < count) × (count ≤ length piece) × GaveLast (run g l s.used (with_scan s r) (take count piece)) (s.used + count) new.given (state_of new)
     tells_by (Next t) new count e h u = absurd (by new.given (h.did (λ m. fails reasons.Memory)))
       where
@@ -339,7 +339,7 @@ module _ (g : Catalog) (l : Limits) (r : Reading) (calm : IsCalm r.now) (s : Kno
       pub at : AtLast x
       pub same : count ≡ at.count
 
-    pub left_at : (x : Outcome) (mid : TextReader) (y : Met) (count : ℕ) → scanning.run (place r) piece s ≡ x → Meets g l r x y mid → comes_again y ≡ true → (scanned mid.scanner).used ≡ s.used + count → AtLeft x mid count
+    pub left_at : (x : Outcome) (mid : TextReader) (y : Met) (count : ℕ) → scanning.run (place r) piece s ≡ x → DidWhatCame g l r x y mid → comes_again y ≡ true → (scanned mid.scanner).used ≡ s.used + count → AtLeft x mid count
     left_at (Next t) mid y count e h b u = let n = h.left in absurd cc
     left_at (Given z t) mid y count e h b u = let n = h.left in absurd cc
     left_at (Left z t) mid y count e h b u =
@@ -397,11 +397,11 @@ module _ (g : Catalog) (l : Limits) (r : Reading) (calm : IsCalm r.now) (s : Kno
         let n : refusal.offset ≡ s.used + a.count + 1 = omega (arith, offset, refused_here (place r) a.known a.octet k y a.fed, a.counted) in
         at_refused (Refused k y) a refusal.reason refusal (refusal_same refusal (s.used + a.count + 1) n) ((h other).1 (λ m. takes g l 2 m a.octet))
 
-    pub at_place : (p : Place) (y : Met) (new : TextReader) → p ≡ place r → Meets g l r (scanning.run p piece s) y new → Meets g l r (scanning.run (place r) piece s) y new
-    at_place p y new e h = subst (λ (q : Place). Meets g l r (scanning.run q piece s) y new) e h
+    pub at_place : (p : Place) (y : Met) (new : TextReader) → p ≡ place r → DidWhatCame g l r (scanning.run p piece s) y new → DidWhatCame g l r (scanning.run (place r) piece s) y new
+    at_place p y new e h = subst (λ (q : Place). DidWhatCame g l r (scanning.run q piece s) y new) e h
 
     -- the octet behind those used comes again
-    module _ (mid : TextReader) (count : ℕ) (y : Met) (h : Meets g l r (scanning.run (place r) piece s) y mid) (b : comes_again y ≡ true) (u : (scanned mid.scanner).used ≡ s.used + count)
+    module _ (mid : TextReader) (count : ℕ) (y : Met) (h : DidWhatCame g l r (scanning.run (place r) piece s) y mid) (b : comes_again y ≡ true) (u : (scanned mid.scanner).used ≡ s.used + count)
         (same_catalog : mid.catalog.now ≡ g) (same_limits : mid.limits ≡ l) where
       there : AtLeft (scanning.run (place r) piece s) mid count
       there = left_at (scanning.run (place r) piece s) mid y count refl h b u
@@ -418,10 +418,10 @@ module _ (g : Catalog) (l : Limits) (r : Reading) (calm : IsCalm r.now) (s : Kno
           ∙ (ap (λ x. takes x l 2 (state_of mid) (get_or piece count 0)) (sym same_catalog) ∙ ap (λ x. takes mid.catalog.now x 2 (state_of mid) (get_or piece count 0)) (sym same_limits))
 
       comes : y ≡ met.Again → on_scan g l (λ m. takes g l 2 m there.at.octet) r (scanning.run (place r) piece s) ≡ takes mid.catalog.now mid.limits 2 (state_of mid) (get_or piece count 0)
-      comes is = (subst (λ (y : Met). Meets g l r (scanning.run (place r) piece s) y mid) is h).did (λ m. takes g l 2 m there.at.octet) ∙ took_again
+      comes is = (subst (λ (y : Met). DidWhatCame g l r (scanning.run (place r) piece s) y mid) is h).did (λ m. takes g l 2 m there.at.octet) ∙ took_again
 
       comes_late : (reason : Reason) → y ≡ met.Late reason → on_scan g l (λ m. takes g l 2 m there.at.octet) r (scanning.run (place r) piece s) ≡ or_worse reason (takes mid.catalog.now mid.limits 2 (state_of mid) (get_or piece count 0))
-      comes_late reason is = (subst (λ (y : Met). Meets g l r (scanning.run (place r) piece s) y mid) is h).did (λ m. takes g l 2 m there.at.octet) ∙ ap (or_worse reason) took_again
+      comes_late reason is = (subst (λ (y : Met). DidWhatCame g l r (scanning.run (place r) piece s) y mid) is h).did (λ m. takes g l 2 m there.at.octet) ∙ ap (or_worse reason) took_again
 
       module _ (result : Result Taken Reason) (new : TextReader) (did : DidTake (takes mid.catalog.now mid.limits 2 (state_of mid) (get_or piece count 0)) result new) where
         pub again_uses : y ≡ met.Again → result ≡ Ok taken.Uses → (0 < count + 1) × (count + 1 ≤ length piece) × (run g l s.used (with_scan s r) (take (count + 1) piece) ≡ led (state_of new))
@@ -462,7 +462,7 @@ module _ (g : Catalog) (l : Limits) (r : Reading) (calm : IsCalm r.now) (s : Kno
             at_refused (scanning.run (place r) piece s) there.at cause (record { offset = offset; reason = cause }) (ap (λ k. record { offset = k; reason = cause }) (at_count offset o))
             (comes_late reason is ∙ (take_worse reason (takes mid.catalog.now mid.limits 2 (state_of mid) (get_or piece count 0)) result new did (λ m. other (w ∙ m)) ∙ ap fails (sym w)))
 
-    pub leaves_by : (x : Outcome) (new : TextReader) (count : ℕ) → scanning.run (place r) piece s ≡ x → Meets g l r x met.Leaves new → (scanned new.scanner).used ≡ s.used + count → LedLeaving g l s.used (with_scan s r) piece count new.given (state_of new)
+    pub leaves_by : (x : Outcome) (new : TextReader) (count : ℕ) → scanning.run (place r) piece s ≡ x → DidWhatCame g l r x met.Leaves new → (scanned new.scanner).used ≡ s.used + count → LedLeaving g l s.used (with_scan s r) piece count new.given (state_of new)
     leaves_by x new count e h u =
         let a = left_at x new met.Leaves count e h refl u in
         subst (λ (k : ℕ). LedLeaving g l s.used (with_scan s r) piece k new.given (state_of new)) (sym a.same) (record {

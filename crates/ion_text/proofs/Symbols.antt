@@ -47,8 +47,8 @@ use Rattle.ion_text.specs.machine.AtOnce.{Passes, IsStill, Inside, Strides}
 use Rattle.ion_text.specs.machine.Run.{is_top, with_scan, token_of}
 use Rattle.ion_text.specs.machine.Pieces.{Quiet}
 use Rattle.ion_text.specs.machine.Views.{setting_of, spot_of, reading_of, open_frames, with_beside, IsCalm, SameSetting}
-use Rattle.ion_text.proofs.Arms.{left_found, given_found, Moved, StaysIn, with_scanner, spelled_utf8, short_says, word_says, first_of, moved_strides, room, ready_turns, left_passes, given_leads, ended_stays, ended_place, named_stays, released_inner, same_place, name_place, value_strides, mark_says, blank_used, blank_colon, at_drop}
-use Rattle.ion_text.proofs.Passing.{Notices, inner_notices, passes_on, passes_blank, passes_waiting, passes_settled, passes_colons, calm_quiet, blank_quiet}
+use Rattle.ion_text.proofs.Arms.{left_found, given_found, Moved, StaysIn, with_scanner, spelled_utf8, short_says, word_says, first_of, moved_strides, room, ready_turns, left_passes, given_leads, ended_stays, ended_place, named_stays, released_inner, same_place_in, name_place, value_strides, mark_says, blank_used, blank_colon, at_drop}
+use Rattle.ion_text.proofs.Passing.{NoticesNothing, inner_notices, passes_on, passes_blank, passes_waiting, passes_settled, passes_colons, calm_quiet, blank_quiet}
 use Rattle.ion_text.proofs.Striding.{still_settles}
 
 -- What the tokens do.
@@ -163,22 +163,22 @@ symbol_colon p k kept c h e is = go k (subst (λ x. IsBody k kept x) e (says k k
 
 -- The octet that shows that no `::` follows.
 
-record Shows (p : Place) (r : Rest) (o : ℕ) (a : Action) : Type 0 where
+record ShowsNoColons (p : Place) (r : Rest) (o : ℕ) (a : Action) : Type 0 where
   is : symbol_waits (acts p (resting r) o a) ≡ false
 
 module _ {p : Place} {r : Rest} {o : ℕ} where
-  yes : {a : Action} → symbol_waits (acts p (resting r) o a) ≡ false → Shows p r o a
+  yes : {a : Action} → symbol_waits (acts p (resting r) o a) ≡ false → ShowsNoColons p r o a
   yes h = record { is = h }
 
-  both : {x y : Action} (b : Bool) → Shows p r o x → Shows p r o y → Shows p r o (cond b x y)
+  both : {x y : Action} (b : Bool) → ShowsNoColons p r o x → ShowsNoColons p r o y → ShowsNoColons p r o (cond b x y)
   both true h k = h
   both false h k = k
 
-  skip : {y : Action} (x : Action) (b : Bool) → b ≡ false → Shows p r o y → Shows p r o (cond b x y)
+  skip : {y : Action} (x : Action) (b : Bool) → b ≡ false → ShowsNoColons p r o y → ShowsNoColons p r o (cond b x y)
   skip x true e h = absurd cc
   skip x false e h = h
 
-value_shows : (p : Place) (r : Rest) (o : ℕ) → Shows p r o (begins_value p o)
+value_shows : (p : Place) (r : Rest) (o : ℕ) → ShowsNoColons p r o (begins_value p o)
 value_shows p r o =
     both (is_digit o) (yes refl)
     (both (o == 123) (yes refl)
@@ -199,7 +199,7 @@ no_slash o h = grind (arith, nat_tests)
 no_colon : (o : ℕ) → ends_symbol o ≡ true → (o == 58) ≡ false
 no_colon o h = grind (arith, nat_tests)
 
-ends_shows : (p : Place) (r : Rest) (o : ℕ) → ends_symbol o ≡ true → Shows p r o (in_blank p r.colon o)
+ends_shows : (p : Place) (r : Rest) (o : ℕ) → ends_symbol o ≡ true → ShowsNoColons p r o (in_blank p r.colon o)
 ends_shows p r o h =
     skip _ (is_white o) (no_white o h)
     (both (begins_word o) (yes refl)
@@ -251,7 +251,7 @@ module _ (g : Catalog) (l : Limits) (r : Reading) (start : ℕ) (now : r.now ≡
   past_colons = past_token (place r) past_between (kinds.Mark marks.Colons) 2
 
   module _ (quiet : (k : ℕ) → k ≤ n → Quiet g l r (place r) (resting rest) (take k octets)) (turns : turn g l r (token_of (lexeme_at rest kind kept n) c) ≡ goes held_back)
-      (waits : Notices l held_back (rest.used + length octets)) (notes : Notices l with_note (rest.used + length octets)) where
+      (waits : NoticesNothing l held_back (rest.used + length octets)) (notes : NoticesNothing l with_note (rest.used + length octets)) where
     behind_size : length (drop n octets) ≡ length octets - n
     behind_size = length-drop n octets
 
@@ -274,7 +274,7 @@ module _ (g : Catalog) (l : Limits) (r : Reading) (start : ℕ) (now : r.now ≡
     may_colons = blank_colon past_symbol m ∙ symbol_colon (place r) kind kept c held says holds
 
     same_there : place held_back ≡ place r
-    same_there = same_place r.frames nows.Ready held_back.now refl held (rest.used + n) refl ∙ ap (place_in r.frames) (sym now)
+    same_there = same_place_in r.frames nows.Ready held_back.now refl held (rest.used + n) refl ∙ ap (place_in r.frames) (sym now)
 
     colons : IsFound (place held_back) past_between (drop (n + m) octets) (kinds.Mark marks.Colons) [] 2 false
     colons = let some = colons_size in colons_found (place held_back) past_between (drop (n + m) octets) may_colons (omega arith) (at_drop (n + m) octets ∙ one) (next_at (n + m) octets ∙ two)
@@ -338,7 +338,7 @@ module _ (g : Catalog) (l : Limits) (r : Reading) (inner : is_top r.frames ≡ f
     waiting = at r.start r.context r.frames r.notes (nows.Pending held (rest.used + n))
 
     waits_there : place waiting ≡ place r
-    waits_there = same_place r.frames nows.Ready waiting.now refl held (rest.used + n) refl ∙ ap (place_in r.frames) (sym now)
+    waits_there = same_place_in r.frames nows.Ready waiting.now refl held (rest.used + n) refl ∙ ap (place_in r.frames) (sym now)
 
     is_token : Passes g l (with_scan (resting rest) r) octets n (with_scan (resting behind_token) waiting)
     is_token =
@@ -430,11 +430,11 @@ unfolding said
 quoted_says w h = spelled_utf8 (Quoted w) w h
 
 module _ (p : Place) (r : Rest) (octets : List ℕ) (n : ℕ) where
-  abbrev word_token : FoundToken
-  word_token = record { kind = kinds.Word; count = n; left = true }
+  abbrev found_word : FoundToken
+  found_word = record { kind = kinds.Word; count = n; left = true }
 
-  abbrev quoted_token : FoundToken
-  quoted_token = record { kind = kinds.QuotedSymbol; count = n; left = false }
+  abbrev found_quoted : FoundToken
+  found_quoted = record { kind = kinds.QuotedSymbol; count = n; left = false }
 
   abbrev short_token : FoundToken
   short_token = record { kind = kinds.ShortString; count = n; left = false }
@@ -442,7 +442,7 @@ module _ (p : Place) (r : Rest) (octets : List ℕ) (n : ℕ) where
   pub word_said : IsFound p r octets kinds.Word (take n octets) n true → IsUtf8 (take n octets) → get_or octets 0 0 ≢ 36 → said kinds.Word (take n octets) ≡ Ok (Word (take n octets))
   word_said found text first = let some = found.some in word_says (take n octets) text (λ e. first (sym (first_of n octets some) ∙ e))
 
-  pub word_symbol : (payload : Payload) → IsFound p r octets kinds.Word (take n octets) n true → IsUtf8 (take n octets) → get_or octets 0 0 ≢ 36 → held_payload (held_word (take n octets)) ≡ Ok payload → BeginsSymbol p r octets word_token payload
+  pub word_symbol : (payload : Payload) → IsFound p r octets kinds.Word (take n octets) n true → IsUtf8 (take n octets) → get_or octets 0 0 ≢ 36 → held_payload (held_word (take n octets)) ≡ Ok payload → BeginsSymbol p r octets found_word payload
   word_symbol payload found text first pays = record {
     kept = take n octets;
     content = Word (take n octets);
@@ -451,7 +451,7 @@ module _ (p : Place) (r : Rest) (octets : List ℕ) (n : ℕ) where
     pays = pays;
   }
 
-  pub word_name : (name : Option (List ℕ)) → IsFound p r octets kinds.Word (take n octets) n true → IsUtf8 (take n octets) → get_or octets 0 0 ≢ 36 → is_keyword (take n octets) ≡ false → name ≡ Some (take n octets) → BeginsName p r octets word_token name
+  pub word_name : (name : Option (List ℕ)) → IsFound p r octets kinds.Word (take n octets) n true → IsUtf8 (take n octets) → get_or octets 0 0 ≢ 36 → is_keyword (take n octets) ≡ false → name ≡ Some (take n octets) → BeginsName p r octets found_word name
   word_name name found text first free is = record {
     kept = take n octets;
     content = Word (take n octets);
@@ -461,7 +461,7 @@ module _ (p : Place) (r : Rest) (octets : List ℕ) (n : ℕ) where
   }
 
   module _ (w : List ℕ) (s : Option (List ℕ)) (text : IsUtf8 w) (is : s ≡ Some w) where
-    pub quoted_symbol : IsFound p r octets kinds.QuotedSymbol w n false → BeginsSymbol p r octets quoted_token (payloads.Symbol s)
+    pub quoted_symbol : IsFound p r octets kinds.QuotedSymbol w n false → BeginsSymbol p r octets found_quoted (payloads.Symbol s)
     quoted_symbol found = record {
       kept = w;
       content = Quoted w;
@@ -470,7 +470,7 @@ module _ (p : Place) (r : Rest) (octets : List ℕ) (n : ℕ) where
       pays = ap (λ x. Ok (payloads.Symbol x)) (sym is);
     }
 
-    pub quoted_name : IsFound p r octets kinds.QuotedSymbol w n false → BeginsName p r octets quoted_token s
+    pub quoted_name : IsFound p r octets kinds.QuotedSymbol w n false → BeginsName p r octets found_quoted s
     quoted_name found = record { kept = w; content = Quoted w; found = found; says = quoted_says w text; names = is }
 
     pub short_name : IsFound p r octets kinds.ShortString w n false → BeginsName p r octets short_token s

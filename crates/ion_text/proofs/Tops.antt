@@ -42,16 +42,16 @@ use Rattle.ion_text.specs.declared.state.Now.{Now}
 use Rattle.ion_text.specs.declared.state.Now.TheVariants as nows
 use Rattle.ion_text.specs.machine.AtOnce.{Passes}
 use Rattle.ion_text.specs.machine.EachToken.{under, spot_at, Reading, Symbols, goes, gives, refuses, at, fresh, place, settle, turn, turned, within, ended, begun_at}
-use Rattle.ion_text.specs.machine.Nested.{Opens}
+use Rattle.ion_text.specs.machine.Nested.{OpensAt}
 use Rattle.ion_text.specs.machine.Pieces.{led, drive, go_on, Quiet}
 use Rattle.ion_text.specs.machine.Progress.{Advances, Stands}
 use Rattle.ion_text.specs.machine.Run.{State, uses, fails, tells, eats, takes, on_scan, on_said, behind_given, unsettled, reaches, longest_top, is_long_begun, token_of, run, run_on, with_scan}
 use Rattle.ion_text.specs.machine.Views.{state_of, open_frames, with_beside, base}
-use Rattle.ion_text.specs.machine.Walked.{close_of, opened, first_now, behind_note, Ends, IsFresh, IsValue, most, rested, FoundNote, FoundScalar, GivesTop, WalkedBare, WalkedContainer, WalkedNote, WalkedNotes, WalkedTop}
+use Rattle.ion_text.specs.machine.Walked.{close_of, opened, first_now, behind_note, EndsAtOnce, IsFresh, IsValue, most, rested, FoundNote, FoundScalar, GivesTop, WalkedBare, WalkedContainer, WalkedNote, WalkedNotes, WalkedTop}
 use Rattle.ion_text.specs.laws.reading.FrontTokens.{held_of}
 use Rattle.ion_text.proofs.Arms.{left_found, given_found, mark_says, at_drop, blank_used}
-use Rattle.ion_text.proofs.Nested.{is_left, open_found, close_found, closing}
-use Rattle.ion_text.proofs.Passing.{Notices, inner_notices, passes_on, passes_none, passes_led, next_octet}
+use Rattle.ion_text.proofs.Nested.{is_open_left, open_found, close_found, closing}
+use Rattle.ion_text.proofs.Passing.{NoticesNothing, inner_notices, passes_on, passes_none, passes_led, next_octet}
 use Rattle.ion_text.proofs.Stretches.{quiet_within}
 use Rattle.ion_text.proofs.Striding.{still_settles}
 use Rattle.ion_text.proofs.Symbols.{held_in, symbol_held, noted_passes, waits_so}
@@ -89,13 +89,13 @@ gives_next g l m n p v piece k within counted passes e =
 
 -- behind octets that give nothing, a run over more of them goes on
 pub passes_then : (g : Catalog) (l : Limits) (m n : State) (octets : List ℕ) (a b : ℕ) → 0 < b → Passes g l m octets a n → run g l m.scan.used m (take (a + b) octets) ≡ run g l n.scan.used n (take b (drop a octets))
-passes_then g l m n octets a b some h = h (take (a + b) octets) (front (a + 1) (omega arith)) ∙ ap (run g l n.scan.used n) behind
+passes_then g l m n octets a b some h = h (take (a + b) octets) (front (a + 1) (omega arith)) ∙ ap (run g l n.scan.used n) known_behind
   where
     front : (j : ℕ) → j ≤ a + b → take j (take (a + b) octets) ≡ take j octets
     front j h = grind (arith, common_steps)
 
-    behind : drop a (take (a + b) octets) ≡ take b (drop a octets)
-    behind = drop-take a b octets
+    known_behind : drop a (take (a + b) octets) ≡ take b (drop a octets)
+    known_behind = drop-take a b octets
 
 le_true : (x y : ℕ) → x ≤ y → nat_le x y ≡ true
 le_true x y h = grind (arith, nat_tests)
@@ -106,17 +106,17 @@ module _ (g : Catalog) (l : Limits) (r : Reading) (still : settle g l r ≡ goes
   abbrev last_octet : ℕ
   last_octet = get_or octets (n - 1) 0
 
-  abbrev behind : Known
-  behind = resting (past_token (place r) rest kind n)
+  abbrev known_behind : Known
+  known_behind = resting (past_token (place r) rest kind n)
 
-  tells_it : eats g l (with_scan found.known r) last_octet ≡ tells v (with_scan behind q)
+  tells_it : eats g l (with_scan found.known r) last_octet ≡ tells v (with_scan known_behind q)
   tells_it =
       go_on g l (λ m. takes g l 2 m last_octet) r found.known (feed (place r) found.known last_octet) (unsettled found.known r (feed (place r) found.known last_octet)) (inr still)
       ∙ (ap (on_scan g l (λ m. takes g l 2 m last_octet) r) found.ends
-      ∙ (ap (λ a. on_said a (λ c. behind_given l behind (turn g l r (token_of (lexeme_at rest kind kept n) c)))) says
-      ∙ ap (behind_given l behind) turns))
+      ∙ (ap (λ a. on_said a (λ c. behind_given l known_behind (turn g l r (token_of (lexeme_at rest kind kept n) c)))) says
+      ∙ ap (behind_given l known_behind) turns))
 
-  pub token_gives : run g l rest.used (with_scan (resting rest) r) (take n octets) ≡ record { given = (v, rest.used + n) ∷ []; now = Ok (with_scan behind q) }
+  pub token_gives : run g l rest.used (with_scan (resting rest) r) (take n octets) ≡ record { given = (v, rest.used + n) ∷ []; now = Ok (with_scan known_behind q) }
   token_gives =
       let some = found.some in
       let shown = found.shown in
@@ -124,8 +124,8 @@ module _ (g : Catalog) (l : Limits) (r : Reading) (still : settle g l r ≡ goes
       let counted = next_used (place r) (take (n - 1) octets) (resting rest) found.known (sym found.ran) in
       let used : found.known.used ≡ rest.used + (n - 1) = omega arith in
       let last : n - 1 + 1 ≡ n = omega arith in
-      subst (λ j. run g l rest.used (with_scan (resting rest) r) (take j octets) ≡ record { given = (v, rest.used + j) ∷ []; now = Ok (with_scan behind q) }) last
-      (gives_next g l (with_scan (resting rest) r) (with_scan found.known r) (with_scan behind q) v octets (n - 1) shown used
+      subst (λ j. run g l rest.used (with_scan (resting rest) r) (take j octets) ≡ record { given = (v, rest.used + j) ∷ []; now = Ok (with_scan known_behind q) }) last
+      (gives_next g l (with_scan (resting rest) r) (with_scan found.known r) (with_scan known_behind q) v octets (n - 1) shown used
       (passes_led g l (with_scan (resting rest) r) (with_scan found.known r) octets (n - 1) (omega arith) used
       (drive g l (take (n - 1) octets) rest.used r (resting rest) found.known found.ran quiet (inl still))) tells_it)
 
@@ -166,9 +166,9 @@ module _ (g : Catalog) (l : Limits) (start : ℕ) (c : List Slot) (ss : Symbols)
   abbrev opening : Rest → Mark → Reading
   opening rest m = at (begin rest.used) c (opened m ss ∷ []) [] (first_now m)
 
-  top_open : (rest : Rest) (octets : List ℕ) (m : Mark) → 0 < l.depth → 1 < length octets → Opens octets m → rest.used + length octets ≤ l.item + begin rest.used
+  top_open : (rest : Rest) (octets : List ℕ) (m : Mark) → 0 < l.depth → 1 < length octets → OpensAt octets m → rest.used + length octets ≤ l.item + begin rest.used
       → Passes g l (rested rest start c [] ss nows.Ready) octets 1 (rested (past_token places.Top rest (kinds.Mark m) 1) (begin rest.used) c (opened m ss ∷ []) [] (first_now m))
-  top_open rest octets m deep more opens room = by (is_left m) (open_found m places.Top rest octets opens more refl)
+  top_open rest octets m deep more opens room = by (is_open_left m) (open_found m places.Top rest octets opens more refl)
     where
       turns : turn g l on_top (token_of (lexeme_at rest (kinds.Mark m) [] 1) (Mark' m)) ≡ goes (opening rest m)
       turns = open_turns (under g l) (spot_at (rest.used + 1) (begin rest.used) c) [] ss octets m opens deep
@@ -178,7 +178,7 @@ module _ (g : Catalog) (l : Limits) (start : ℕ) (c : List Slot) (ss : Symbols)
       by false f = given_found g l on_top refl rest octets (kinds.Mark m) [] 1 (Mark' m) (opening rest m) (mark_says m) turns f tt (l.item + begin rest.used) (inner_notices l (opening rest m) refl) room
 
   -- and its close gives the value
-  module _ (level : ℕ) (octets : List ℕ) (count : ℕ) (before after : Tally) (m : Mark) (w : WalkedContainer places.Top m level octets count before after) (more : 1 < length octets) (opens : Opens octets m) (deep : level ≤ l.depth)
+  module _ (level : ℕ) (octets : List ℕ) (count : ℕ) (before after : Tally) (m : Mark) (w : WalkedContainer places.Top m level octets count before after) (more : 1 < length octets) (opens : OpensAt octets m) (deep : level ≤ l.depth)
       (room : before.rest.used + length octets ≤ l.item + begin before.rest.used) (free : is_table (annotated ss w.inside.payload) ≡ false) where
     abbrev v : Value
     v = annotated ss w.inside.payload
@@ -249,15 +249,15 @@ module _ (g : Catalog) (l : Limits) (start : ℕ) (c : List Slot) (ss : Symbols)
       let found : IsFound places.Top rest octets s.token.kind f.kept n false = subst (λ b. IsFound places.Top rest octets s.token.kind f.kept n b) given f.found in
       let some = found.some in
       let shown = found.shown in
-      let is : Ends f.content f.payload = subst (λ b. IsValue b f.content f.payload) ends f.is in
+      let is : EndsAtOnce f.content f.payload = subst (λ b. IsValue b f.content f.payload) ends f.is in
       token_gives g l on_top refl rest octets s.token.kind f.kept n f.content (annotated ss f.payload) (fresh c) found (top_quiet rest octets (n - 1) (omega arith) (omega arith)) f.says
       (is (under g l) (spot_at (rest.used + n) (begin rest.used) c) [] ss ∙ top_ended g l (rest.used + n) (begin rest.used) c (annotated ss f.payload) free (omega arith))
 
 -- what waits behind an annotation, or behind `::`, isn't too long
-waits_notices : (l : Limits) (start : ℕ) (c : List Slot) (ss : Symbols) (h : Held) (end most : ℕ) → end ≤ start + l.item → Notices l (at start c [] ss (nows.Pending h end)) most
+waits_notices : (l : Limits) (start : ℕ) (c : List Slot) (ss : Symbols) (h : Held) (end most : ℕ) → end ≤ start + l.item → NoticesNothing l (at start c [] ss (nows.Pending h end)) most
 waits_notices l start c ss h end most room s idle few = ap (λ b. if b then uses (with_scan s (at start c [] ss (nows.Pending h end))) else fails reasons.ItemTooLong) (le_true (end - start) l.item (omega arith))
 
-noted_notices : (l : Limits) (start : ℕ) (c : List Slot) (ss : Symbols) (x : Option (List ℕ)) → Notices l (at start c [] (ss ++ x ∷ []) nows.Ready) (l.item + start)
+noted_notices : (l : Limits) (start : ℕ) (c : List Slot) (ss : Symbols) (x : Option (List ℕ)) → NoticesNothing l (at start c [] (ss ++ x ∷ []) nows.Ready) (l.item + start)
 noted_notices l start c ss x s idle few =
     ap (λ b. if b then uses (with_scan s (at start c [] (ss ++ x ∷ []) nows.Ready)) else fails reasons.ItemTooLong) (le_true (reaches [] (at start c [] (ss ++ x ∷ []) nows.Ready) s) l.item (let e = reach ss in omega arith))
   where
@@ -287,11 +287,11 @@ module _ (octets : List ℕ) (token : FoundToken) (f : FoundNote octets token) (
   note_used rest = let used = blank_used (past_token places.Top rest token.kind token.count) m in omega arith
 
   -- with a blank behind it, and what is noted
-  pub walked_note : (before mid after : Tally) (n : ℕ) (behind : List ℕ) → behind ≡ drop (token.count + m + 2) octets → n ≤ length behind → IsPassed behind n
+  pub walked_note : (before mid after : Tally) (n : ℕ) (known_behind : List ℕ) → known_behind ≡ drop (token.count + m + 2) octets → n ≤ length known_behind → IsPassed known_behind n
       → mid ≡ record { kind = before.kind; level = before.level; nodes = min (before.nodes + 1) most; rest = behind_note before.rest token m } → after ≡ record { kind = mid.kind; level = mid.level; nodes = mid.nodes; rest = past_blank mid.rest n }
       → (w : WalkedNote octets (token.count + m + 2 + n) before after) × (w.name ≡ f.name)
-  walked_note before mid after n behind is few blank em ea =
-      let size : length behind ≡ length octets - (token.count + m + 2) = ap (λ (w : List ℕ). length w) is ∙ length-drop (token.count + m + 2) octets in
+  walked_note before mid after n known_behind is few blank em ea =
+      let size : length known_behind ≡ length octets - (token.count + m + 2) = ap (λ (w : List ℕ). length w) is ∙ length-drop (token.count + m + 2) octets in
       let counted = note_used before.rest in
       let last = blank_used (behind_note before.rest token m) n in
       rw (ea, em) (
@@ -303,7 +303,7 @@ module _ (octets : List ℕ) (token : FoundToken) (f : FoundNote octets token) (
               passes_on g l (rested before.rest start c [] ss nows.Ready) (rested (behind_note before.rest token m) start' c [] (ss ++ f.name ∷ []) nows.Ready) (rested (past_blank (behind_note before.rest token m) n) start' c [] (ss ++ f.name ∷ []) nows.Ready) octets (token.count + m + 2) n
               (note_leads g l start c ss before.rest room)
               (subst (λ w. Passes g l (rested (behind_note before.rest token m) start' c [] (ss ++ f.name ∷ []) nows.Ready) w n (rested (past_blank (behind_note before.rest token m) n) start' c [] (ss ++ f.name ∷ []) nows.Ready)) is
-              (top_blank g l start' c (ss ++ f.name ∷ []) (behind_note before.rest token m) behind n few (omega arith) blank));
+              (top_blank g l start' c (ss ++ f.name ∷ []) (behind_note before.rest token m) known_behind n few (omega arith) blank));
           within = omega arith;
           used = omega arith;
           free = f.free;
@@ -361,7 +361,7 @@ notes_on octets rest a b before mid after is w x =
 
 -- values behind them
 
-unfoldable pub walked_bare : (level : ℕ) (octets : List ℕ) (count : ℕ) (before after : Tally) (m : Mark) → WalkedContainer places.Top m level octets count before after → 1 < length octets → Opens octets m → before.level ≤ level → WalkedBare level octets count before after
+unfoldable pub walked_bare : (level : ℕ) (octets : List ℕ) (count : ℕ) (before after : Tally) (m : Mark) → WalkedContainer places.Top m level octets count before after → 1 < length octets → OpensAt octets m → before.level ≤ level → WalkedBare level octets count before after
 walked_bare level octets count before after m w more opens low =
     let inside = w.inside.within in
     let total = w.total in

@@ -25,8 +25,8 @@ use Rattle.ion_text.specs.machine.EachToken.{number_payload}
 use Rattle.ion_text.specs.machine.Walked.{WalkedTop}
 use Rattle.ion_text.specs.declared.visitor.Part.{Part}
 use Rattle.ion_text.specs.visiting.Parts.{payload_of}
-use Rattle.ion_text.specs.visiting.Walks.{Top}
-use Rattle.ion_text.specs.visiting.Transcribing.{transcribing, front, open_octet, close_octet, octet_between, AddsPart, Opens, Closes}
+use Rattle.ion_text.specs.visiting.Walks.{VisitedTop}
+use Rattle.ion_text.specs.visiting.Transcribing.{transcribing, front, open_octet, bracket_close, octet_between, AddsPart, Opens, Closes}
 
 -- what stands before the next item behind these
 abbrev pub before_next : {X : Type 0} → List X → Option ℕ → Option ℕ
@@ -105,11 +105,11 @@ each_more f xs x a m b h w =
 
 -- the items between an open and its close are one item
 enclosed_written : {X : Type 0} (f : X → List ℕ) (xs : List X) (x : Bracket) (k : Option ℕ) (a m n b : Transcription) → Opens a m x k → WroteEach f xs m n → Closes n b x k
-    → Wrote a b (enclosed (open_octet x ∷ []) (octet_between x ∷ []) (close_octet x ∷ []) (map f xs))
+    → Wrote a b (enclosed (open_octet x ∷ []) (octet_between x ∷ []) (bracket_close x ∷ []) (map f xs))
 enclosed_written f xs x k a m n b o i c =
     let first = open_octet x ∷ [] in
     let inner = separated (octet_between x ∷ []) (map f xs) in
-    let last = close_octet x ∷ [] in
+    let last = bracket_close x ∷ [] in
     record {
       octets =
           c.octets
@@ -200,7 +200,7 @@ mutual
       record { kept = fields_last ms s v c.kept x.0 f.kept; wrote = each_more field_text ms (field_of s v) a m b c.wrote all }
 
 -- what was gone over was written
-pub transcribed : (level : ℕ) (octets before : List ℕ) (x y : Tally) (a b : Transcription) (r : Option ℕ) → a.before ≡ None → a.out.items ≡ before → IfSome r (λ n. Top transcribing level octets n x y a b)
+pub transcribed : (level : ℕ) (octets before : List ℕ) (x y : Tally) (a b : Transcription) (r : Option ℕ) → a.before ≡ None → a.out.items ≡ before → IfSome r (λ n. VisitedTop transcribing level octets n x y a b)
     → IfSome r (λ n. (top : WalkedTop level octets n x y) × IsKept top.value × (b.out.items ≡ before ++ value_text top.value))
 transcribed level octets before x y a b None e o t = t
 transcribed level octets before x y a b (Some n) e o t =

@@ -38,12 +38,12 @@ use Rattle.ion_text.specs.laws.reading.Complete.{depths, field_depths, depth-lis
 use Rattle.ion_text.specs.machine.EachToken.{Setting, Spot, under, spot_at, Reading, Turn, Symbols, goes, at, place, place_in, turn, on_ready, ended}
 use Rattle.ion_text.specs.machine.Run.{is_top, with_scan, token_of}
 use Rattle.ion_text.specs.machine.Pieces.{Quiet}
-use Rattle.ion_text.specs.machine.Nested.{Opens, closes}
+use Rattle.ion_text.specs.machine.Nested.{OpensAt, closes}
 use Rattle.ion_text.specs.machine.Views.{IsCalm}
 use Rattle.ion_text.specs.machine.AtOnce.{Passes, IsStill}
-use Rattle.ion_text.specs.machine.Walked.{behind_key, Ends, IsValue, most, FoundScalar, FoundName, rested, Leads, LeadsBehind, Noted, Walked, WalkedContainer, WalkedInside, WalkedName, close_of, opened, first_now}
+use Rattle.ion_text.specs.machine.Walked.{behind_key, EndsAtOnce, IsValue, most, FoundScalar, FoundName, rested, Leads, LeadsBehind, Noted, Walked, WalkedContainer, WalkedInside, WalkedName, close_of, opened, first_now}
 use Rattle.ion_text.proofs.Arms.{StaysIn, ready_turns, ended_stays, left_passes, given_passes, mark_says, at_drop, blank_used}
-use Rattle.ion_text.proofs.Nested.{is_left, open_found, close_found, closing}
+use Rattle.ion_text.proofs.Nested.{is_open_left, open_found, close_found, closing}
 use Rattle.ion_text.proofs.Passing.{inner_notices, passes_none, passes_on, passes_blank, calm_quiet}
 use Rattle.ion_text.proofs.Striding.{still_settles}
 use Rattle.ion_text.proofs.Symbols.{held_in, symbol_passes, name_passes}
@@ -74,7 +74,7 @@ module _ (p : Place) (level : ℕ) (rest : Rest) (octets : List ℕ) (s : Scalar
   scalar_leads e = λ g l start c ss fs those n inner here deep room puts.
       let r = at start c fs ss nows.Ready in
       let q = at start c those [] n in
-      let is : Ends f.content f.payload = subst (λ b. IsValue b f.content f.payload) e f.is in
+      let is : EndsAtOnce f.content f.payload = subst (λ b. IsValue b f.content f.payload) e f.is in
       let does : ended (under g l) (spot_at (rest.used + count) start c) fs (annotated ss f.payload) ≡ goes q = puts (under g l) (spot_at (rest.used + count) start c) in
       subst (λ p. Passes g l (rested rest start c fs ss nows.Ready) octets count (rested (past_token p rest s.token.kind count) start c those [] n)) here
       (token_passes g l r inner tt rest octets s.token.kind f.kept count f.content q f.says
@@ -199,7 +199,7 @@ module _ (level : ℕ) (octets : List ℕ) (count : ℕ) (before after : Tally) 
 
 -- containers
 
-pub open_turns : (setting : Setting) (spot : Spot) (fs : List Frame) (ss : Symbols) (octets : List ℕ) (m : Mark) → Opens octets m → length fs < setting.limits.depth
+pub open_turns : (setting : Setting) (spot : Spot) (fs : List Frame) (ss : Symbols) (octets : List ℕ) (m : Mark) → OpensAt octets m → length fs < setting.limits.depth
     → on_ready setting spot fs ss (Mark' m) ≡ goes (at spot.start spot.context (opened m ss ∷ fs) [] (first_now m))
 open_turns setting spot fs ss octets m opens deep = by m opens
   where
@@ -209,7 +209,7 @@ open_turns setting spot fs ss octets m opens deep = by m opens
     deepens : (a : Reading) (t : Turn) → (if nat_lt (length fs) setting.limits.depth then goes a else t) ≡ goes a
     deepens a t = ap (λ b. if b then goes a else t) admits
 
-    by : (m : Mark) → Opens octets m → on_ready setting spot fs ss (Mark' m) ≡ goes (at spot.start spot.context (opened m ss ∷ fs) [] (first_now m))
+    by : (m : Mark) → OpensAt octets m → on_ready setting spot fs ss (Mark' m) ≡ goes (at spot.start spot.context (opened m ss ∷ fs) [] (first_now m))
     by marks.ListOpen h = deepens _ _
     by marks.SexpOpen h = deepens _ _
     by marks.FieldsOpen h = deepens _ _
@@ -232,7 +232,7 @@ opened_stays start c fs ss marks.Colon = (refl, refl, tt)
 opened_stays start c fs ss marks.Colons = (refl, refl, tt)
 
 -- behind the open, and up to the close
-module _ (p : Place) (m : Mark) (level : ℕ) (octets : List ℕ) (count : ℕ) (before after : Tally) (w : WalkedContainer p m level octets count before after) (more : 1 < length octets) (opens : Opens octets m) where
+module _ (p : Place) (m : Mark) (level : ℕ) (octets : List ℕ) (count : ℕ) (before after : Tally) (w : WalkedContainer p m level octets count before after) (more : 1 < length octets) (opens : OpensAt octets m) where
   abbrev first : Rest
   first = past_token p before.rest (kinds.Mark m) 1
 
@@ -272,7 +272,7 @@ module _ (p : Place) (m : Mark) (level : ℕ) (octets : List ℕ) (count : ℕ) 
       subst (λ p. Passes g l (rested before.rest start c fs ss nows.Ready) octets 1 (rested (past_token p before.rest (kinds.Mark m) 1) start c (opened m ss ∷ fs) [] (first_now m))) here
       (token_passes g l r inner tt before.rest octets (kinds.Mark m) [] 1 (Mark' m) q (mark_says m)
       (ready_turns g l r (lexeme_at before.rest (kinds.Mark m) [] 1) (Mark' m) refl inner ∙ open_turns (under g l) (spot_at (before.rest.used + 1) start c) fs ss octets m opens (omega arith)) room
-      (opened_stays start c fs ss m) (is_left m) (open_found m (place_in fs nows.Ready) before.rest octets opens more (ap is_name here ∙ value)) (inl tt)) in
+      (opened_stays start c fs ss m) (is_open_left m) (open_found m (place_in fs nows.Ready) before.rest octets opens more (ap is_name here ∙ value)) (inl tt)) in
       let last : Passes g l (rested w.last.rest start c (w.inside.whole ss ∷ fs) [] w.inside.now) behind 1 (rested (past_token (place k) w.last.rest (kinds.Mark close) 1) start c those [] n) =
       token_passes g l k refl shut.1 w.last.rest behind (kinds.Mark close) [] 1 (Mark' close) e (mark_says close)
       (shut.0 ∙ (w.inside.closed (under g l) (spot_at (w.last.rest.used + 1) start c) ss fs ∙ does)) (omega arith)

@@ -108,8 +108,8 @@ abbrev pub notes_text : List (Option (List ℕ)) → List ℕ
 notes_text ss = flat_map (λ s. symbol_text s ++ codes "::") ss
 
 -- a field's name before the text of its value
-abbrev pub named : Option (List ℕ) → List ℕ → List ℕ
-named s w = symbol_text s ++ (codes ":" ++ w)
+abbrev pub named_text : Option (List ℕ) → List ℕ → List ℕ
+named_text s w = symbol_text s ++ (codes ":" ++ w)
 
 -- texts one behind the other, with something between
 abbrev pub separated : List ℕ → List (List ℕ) → List ℕ
@@ -136,7 +136,7 @@ text_step (Payload-F.Fields fs) = enclosed (codes "{") (codes ",") (codes "}") f
 
 -- the text of a value, its fields in the order in which they stand
 unfoldable pub value_text : Value → List ℕ
-value_text v = fold-Value (List ℕ) (List ℕ) (List ℕ) text_step (λ f. named f.name f.value) (λ v. notes_text v.annotations ++ v.payload) v
+value_text v = fold-Value (List ℕ) (List ℕ) (List ℕ) text_step (λ f. named_text f.name f.value) (λ v. notes_text v.annotations ++ v.payload) v
 
 -- 4. Streams.
 

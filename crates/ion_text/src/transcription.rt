@@ -11,7 +11,7 @@ ghost use Rattle.ion_text.specs.laws.writing.Output.{layer_text};
 ghost use Rattle.ion_text.specs.machine.EachToken.{number_payload};
 ghost use Rattle.ion_text.specs.machine.Walked.{WalkedTop};
 ghost use Rattle.ion_text.specs.visiting.Parts.{payload_of};
-ghost use Rattle.ion_text.specs.visiting.Transcribing.{Adds, open_octet, close_octet, octet_between};
+ghost use Rattle.ion_text.specs.visiting.Transcribing.{Adds, open_octet, bracket_close, octet_between};
 
 use crate::escape::{OF_STRING, put_quoted};
 use crate::reader::tops::walk_top;
@@ -131,7 +131,7 @@ impl Visitor for Transcription {
     fn close(&mut self, bracket: Bracket, mark: Option<u8>) -> bool {
         self.before = mark;
         self.between = mark;
-        self.out.push(close_octet(bracket)).is_ok()
+        self.out.push(bracket_close(bracket)).is_ok()
     }
 
     #[inline(always)]
@@ -183,8 +183,8 @@ fn open_octet(bracket: Bracket) -> u8
 }
 
 /// What closes it.
-fn close_octet(bracket: Bracket) -> u8
-    ensures { result ≡ close_octet bracket }
+fn bracket_close(bracket: Bracket) -> u8
+    ensures { result ≡ bracket_close bracket }
 {
     match bracket {
         Bracket::List => b']',

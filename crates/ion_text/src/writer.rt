@@ -84,7 +84,7 @@ impl TextWriter {
             return Err(fault);
         }
         let answer = self.put_next(out, value);
-        self.note(answer)
+        self.note_fault(answer)
     }
 
     /// Writes the value of the item of the top level at the front of octets, of at most so many levels, without building it: how
@@ -118,7 +118,7 @@ impl TextWriter {
         let count = carry_line(self.alloc, tokens, octets, level, tally, line)?;
         self.misses = 0;
         let answer = write_whole(out, &self.line);
-        Some((count, self.note(answer)))
+        Some((count, self.note_fault(answer)))
     }
 
     /// Ends the document behind the last line, and makes the device pass on all that it took.
@@ -140,7 +140,7 @@ impl TextWriter {
     }
 
     // Keeps a fault for the later calls.
-    fn note(&mut self, answer: Result<(), Fault>) -> Result<(), Fault>
+    fn note_fault(&mut self, answer: Result<(), Fault>) -> Result<(), Fault>
         ensures answer { result ≡ answer }
         ensures failed { IfErr result (λ fault. self.new ≡ Some fault) }
         ensures kept { OnOk result (self.new ≡ self.old) }

@@ -100,15 +100,15 @@ pub refusal_right : (s : Known) (u : List ℕ) (ts : List Placed) (ahead piece m
 refusal_right s u ts ahead piece more p n reason h cut e r others looks lexes =
     not_refused p s (piece ++ r) others n reason looks (stands_finds s u ts ahead (piece ++ r) others h (more ++ r) (ap (λ l. l ++ r) cut ∙ append_assoc ahead more r) lexes) (refused_front p piece r s n reason e)
 
-abbrev lexeme_in : Outcome → Lexeme → Lexeme
-lexeme_in (Given l s) m = l
-lexeme_in (Left l s) m = l
-lexeme_in _ m = m
+abbrev lexeme_or : Outcome → Lexeme → Lexeme
+lexeme_or (Given l s) m = l
+lexeme_or (Left l s) m = l
+lexeme_or _ m = m
 
 finds_given : (p : Place) (s s' : Known) (octets : List ℕ) (others : List Placed) (l : Lexeme) → LooksIn p others → Finds s octets others → run p octets s ≡ Given l s' → IsNext l others
 finds_given p s s' octets others l looks (Nothing _ _ f) e = let g = f p in let h : Given l s' ≡ Next g.0 = sym e ∙ g.1 in cc
 finds_given p s s' octets others l looks (Last _ _ t s'' f g) e = let h : Given l s' ≡ Next s'' = sym e ∙ ap (λ q. run q octets s) (sym looks) ∙ f in cc
-finds_given p s s' octets others l looks (Gives _ _ t ts s'' f g) e = let h : Given t.lexeme s'' ≡ Given l s' = sym f ∙ ap (λ q. run q octets s) looks ∙ e in ap (λ x. lexeme_in x l) h
+finds_given p s s' octets others l looks (Gives _ _ t ts s'' f g) e = let h : Given t.lexeme s'' ≡ Given l s' = sym f ∙ ap (λ q. run q octets s) looks ∙ e in ap (λ x. lexeme_or x l) h
 finds_given p s s' octets others l looks (Leaves _ _ t ts s'' f g) e = let h : Given l s' ≡ Left t.lexeme s'' = sym e ∙ ap (λ q. run q octets s) (sym looks) ∙ f in cc
 finds_given p s s' octets others l looks (Unclosed _ _ t ts s'' _ _ m f g _ _ _) e = let h : Given l s' ≡ Next s'' = sym e ∙ ap (λ q. run q octets s) (sym looks) ∙ f in cc
 
@@ -116,7 +116,7 @@ finds_left : (p : Place) (s s' : Known) (octets : List ℕ) (others : List Place
 finds_left p s s' octets others l looks (Nothing _ _ f) e = let g = f p in let h : Left l s' ≡ Next g.0 = sym e ∙ g.1 in cc
 finds_left p s s' octets others l looks (Last _ _ t s'' f g) e = let h : Left l s' ≡ Next s'' = sym e ∙ ap (λ q. run q octets s) (sym looks) ∙ f in cc
 finds_left p s s' octets others l looks (Gives _ _ t ts s'' f g) e = let h : Left l s' ≡ Given t.lexeme s'' = sym e ∙ ap (λ q. run q octets s) (sym looks) ∙ f in cc
-finds_left p s s' octets others l looks (Leaves _ _ t ts s'' f g) e = let h : Left t.lexeme s'' ≡ Left l s' = sym f ∙ ap (λ q. run q octets s) looks ∙ e in ap (λ x. lexeme_in x l) h
+finds_left p s s' octets others l looks (Leaves _ _ t ts s'' f g) e = let h : Left t.lexeme s'' ≡ Left l s' = sym f ∙ ap (λ q. run q octets s) looks ∙ e in ap (λ x. lexeme_or x l) h
 finds_left p s s' octets others l looks (Unclosed _ _ t ts s'' _ _ m f g _ _ _) e = let h : Left l s' ≡ Next s'' = sym e ∙ ap (λ q. run q octets s) (sym looks) ∙ f in cc
 
 -- A token told is the next one in each input that has the tokens told before and goes on with these octets: there is no longer one.

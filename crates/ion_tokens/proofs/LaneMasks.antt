@@ -19,8 +19,8 @@ abbrev pub at_most : ℕ → ℕ → ℕ
 at_most a b = cond (leb a b) 255 0
 
 -- the difference in a lane
-abbrev pub minus : ℕ → ℕ → ℕ
-minus a b = (a + (256 - b)) % 256
+abbrev pub lane_minus : ℕ → ℕ → ℕ
+lane_minus a b = (a + (256 - b)) % 256
 
 -- The operations f and the class p may ask one thing t of the octet, such as whether it is the quote: then they agree whatever the answer.
 each_lane : (t : ℕ → Bool) (f : Bool → ℕ → ℕ) (p : Bool → ℕ → Bool) → ((b : Bool) → T (holds_below (λ x. same (top 7 (f b x)) (p b x)) 256))

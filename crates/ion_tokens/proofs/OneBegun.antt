@@ -43,25 +43,25 @@ same_form forms.Long forms.Quote w (part, f) (inl e) = absurd (omega (arith, ap 
 same_form forms.Long forms.Quote w (part, f) (inr e) = absurd (omega (arith, ap length e, ap length f, length-append (codes "'''") part))
 
 -- some document has these tokens and goes on with the octets
-abbrev GoesOn : Place → List ℕ → List Placed → Type 0
-GoesOn p u ts = (rest : List ℕ) × (others : List Placed) × LooksIn p others × Lexes false 0 (u ++ rest) (ts ++ others)
+abbrev GoesOnAs : Place → List ℕ → List Placed → Type 0
+GoesOnAs p u ts = (rest : List ℕ) × (others : List Placed) × LooksIn p others × Lexes false 0 (u ++ rest) (ts ++ others)
 
 module _ (p : Place) (u : List ℕ) (ts : List Placed) (colon : Bool) (end : ℕ) (octets : List ℕ) where
-  same_start : (a b : Begun) → HasBegun p u ts colon end octets a → HasBegun p u ts colon end octets b → GoesOn p u ts → a.start ≡ b.start
+  same_start : (a b : Begun) → HasBegun p u ts colon end octets a → HasBegun p u ts colon end octets b → GoesOnAs p u ts → a.start ≡ b.start
   same_start a b h k (rest, others, looks, lexes) = by others (h.always rest others looks lexes) (k.always rest others looks lexes) where
     by : (others : List Placed) → Covers a.start a.end others → Covers b.start b.end others → a.start ≡ b.start
     by [] x y = absurd x
     by (t ∷ ts) x y = sym x.0 ∙ y.0
 
   -- what may be a comment isn't part of a token whatever follows
-  not_less : (a b : Begun) → HasBegun p u ts colon end octets a → GoesOn p u ts → MayComment p u ts b → b.end + 1 ≤ a.end → ⊥
+  not_less : (a b : Begun) → HasBegun p u ts colon end octets a → GoesOnAs p u ts → MayComment p u ts b → b.end + 1 ≤ a.end → ⊥
   not_less a b h goes (inr never) less = let (rest, others, looks, lexes) = goes in never rest others looks lexes
   not_less a b h goes (inl (l, start, stop, lexes)) less = by (h.always (codes "/") (record { place = p; lexeme = l } ∷ []) refl lexes).1 where
     by : (a.end ≤ l.end) ⊎ ((l.kind ≡ kinds.Operator) × ⊥) → ⊥
     by (inl within) = omega (arith, within, stop, less)
     by (inr (operator, none)) = none
 
-  same_end : (a b : Begun) → HasBegun p u ts colon end octets a → HasBegun p u ts colon end octets b → GoesOn p u ts → a.end ≡ b.end
+  same_end : (a b : Begun) → HasBegun p u ts colon end octets a → HasBegun p u ts colon end octets b → GoesOnAs p u ts → a.end ≡ b.end
   same_end a b h k goes = by h.reaches k.reaches where
     by : (a.end ≡ end + length octets) ⊎ ((a.end + 1 ≡ end + length octets) × (front : List ℕ) × (h.token ≡ front ++ codes "/") × MayComment p u ts a)
         → (b.end ≡ end + length octets) ⊎ ((b.end + 1 ≡ end + length octets) × (front : List ℕ) × (k.token ≡ front ++ codes "/") × MayComment p u ts b) → a.end ≡ b.end
@@ -73,7 +73,7 @@ module _ (p : Place) (u : List ℕ) (ts : List Placed) (colon : Bool) (end : ℕ
   same_token : (a b : Begun) (h : HasBegun p u ts colon end octets a) (k : HasBegun p u ts colon end octets b) → a.start ≡ b.start → h.token ≡ k.token
   same_token a b h k e = same_rest h.blank k.blank h.token k.token (sym h.cut ∙ k.cut) (omega (arith, h.start, k.start, e))
 
-  same_begun : (a b : Begun) → HasBegun p u ts colon end octets a → HasBegun p u ts colon end octets b → GoesOn p u ts → a ≡ b
+  same_begun : (a b : Begun) → HasBegun p u ts colon end octets a → HasBegun p u ts colon end octets b → GoesOnAs p u ts → a ≡ b
   same_begun a b h k goes =
       let start : a.start ≡ b.start = same_start a b h k goes in
       let stop : a.end ≡ b.end = same_end a b h k goes in
@@ -81,7 +81,7 @@ module _ (p : Place) (u : List ℕ) (ts : List Placed) (colon : Bool) (end : ℕ
       let form : a.form ≡ b.form = same_form a.form b.form k.token (subst (λ w. IsForm a.form w) token h.form) k.form in
       λ i. record { start = start i; end = stop i; form = form i }
 
-  same_shown : (a b : Option Begun) → BegunSo p u ts colon end octets a → BegunSo p u ts colon end octets b → GoesOn p u ts → a ≡ b
+  same_shown : (a b : Option Begun) → BegunSo p u ts colon end octets a → BegunSo p u ts colon end octets b → GoesOnAs p u ts → a ≡ b
   same_shown None None h k goes = refl
   same_shown None (Some b) (inl (rest, blank)) k goes = absurd (k.no_blank rest blank)
   same_shown None (Some b) (inr colon) k goes = absurd (k.no_colon colon)

@@ -45,8 +45,8 @@ pub front_is : (piece octets rest : List ℕ) (n : ℕ) → piece ≡ octets ++ 
 front_is piece octets rest n cut size = ap (λ l. take n l) cut ∙ ap (λ (i : ℕ). take i (octets ++ rest)) size ∙ take-append_seam octets rest
 
 -- before any octet
-pub begins : (p : Place) (s : Known) → s ≡ initial → Scanned p s [] [] []
-begins p s e = record { behind = initial; front = []; left = []; since = []; told = Begun; pass = tt; ran = ap Next (sym e); cut = refl; next = inl (refl, refl) }
+pub begun_scanned : (p : Place) (s : Known) → s ≡ initial → Scanned p s [] [] []
+begun_scanned p s e = record { behind = initial; front = []; left = []; since = []; told = Begun; pass = tt; ran = ap Next (sym e); cut = refl; next = inl (refl, refl) }
 
 module _ (p : Place) (s : Known) (u : List ℕ) (ts : List Placed) (ahead : List ℕ) (h : Scanned p s u ts ahead) where
   -- the octets since the last token and those of a piece begin with what was left

@@ -173,13 +173,13 @@ base_moves p (o ∷ os) kept h = by (is_white o) refl h.0 (λ k. base_moves p os
       (moves_one p (lob lobs.Base64) o kept (lob lobs.Base64) (keeps.One o) (λ s u. refl) (λ c. base_more o g)) (f (kept ++ o ∷ [])))
 
 -- where a blob may end
-abbrev Ends : Lob → Type 0
-Ends lobs.Start = Unit {0}
-Ends lobs.Base64 = Unit {0}
-Ends _ = ⊥
+abbrev LobEnds : Lob → Type 0
+LobEnds lobs.Start = Unit {0}
+LobEnds lobs.Base64 = Unit {0}
+LobEnds _ = ⊥
 
 abbrev ToEnd : Place → List ℕ → List ℕ → Type 0
-ToEnd p os kept = (l : Lob) × Ends l × Moves p (lob lobs.Start) [] os (lob l) kept
+ToEnd p os kept = (l : Lob) × LobEnds l × Moves p (lob lobs.Start) [] os (lob l) kept
 
 start_moves : (p : Place) (os : List ℕ) → Each AnyBlob os → ToEnd p os (solid os)
 unfolding solid
@@ -199,7 +199,7 @@ start_moves p (o ∷ os) h = by (is_white o) refl h.0 (start_moves p os h.1) whe
         (moves_one p (lob lobs.Start) o [] (lob lobs.Base64) (keeps.One o) (λ s u. refl) (λ c. base_first o g)) (base_moves p os (o ∷ []) h.1),
   )
 
-blob_closes : (p : Place) (l : Lob) (kept octets : List ℕ) → Ends l → blob_of kept ≡ Some octets → Moves p (lob l) kept (125 ∷ []) (lob lobs.BlobClose) octets
+blob_closes : (p : Place) (l : Lob) (kept octets : List ℕ) → LobEnds l → blob_of kept ≡ Some octets → Moves p (lob l) kept (125 ∷ []) (lob lobs.BlobClose) octets
 blob_closes p lobs.Start kept octets h e = λ colon start used r. ap (λ x. follow (blob_ends (at (lob lobs.Start) kept colon start used) x) (λ t. run p r t)) e
 blob_closes p lobs.Base64 kept octets h e = λ colon start used r. ap (λ x. follow (blob_ends (at (lob lobs.Base64) kept colon start used) x) (λ t. run p r t)) e
 blob_closes p lobs.StartQuote kept octets h e = absurd h

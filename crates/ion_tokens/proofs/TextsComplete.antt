@@ -83,11 +83,11 @@ behind_cr e [] h c = tt
 behind_cr e (f ∷ es) h c = c.0 h
 
 -- an element is read, and those behind it may follow
-abbrev Reads : Place → Style → Within → List ℕ → Element → List Element → Type 0
-Reads p s w kept e es = (v : Within) × Ready s v es × GoesInText p s w kept (spelling e) v (kept ++ meaning s e)
+abbrev ReadsElement : Place → Style → Within → List ℕ → Element → List Element → Type 0
+ReadsElement p s w kept e es = (v : Within) × Ready s v es × GoesInText p s w kept (spelling e) v (kept ++ meaning s e)
 
 -- a long string's raw quote
-read_quote : (p : Place) (s : Style) (w : Within) (kept : List ℕ) (es : List Element) → is_long s ≡ true → Ready s w (Raw 39 ∷ es) → 1 + quotes es < 3 → Reads p s w kept (Raw 39) es
+read_quote : (p : Place) (s : Style) (w : Within) (kept : List ℕ) (es : List Element) → is_long s ≡ true → Ready s w (Raw 39 ∷ es) → 1 + quotes es < 3 → ReadsElement p s w kept (Raw 39) es
 unfolding encode
 read_quote p s within.Plain kept es long h room = (within.OneQuote, (long, room), goes_one p s within.Plain 39 kept within.OneQuote (keeps.One 39) (raw_quote s long))
 read_quote p s within.AfterReturn kept es long h room = (within.OneQuote, (long, room), goes_one p s within.AfterReturn 39 kept within.OneQuote (keeps.One 39) (raw_quote s long))
@@ -99,7 +99,7 @@ read_quote p s (within.Hexadecimal _ _ _) kept es long h room = absurd h
 read_quote p s (within.HighSurrogate _) kept es long h room = absurd h
 read_quote p s (within.HighSurrogateEscape _) kept es long h room = absurd h
 
-read_plain : (p : Place) (s : Style) (w : Within) (kept : List ℕ) (c : ℕ) (es : List Element) → (is_long s ≡ true → c ≢ 39) → Ready s w (Raw c ∷ es) → IsRaw s c → Reads p s w kept (Raw c) es
+read_plain : (p : Place) (s : Style) (w : Within) (kept : List ℕ) (c : ℕ) (es : List Element) → (is_long s ≡ true → c ≢ 39) → Ready s w (Raw c ∷ es) → IsRaw s c → ReadsElement p s w kept (Raw c) es
 read_plain p s w kept c es q h i =
     let no_quote : c ≢ quote_of s = ⊎_elim (λ l. ⊎_elim (λ long e. q long (e ∙ long_quote s long)) (λ short. absurd (true≢false (sym l ∙ short))) (bool_cases (is_long s))) (λ n. n) i.2 in (
       within.Plain,
@@ -109,17 +109,17 @@ read_plain p s w kept c es q h i =
           i.0 i.1 no_quote i.3 i.4 (encoding c (scalar_cases c i.0)),
     )
 
-read_character : (p : Place) (s : Style) (w : Within) (kept : List ℕ) (c : ℕ) (es : List Element) → Ready s w (Raw c ∷ es) → IsRaw s c → (IsTrue (is_long s) → ClosesFirst (Raw c ∷ es)) → Reads p s w kept (Raw c) es
+read_character : (p : Place) (s : Style) (w : Within) (kept : List ℕ) (c : ℕ) (es : List Element) → Ready s w (Raw c ∷ es) → IsRaw s c → (IsTrue (is_long s) → ClosesFirst (Raw c ∷ es)) → ReadsElement p s w kept (Raw c) es
 read_character p s w kept c es h i closes =
     ⊎_elim (λ long. ⊎_elim (λ e. quote long e) (λ n. read_plain p s w kept c es (λ _. n) h i) (eq_or c 39))
     (λ short. read_plain p s w kept c es (λ l. absurd (true≢false (sym l ∙ short))) h i) (bool_cases (is_long s))
   where
-    quote : is_long s ≡ true → c ≡ 39 → Reads p s w kept (Raw c) es
+    quote : is_long s ≡ true → c ≡ 39 → ReadsElement p s w kept (Raw c) es
     quote long e =
         let room : quotes (Raw 39 ∷ es) < 3 = subst (λ (x : ℕ). quotes (Raw x ∷ es) < 3) e (closes long).0 in
-        subst (λ (x : ℕ). Reads p s w kept (Raw x) es) (sym e) (read_quote p s w kept es long (subst (λ (x : ℕ). Ready s w (Raw x ∷ es)) e h) room)
+        subst (λ (x : ℕ). ReadsElement p s w kept (Raw x) es) (sym e) (read_quote p s w kept es long (subst (λ (x : ℕ). Ready s w (Raw x ∷ es)) e h) room)
 
-read_line : (p : Place) (s : Style) (w : Within) (kept : List ℕ) (e : LineEnd) (es : List Element) → Ready s w (RawLine e ∷ es) → is_long s ≡ true → CrTakesLf (RawLine e ∷ es) → Reads p s w kept (RawLine e) es
+read_line : (p : Place) (s : Style) (w : Within) (kept : List ℕ) (e : LineEnd) (es : List Element) → Ready s w (RawLine e ∷ es) → is_long s ≡ true → CrTakesLf (RawLine e ∷ es) → ReadsElement p s w kept (RawLine e) es
 read_line p s w kept Lf es h long crs = (within.Plain, tt, goes_one p s w 10 kept within.Plain (keeps.One 10) (as_raw s w 10 (ready_line s w Lf es 10 h (λ f. absurd (true≢false f)) (λ e. omega arith)) ∙ raw_lf s long))
 read_line p s w kept Cr es h long crs = (within.AfterReturn, behind_cr (RawLine Cr) es refl crs, goes_one p s w 13 kept within.AfterReturn (keeps.One 10) (as_raw s w 13 (ready_line s w Cr es 13 h (λ f e. omega arith) (λ e. omega arith)) ∙ raw_cr s long))
 read_line p s w kept CrLf es h long crs = (
@@ -130,7 +130,7 @@ read_line p s w kept CrLf es h long crs = (
       (goes_one p s within.AfterReturn 10 (kept ++ 10 ∷ []) within.Plain keeps.Nothing refl),
 )
 
-read_hidden : (p : Place) (s : Style) (w : Within) (kept : List ℕ) (e : LineEnd) (es : List Element) → Ready s w (Hidden e ∷ es) → CrTakesLf (Hidden e ∷ es) → Reads p s w kept (Hidden e) es
+read_hidden : (p : Place) (s : Style) (w : Within) (kept : List ℕ) (e : LineEnd) (es : List Element) → Ready s w (Hidden e ∷ es) → CrTakesLf (Hidden e ∷ es) → ReadsElement p s w kept (Hidden e) es
 read_hidden p s w kept Lf es h crs = (
   within.Plain,
   tt,
@@ -152,7 +152,7 @@ read_hidden p s w kept CrLf es h crs = (
       (goes_one p s within.Escape 13 kept within.AfterReturn keeps.Nothing refl) (goes_one p s within.AfterReturn 10 kept within.Plain keeps.Nothing refl))),
 )
 
-read_element : (p : Place) (s : Style) (w : Within) (kept : List ℕ) (e : Element) (es : List Element) → Ready s w (e ∷ es) → IsElement s e → CrTakesLf (e ∷ es) → (IsTrue (is_long s) → ClosesFirst (e ∷ es)) → Reads p s w kept e es
+read_element : (p : Place) (s : Style) (w : Within) (kept : List ℕ) (e : Element) (es : List Element) → Ready s w (e ∷ es) → IsElement s e → CrTakesLf (e ∷ es) → (IsTrue (is_long s) → ClosesFirst (e ∷ es)) → ReadsElement p s w kept e es
 read_element p s w kept (Raw c) es h i crs closes = read_character p s w kept c es h i closes
 read_element p s w kept (RawLine e) es h i crs closes = read_line p s w kept e es h i crs
 read_element p s w kept (Simple letter o) es h i crs closes = (

@@ -97,12 +97,12 @@ module _ (places : Places) where
     x = told_at t say.0 s'.used
 
     -- what comes of the octets behind the token
-    abbrev After : Type 0
-    After = s'.used + length (drop (s'.used - s.used) octets) ≡ all
+    abbrev TracedBehind : Type 0
+    TracedBehind = s'.used + length (drop (s'.used - s.used) octets) ≡ all
         → TellsOn places (before ++ x ∷ []) (traced places (over places (drop (s'.used - s.used) octets) (before ++ x ∷ []) s')) ts all
 
     joined : (rest : List ℕ) → drop (s'.used - s.used) octets ≡ rest → s'.used + length rest ≡ all
-        → over places octets before s ≡ over places rest (before ++ x ∷ []) s' → After
+        → over places octets before s ≡ over places rest (before ++ x ∷ []) s' → TracedBehind
         → TellsOn places before (traced places (over places octets before s)) (t ∷ ts) all
     joined rest back left same more =
         one_more places before t ts x (traced places (over places octets before s)) all place (is_told t say.0 s'.used say.1)
@@ -113,7 +113,7 @@ module _ (places : Places) where
     judged_so decided = ap (λ r. judged before t.lexeme decided s' r) (said_so t say.0 say.1)
 
     -- behind a token that was given
-    given : run t.place octets s ≡ Given t.lexeme s' → After → TellsOn places before (traced places (over places octets before s)) (t ∷ ts) all
+    given : run t.place octets s ≡ Given t.lexeme s' → TracedBehind → TellsOn places before (traced places (over places octets before s)) (t ∷ ts) all
     given e more =
         let d = last_octet t.place octets s (Given t.lexeme s') tt e in
         let one = given_one t.place d.octet d.known s' t.lexeme d.fed in
@@ -128,7 +128,7 @@ module _ (places : Places) where
         ∙ ap (λ y. then_by y (over places d.rest)) (judged_so s'.used)) more
 
     -- and of one before which an octet is left
-    left : run t.place octets s ≡ Left t.lexeme s' → After → TellsOn places before (traced places (over places octets before s)) (t ∷ ts) all
+    left : run t.place octets s ≡ Left t.lexeme s' → TracedBehind → TellsOn places before (traced places (over places octets before s)) (t ∷ ts) all
     left e more =
         let d = last_octet t.place octets s (Left t.lexeme s') tt e in
         let one = left_one t.place d.octet d.known s' t.lexeme d.fed in

@@ -14,7 +14,7 @@ use Rattle.ion_tokens.specs.machine.Traces.{Told, Places, Trail, Leads, Stops, t
 use Rattle.ion_tokens.specs.laws.Judged.{body_passes}
 use Rattle.ion_tokens.specs.laws.Tokens.{TellsLexeme, AreTold}
 use Rattle.ion_tokens.proofs.Splits.{given_one, left_one}
-use Rattle.ion_tokens.proofs.Stepped.{begins, from_left, behind_since, since_used, told_more, goes_on, all_since, end_goes}
+use Rattle.ion_tokens.proofs.Stepped.{begun_scanned, from_left, behind_since, since_used, told_more, goes_on, all_since, end_goes}
 use Rattle.ion_tokens.proofs.Told.{ends_in_token}
 use Rattle.ion_tokens.proofs.Traced.{left_owes, debt_small}
 
@@ -28,7 +28,7 @@ told_one places before (u ∷ us) (y ∷ ys) t x h p i =
     (h.0, h.1, told_one places (before ++ y ∷ []) us ys t x h.2 (p ∙ ap places (sym (append_assoc before (y ∷ []) ys))) i)
 
 -- a scanner that told tokens as a trace does, behind these octets
-record Follows (places : Places) (told : List Told) (s : Known) (u ahead : List ℕ) : Type 0 where
+record TellsFurther (places : Places) (told : List Told) (s : Known) (u ahead : List ℕ) : Type 0 where
   ts : List Placed
   are : AreTold places [] ts told
   scanned : (q : Place) → q ≡ places told → Scanned q s u ts ahead
@@ -43,7 +43,7 @@ module _ (places : Places) where
   passes : (l : Lexeme) (c : Content) → said l.kind l.octets ≡ Ok c → Passes l.kind l.octets
   passes l c e = body_passes l.kind l.octets c (subst (λ r. IsBody l.kind l.octets r) e (says l.kind l.octets))
 
-  module _ (told : List Told) (s : Known) (u ahead : List ℕ) (h : Follows places told s u ahead) (o : ℕ) (c : Continues (o ∷ []) ahead) where
+  module _ (told : List Told) (s : Known) (u ahead : List ℕ) (h : TellsFurther places told s u ahead) (o : ℕ) (c : Continues (o ∷ []) ahead) where
     abbrev p : Place
     p = places told
 
@@ -53,13 +53,13 @@ module _ (places : Places) where
     ran : (x : Outcome) → feed p s o ≡ x → run p (o ∷ []) s ≡ follow x (λ t. Next t)
     ran x e = ap (λ y. follow y (λ t. Next t)) e
 
-    used : (t : Known) → feed p s o ≡ Next t → Follows places told t (u ++ o ∷ []) []
+    used : (t : Known) → feed p s o ≡ Next t → TellsFurther places told t (u ++ o ∷ []) []
     used t e = record { ts = h.ts; are = h.are; scanned = λ q same. subst (λ q. Scanned q t (u ++ o ∷ []) h.ts []) (sym same) (goes_on p s u h.ts ahead b (o ∷ []) t c (ran (Next t) e)) }
 
     from : Continues (b.since ++ o ∷ []) b.left
     from = from_left p s u h.ts ahead b (o ∷ []) (o ∷ []) [] c (sym (append-nil (o ∷ []))) (omega arith)
 
-    given : (l : Lexeme) (t : Known) (x : Content) → said l.kind l.octets ≡ Ok x → feed p s o ≡ Given l t → Follows places (told ++ record { start = l.start; end = l.end; says = x; total = t.used } ∷ []) t (u ++ o ∷ []) []
+    given : (l : Lexeme) (t : Known) (x : Content) → said l.kind l.octets ≡ Ok x → feed p s o ≡ Given l t → TellsFurther places (told ++ record { start = l.start; end = l.end; says = x; total = t.used } ∷ []) t (u ++ o ∷ []) []
     given l t x say e = record {
       ts = h.ts ++ record { place = p; lexeme = l } ∷ [];
       are = told_one places [] h.ts told (record { place = p; lexeme = l }) (record { start = l.start; end = l.end; says = x; total = t.used }) h.are refl (is_told l t x say);
@@ -68,7 +68,7 @@ module _ (places : Places) where
           (omega (arith, given_one p o s t l e, since_used p s u h.ts ahead b, length-append b.since (o ∷ [])))) (passes l x say) q;
     }
 
-    left : (l : Lexeme) (t : Known) (x : Content) → said l.kind l.octets ≡ Ok x → feed p s o ≡ Left l t → Follows places (told ++ record { start = l.start; end = l.end; says = x; total = t.used } ∷ []) t u (o ∷ [])
+    left : (l : Lexeme) (t : Known) (x : Content) → said l.kind l.octets ≡ Ok x → feed p s o ≡ Left l t → TellsFurther places (told ++ record { start = l.start; end = l.end; says = x; total = t.used } ∷ []) t u (o ∷ [])
     left l t x say e = record {
       ts = h.ts ++ record { place = p; lexeme = l } ∷ [];
       are = told_one places [] h.ts told (record { place = p; lexeme = l }) (record { start = l.start; end = l.end; says = x; total = t.used }) h.are refl (is_told l t x say);
@@ -86,29 +86,29 @@ module _ (places : Places) where
   known_in (Leads ts s) d = s
   known_in _ d = d
 
-  by_names : (told us : List Told) (s t : Known) (u ahead : List ℕ) → Leads us t ≡ Leads told s → Follows places us t u ahead → Follows places told s u ahead
+  by_names : (told us : List Told) (s t : Known) (u ahead : List ℕ) → Leads us t ≡ Leads told s → TellsFurther places us t u ahead → TellsFurther places told s u ahead
   unfolding told_in known_in
-  by_names told us s t u ahead e h = subst (λ x. Follows places (told_in x us) (known_in x t) u ahead) e h
+  by_names told us s t u ahead e h = subst (λ x. TellsFurther places (told_in x us) (known_in x t) u ahead) e h
 
   -- one octet
-  takes_follows : (n : ℕ) (told : List Told) (s : Known) (u ahead : List ℕ) (o : ℕ) → debt s.mode < n → Follows places told s u ahead → Continues (o ∷ []) ahead → (told' : List Told) (s' : Known)
-      → takes n places o told s ≡ Leads told' s' → Follows places told' s' (u ++ o ∷ []) []
+  takes_follows : (n : ℕ) (told : List Told) (s : Known) (u ahead : List ℕ) (o : ℕ) → debt s.mode < n → TellsFurther places told s u ahead → Continues (o ∷ []) ahead → (told' : List Told) (s' : Known)
+      → takes n places o told s ≡ Leads told' s' → TellsFurther places told' s' (u ++ o ∷ []) []
   takes_follows zero told s u ahead o less h c told' s' e = absurd (omega arith)
   takes_follows (suc n) told s u ahead o less h c told' s' e = by (feed (places told) s o) refl e (λ us t small f. takes_follows n us t u (o ∷ []) o small f ([], refl) told' s')
     where
-      stopped : (l : Lexeme) (decided : ℕ) (t : Known) (r : Result Content Reason) → ((x : Content) → r ≡ Ok x → Leads (told ++ record { start = l.start; end = l.end; says = x; total = t.used } ∷ []) t ≡ Leads told' s' → Follows places told' s' (u ++ o ∷ []) [])
-          → judged told l decided t r ≡ Leads told' s' → Follows places told' s' (u ++ o ∷ []) []
+      stopped : (l : Lexeme) (decided : ℕ) (t : Known) (r : Result Content Reason) → ((x : Content) → r ≡ Ok x → Leads (told ++ record { start = l.start; end = l.end; says = x; total = t.used } ∷ []) t ≡ Leads told' s' → TellsFurther places told' s' (u ++ o ∷ []) [])
+          → judged told l decided t r ≡ Leads told' s' → TellsFurther places told' s' (u ++ o ∷ []) []
       stopped l decided t (Ok x) f g = f x refl g
       stopped l decided t (Err r) f g = cc
 
       again : (l : Lexeme) (t : Known) (r : Result Content Reason)
-          → ((x : Content) → r ≡ Ok x → takes n places o (told ++ record { start = l.start; end = l.end; says = x; total = t.used } ∷ []) t ≡ Leads told' s' → Follows places told' s' (u ++ o ∷ []) [])
-          → then_by (judged told l (t.used + 1) t r) (takes n places o) ≡ Leads told' s' → Follows places told' s' (u ++ o ∷ []) []
+          → ((x : Content) → r ≡ Ok x → takes n places o (told ++ record { start = l.start; end = l.end; says = x; total = t.used } ∷ []) t ≡ Leads told' s' → TellsFurther places told' s' (u ++ o ∷ []) [])
+          → then_by (judged told l (t.used + 1) t r) (takes n places o) ≡ Leads told' s' → TellsFurther places told' s' (u ++ o ∷ []) []
       again l t (Ok x) f g = f x refl g
       again l t (Err r) f g = cc
 
       by : (x : Outcome) → feed (places told) s o ≡ x → comes (takes n places o) told x ≡ Leads told' s'
-          → ((us : List Told) (t : Known) → debt t.mode < n → Follows places us t u (o ∷ []) → takes n places o us t ≡ Leads told' s' → Follows places told' s' (u ++ o ∷ []) []) → Follows places told' s' (u ++ o ∷ []) []
+          → ((us : List Told) (t : Known) → debt t.mode < n → TellsFurther places us t u (o ∷ []) → takes n places o us t ≡ Leads told' s' → TellsFurther places told' s' (u ++ o ∷ []) []) → TellsFurther places told' s' (u ++ o ∷ []) []
       by (Next t) f g more = by_names told' told s' t (u ++ o ∷ []) [] g (used told s u ahead h o c t f)
       by (Given l t) f g more = stopped l t.used t (said l.kind l.octets)
           (λ x say same. by_names told' (told ++ record { start = l.start; end = l.end; says = x; total = t.used } ∷ []) s' t (u ++ o ∷ []) [] same (given told s u ahead h o c l t x say f)) g
@@ -117,20 +117,20 @@ module _ (places : Places) where
       by (Refused k r) f g more = cc
 
   -- all octets
-  over_follows : (octets : List ℕ) (told : List Told) (s : Known) (u : List ℕ) → Follows places told s u [] → (told' : List Told) (s' : Known) → over places octets told s ≡ Leads told' s' → Follows places told' s' (u ++ octets) []
-  over_follows [] told s u h told' s' e = subst (λ v. Follows places told' s' v []) (sym (append-nil u)) (by_names told' told s' s u [] e h)
+  over_follows : (octets : List ℕ) (told : List Told) (s : Known) (u : List ℕ) → TellsFurther places told s u [] → (told' : List Told) (s' : Known) → over places octets told s ≡ Leads told' s' → TellsFurther places told' s' (u ++ octets) []
+  over_follows [] told s u h told' s' e = subst (λ v. TellsFurther places told' s' v []) (sym (append-nil u)) (by_names told' told s' s u [] e h)
   over_follows (o ∷ os) told s u h told' s' e = by (takes 3 places o told s) refl e (λ us t f. over_follows os us t (u ++ o ∷ []) f told' s')
     where
       by : (x : Trail) → takes 3 places o told s ≡ x → then_by x (over places os) ≡ Leads told' s'
-          → ((us : List Told) (t : Known) → Follows places us t (u ++ o ∷ []) [] → over places os us t ≡ Leads told' s' → Follows places told' s' ((u ++ o ∷ []) ++ os) []) → Follows places told' s' (u ++ o ∷ os) []
-      by (Leads us t) f g more = subst (λ v. Follows places told' s' v []) (append_assoc u (o ∷ []) os) (more us t (takes_follows 3 told s u [] o (debt_small s.mode) h (o ∷ [], refl) us t f) g)
+          → ((us : List Told) (t : Known) → TellsFurther places us t (u ++ o ∷ []) [] → over places os us t ≡ Leads told' s' → TellsFurther places told' s' ((u ++ o ∷ []) ++ os) []) → TellsFurther places told' s' (u ++ o ∷ os) []
+      by (Leads us t) f g more = subst (λ v. TellsFurther places told' s' v []) (append_assoc u (o ∷ []) os) (more us t (takes_follows 3 told s u [] o (debt_small s.mode) h (o ∷ [], refl) us t f) g)
       by (Stops us r) f g more = cc
 
-  begins_follows : Follows places [] initial [] []
-  begins_follows = record { ts = []; are = tt; scanned = λ q same. begins q initial refl }
+  begins_follows : TellsFurther places [] initial [] []
+  begins_follows = record { ts = []; are = tt; scanned = λ q same. begun_scanned q initial refl }
 
   -- the octets are the tokens told, and the one that the end shows
-  ends_follows : (u : List ℕ) (told : List Told) (s : Known) (last : Option Told) → Follows places told s u [] → end_judged s.used (at_end (places told) s) ≡ Ok last
+  ends_follows : (u : List ℕ) (told : List Told) (s : Known) (last : Option Told) → TellsFurther places told s u [] → end_judged s.used (at_end (places told) s) ≡ Ok last
       → (ts : List Placed) × Lexes false 0 u ts × AreTold places [] ts (told ++ option_to_list last)
   ends_follows u told s last h e = by (at_end (places told) s) refl e
     where

@@ -21,7 +21,7 @@ use Rattle.ion_tokens.proofs.Cutting.{run-append}
 use Rattle.ion_tokens.proofs.Runs.{given_used, left_used, next_used}
 use Rattle.ion_tokens.proofs.Moves.{at, blank, lexeme, Takes, Now, Later, AtEnd, Open}
 use Rattle.ion_tokens.proofs.TakesBlanks.{passes_blank}
-use Rattle.ion_tokens.proofs.TakesAll.{takes}
+use Rattle.ion_tokens.proofs.TakesAll.{takes_lexeme}
 
 pub run_behind : (p : Place) (xs ys : List ℕ) (s t : Known) → run p xs s ≡ Next t → run p (xs ++ ys) s ≡ run p ys t
 run_behind p xs ys s t e = run-append p xs ys s ∙ ap (λ x. follow x (λ t. run p ys t)) e
@@ -111,7 +111,7 @@ FindsFrom End Rests Bare ts = (colon : Bool) (k : ℕ) (octets ahead rest : List
 module _ (End : Bool → ℕ → List ℕ → Type 0) (Rests : Known → List ℕ → Type 0) (Bare : Type 0) (bare : (colon : Bool) (before : ℕ) (octets : List ℕ) → End colon before octets → begins begins_word octets ≡ true → Bare) where
   pub find_token : (t : Placed) (ts : List Placed) → FindsFrom End Rests Bare ts → FindsFrom End Rests Bare (t ∷ ts)
   find_token t ts more colon k octets ahead rest s (r, b, lexes) e reached =
-      by t.lexeme.kind t.lexeme.octets (same_lexeme t.lexeme b.token (k + length b.blank) b.start b.end) (takes t.place colon b.token r t.lexeme.kind t.lexeme.octets b.is) refl
+      by t.lexeme.kind t.lexeme.octets (same_lexeme t.lexeme b.token (k + length b.blank) b.start b.end) (takes_lexeme t.place colon b.token r t.lexeme.kind t.lexeme.octets b.is) refl
     where
       passed : (now : ℕ) × ((r : List ℕ) → run t.place (b.blank ++ r) (at modes.Blank [] colon k k) ≡ run t.place r (blank colon now (k + length b.blank)))
       passed = passes_blank t.place colon b.blank b.is_blank k k

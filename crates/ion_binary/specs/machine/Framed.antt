@@ -22,8 +22,8 @@ abbrev pub Framed : List Slot → Form → List ℕ → Payload → Type 0
 Framed c form body p = (h : List ℕ) → Header form (length body) h → Plain c (h ++ body) p
 
 -- behind each header of a wrapper the body is this value
-abbrev pub Wraps : List Slot → List ℕ → Value → Type 0
-Wraps c body v = (h : List ℕ) → Header forms.Wrapper (length body) h → Binary c (h ++ body) v
+abbrev pub WrapsAs : List Slot → List ℕ → Value → Type 0
+WrapsAs c body v = (h : List ℕ) → Header forms.Wrapper (length body) h → Binary c (h ++ body) v
 
 -- the payload is a list or an s-expression of the values that the body is
 pub record IsListing (c : List Slot) (x : Listing) (body : List ℕ) (p : Payload) : Type 0 where
@@ -32,7 +32,7 @@ pub record IsListing (c : List Slot) (x : Listing) (body : List ℕ) (p : Payloa
   pub items : Sequence c body values
 
 -- the payload is a struct of the fields that the body is
-pub record IsStruct (c : List Slot) (body : List ℕ) (p : Payload) : Type 0 where
+pub record IsStructBody (c : List Slot) (body : List ℕ) (p : Payload) : Type 0 where
   pub fields : List Field
   pub same : p ≡ payloads.Fields fields
   pub items : Fields c body fields

@@ -19,15 +19,15 @@ abbrev pub led : Machine → Run
 led m = record { given = []; now = Ok m }
 
 -- a run that ends with this outcome, behind `to` octets
-abbrev pub after : ℕ → Outcome → Run
-after to o = run_on to led o
+abbrev pub run_after : ℕ → Outcome → Run
+run_after to o = run_on to led o
 
 on_now-more : (v : Value × ℕ) (given : List (Value × ℕ)) (now : Result Machine Refusal) (rest : Machine → Run) →
     with_value v.0 v.1 (on_now given now rest) ≡ on_now (v ∷ given) now rest
 on_now-more v given (Ok m) rest = refl
 on_now-more v given (Err refusal) rest = refl
 
-pub then_after : (to : ℕ) (o : Outcome) (k : Machine → Run) → then_run (after to o) k ≡ run_on to k o
+pub then_after : (to : ℕ) (o : Outcome) (k : Machine → Run) → then_run (run_after to o) k ≡ run_on to k o
 then_after to (goes m) k = refl
 then_after to (gives v m) k = refl
 then_after to (refuses e) k = refl
@@ -50,7 +50,7 @@ module _ (g : Catalog) (l : Limits) where
   pub run_via : (to mid : ℕ) (m n : Machine) (r : Run) (u w : List ℕ) → mid ≡ to + length u → run g l to m u ≡ led n → run g l mid n w ≡ r → run g l to m (u ++ w) ≡ r
   run_via to mid m n r u w e h k = run-append to mid u w e m ∙ (ap (λ x. then_run x (λ n. run g l mid n w)) h ∙ k)
 
-  pub run_step : (to mid : ℕ) (m n : Machine) (r : Run) (u : List ℕ) (b : ℕ) → mid ≡ to + length u → run g l to m u ≡ led n → after (mid + 1) (feed (under g l) n b) ≡ r → run g l to m (u ++ b ∷ []) ≡ r
+  pub run_step : (to mid : ℕ) (m n : Machine) (r : Run) (u : List ℕ) (b : ℕ) → mid ≡ to + length u → run g l to m u ≡ led n → run_after (mid + 1) (feed (under g l) n b) ≡ r → run g l to m (u ++ b ∷ []) ≡ r
   run_step to mid m n r u b e h k = run_via to mid m n r u (b ∷ []) e h k
 
 pub length-one : (u : List ℕ) (b : ℕ) → length (u ++ b ∷ []) ≡ length u + 1

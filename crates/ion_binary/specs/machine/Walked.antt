@@ -13,7 +13,7 @@ use Rattle.ion_binary.specs.declared.form.Listing.{Listing}
 use Rattle.ion_binary.specs.declared.form.Scalar.{Scalar}
 use Rattle.ion_binary.specs.Grammar.{IsScalar, Ids, Plain, Binary, Sequence, Fields, listed}
 use Rattle.ion_binary.specs.Depths.{depths, field_depths}
-use Rattle.ion_binary.specs.machine.Framed.{Framed, Wraps}
+use Rattle.ion_binary.specs.machine.Framed.{Framed, WrapsAs}
 use Rattle.ion_visiting.specs.Visits.{Visits, Visited, VisitedPayload, VisitedItems, VisitedFields, VisitedAnnotations}
 
 -- the body is this scalar
@@ -51,7 +51,7 @@ module _ {S M : Type 0} (h : Visits S M) (c : List Slot) where
   -- behind each header of a wrapper the body is such a value, and no local symbol table
   pub record WalkedWrapper (level : ℕ) (body : List ℕ) (before after : S) : Type 0 where
     pub value : Value
-    pub wraps : Wraps c body value
+    pub wraps : WrapsAs c body value
     pub deep : depth value ≤ level
     pub given : is_table value ≡ false
     pub visited : Visited h value before after

@@ -16,12 +16,12 @@ abbrev pub less : ℕ → ℕ
 less n = (n + (2 ^ 64 - 1)) % 2 ^ 64
 
 -- the node of a value of this kind
-abbrev pub counted : Kind → Measure → Measure
-counted k m = record { kind = k; depth = m.depth; deepest = m.deepest; nodes = more m.nodes }
+abbrev pub counted_node : Kind → Measure → Measure
+counted_node k m = record { kind = k; depth = m.depth; deepest = m.deepest; nodes = more m.nodes }
 
 -- an annotation or a name
-abbrev pub named : Measure → Measure
-named m = record { kind = m.kind; depth = m.depth; deepest = m.deepest; nodes = more m.nodes }
+abbrev pub counted_name : Measure → Measure
+counted_name m = record { kind = m.kind; depth = m.depth; deepest = m.deepest; nodes = more m.nodes }
 
 abbrev pub opened : Measure → Measure
 opened m = record { kind = m.kind; depth = more m.depth; deepest = max m.deepest (more m.depth); nodes = m.nodes }
@@ -30,9 +30,9 @@ abbrev pub closed : Bracket → Measure → Measure
 closed b m = record { kind = kind_in b; depth = less m.depth; deepest = m.deepest; nodes = more m.nodes }
 
 abbrev pub counts : Measure → Event → Measure → Type 0
-counts a (part p) b = b ≡ counted (kind_of (bare p)) a
-counts a (annotation s) b = b ≡ named a
-counts a (name s) b = b ≡ named a
+counts a (part p) b = b ≡ counted_node (kind_of (bare p)) a
+counts a (annotation s) b = b ≡ counted_name a
+counts a (name s) b = b ≡ counted_name a
 
 abbrev pub measuring : Visits Measure ⊤
 measuring = record { takes = counts; opens = λ a b k c. c ≡ opened a; closes = λ a b k c. c ≡ closed b a; opens_wrapper = λ a k b. b ≡ a; ends_annotations = λ a k b. b ≡ a; closes_wrapper = λ a k b. b ≡ a }

@@ -6,7 +6,7 @@ use Rattle.ion_model.specs.Kept.{IsText, KeptPayload}
 use Rattle.ion_scalar.specs.binary.Spellings.{var_uint_octets}
 use Rattle.ion_binary.specs.declared.transcription.Transcription.{Transcription}
 use Rattle.ion_visiting.specs.Visits.{Event, part, annotation, name, Visits}
-use Rattle.ion_binary.specs.Output.{id_of, with_name, framed, counted}
+use Rattle.ion_binary.specs.Output.{id_of, with_name, framed, with_count}
 use Rattle.ion_binary.specs.visiting.Brackets.{code_in}
 use Rattle.ion_binary.specs.laws.writing.Output.{layer_octets, layer_symbols}
 use Rattle.ion_binary.specs.machine.Transcribed.{Named}
@@ -39,16 +39,16 @@ pub record Frames {S H : Type 0} (code : ℕ) (a b : Transcription S H) (k : ℕ
 -- the number of the octets behind the place was put before them
 pub record CountsBehind {S H : Type 0} (a b : Transcription S H) (k : ℕ) : Type 0 where
   pub names : b.names.now ≡ a.names.now
-  pub octets : b.out.items ≡ take (k + 1) a.out.items ++ counted (drop (k + 1) a.out.items)
+  pub octets : b.out.items ≡ take (k + 1) a.out.items ++ with_count (drop (k + 1) a.out.items)
 
-abbrev pub adds : {S H : Type 0} → Transcription S H → Event → Transcription S H → Type 0
-adds a (part p) b = AddsPart a b p
-adds a (annotation s) b = AddsId a b s
-adds a (name s) b = AddsId a b s
+abbrev pub writes_event : {S H : Type 0} → Transcription S H → Event → Transcription S H → Type 0
+writes_event a (part p) b = AddsPart a b p
+writes_event a (annotation s) b = AddsId a b s
+writes_event a (name s) b = AddsId a b s
 
 abbrev pub transcribing : {S H : Type 0} → Visits (Transcription S H) ℕ
 transcribing = record {
-  takes = adds;
+  takes = writes_event;
   opens = λ a x k b. AddsPlace a b k;
   closes = λ a x k b. Frames (code_in x) a b k;
   opens_wrapper = λ a k b. AddsPlace a b k;

@@ -15,11 +15,11 @@ use Rattle.ion_binary.specs.laws.writing.Written.{Resolves}
 
 -- 1. Symbols among names.
 
-pub symbol_is : (s t : Option (List ℕ)) → symbol_same s t ≡ true → s ≡ t
-symbol_is None None h = refl
-symbol_is None (Some t) h = cc
-symbol_is (Some s) None h = cc
-symbol_is (Some s) (Some t) h = ap Some ((bytes_eq-Decides s t).0 h)
+pub same_is_equal : (s t : Option (List ℕ)) → symbol_same s t ≡ true → s ≡ t
+same_is_equal None None h = refl
+same_is_equal None (Some t) h = cc
+same_is_equal (Some s) None h = cc
+same_is_equal (Some s) (Some t) h = ap Some ((bytes_eq-Decides s t).0 h)
 
 pub symbol_self : (s : Option (List ℕ)) → symbol_same s s ≡ true
 symbol_self None = refl
@@ -65,7 +65,7 @@ Starts (Some t ∷ names) = ⊥
 place_either : (s x : Option (List ℕ)) (rest : Names) (b : Bool) → symbol_same s x ≡ b → (b || list_any (symbol_same s) rest) ≡ true
     → (IsAmong rest s → slice_get (map local_slot rest) (position_or_len (symbol_same s) rest) ≡ Some (local_slot s))
     → slice_get (local_slot x ∷ map local_slot rest) (cond (not b) (1 + position_or_len (symbol_same s) rest) 0) ≡ Some (local_slot s)
-place_either s x rest true e h later = ap (λ (x : Option (List ℕ)). Some (local_slot x)) (sym (symbol_is s x e))
+place_either s x rest true e h later = ap (λ (x : Option (List ℕ)). Some (local_slot x)) (sym (same_is_equal s x e))
 place_either s x rest false e h later =
     let n : 1 + position_or_len (symbol_same s) rest ≡ suc (position_or_len (symbol_same s) rest) = omega arith in
     rw n (later h)

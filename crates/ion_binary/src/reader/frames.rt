@@ -22,7 +22,7 @@ impl BinaryReader<'_> {
     {
         let mut value = value;
         while let Some(frame) = self.frames.pop() {
-            match self.put(frame, value) {
+            match self.put_into(frame, value) {
                 Err(reason) => return Err(reason),
                 Ok(None) => return Ok(Effect::Goes),
                 Ok(Some(whole)) => value = whole,
@@ -61,7 +61,7 @@ impl BinaryReader<'_> {
 
     /// Puts a value into a container that was the innermost one: the container as a value if it is
     /// whole, else it is the innermost one again.
-    fn put(&mut self, frame: Frame, value: Value) -> Result<Option<Value>, Reason>
+    fn put_into(&mut self, frame: Frame, value: Value) -> Result<Option<Value>, Reason>
         ensures does { Puts
             (deliver (setting_of self.old) (spot_of self.old) (frame ∷ open_frames self.old) value)
             result self.new }

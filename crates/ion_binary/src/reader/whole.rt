@@ -1,6 +1,6 @@
 //! Values that lie whole in a piece.
 ghost use Rattle.std.specs.Prelude.{◌≡◌, ◌+◌, ◌≤◌, ◌<◌, ◌^◌, true, length, take, [], IfSome};
-ghost use Rattle.ion_binary.specs.machine.Pieces.{after};
+ghost use Rattle.ion_binary.specs.machine.Pieces.{run_after};
 ghost use Rattle.ion_binary.specs.machine.Views.{run_of, delivers, Does, SameSetting};
 ghost use Rattle.ion_binary.specs.declared.state.Phase.TheVariants as phases;
 
@@ -30,7 +30,7 @@ impl BinaryReader<'_> {
         ensures within { IfSome result (λ count. count ≤ length piece.now) }
         ensures some { IfSome result (λ count. 0 < count) }
         ensures runs { IfSome result (λ count. run_of self.now (take count piece.now)
-            ≡ after (self.now.used + count) (delivers self.now (self.now.used + count) slot.new)) }
+            ≡ run_after (self.now.used + count) (delivers self.now (self.now.used + count) slot.new)) }
     {
         if self.stray(Form::Wrapper).is_some() {
             return None;

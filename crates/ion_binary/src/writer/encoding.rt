@@ -9,7 +9,7 @@ ghost use Rattle.std.specs.Prelude.{◌≡◌, ◌<◌, ◌++◌, IfErr, OnOk};
 ghost use Rattle.std.specs.List.{flat_map};
 ghost use Rattle.ion_model.specs.declared.value.Payload.TheViews.{out-Payload};
 ghost use Rattle.ion_model.specs.Kept.{AreTexts, IsKept, KeptItems, KeptFields, KeptLayer};
-ghost use Rattle.ion_binary.specs.Output.{Names as SymbolsById, value_octets, framed, counted, ids_octets, with_names, names_after, symbols_of};
+ghost use Rattle.ion_binary.specs.Output.{Names as SymbolsById, value_octets, framed, with_count, ids_octets, with_names, names_after, symbols_of};
 ghost use Rattle.ion_binary.specs.Writing.{IsNumberingFault};
 ghost use Rattle.ion_binary.specs.laws.writing.Output.{layer_octets, field_octets, field_symbols, layer_symbols};
 ghost use Rattle.ion_binary.specs.writer.Later.{IsLater};
@@ -57,7 +57,7 @@ fn put_annotations<S: BuildHasher + Drop>(
     out: &mut Vec<u8>,
 ) -> Result<(), Fault>
     ensures ok { OnOk result ((later : SymbolsById) → IsLater names.new later →
-        out.new.items ≡ out.old.items ++ counted (ids_octets later annotations.now)) }
+        out.new.items ≡ out.old.items ++ with_count (ids_octets later annotations.now)) }
     ensures after { OnOk result (names.new ≡ with_names names.old annotations.now) }
     ensures kept { OnOk result (AreTexts annotations.now) }
     ensures cause { IfErr result (IsNumberingFault (with_names names.old annotations.now)) }

@@ -4,7 +4,7 @@ ghost use Rattle.std.specs.Prelude.{◌≡◌, ◌≤◌, ◌<◌, ◌^◌, ◌+
 ghost use Rattle.std.specs.List.{flat_map};
 ghost use Rattle.ion_scalar.specs.binary.Spellings.{uint_octets, var_uint_octets};
 ghost use Rattle.ion_symtab.specs.declared.fault.Fault.TheVariants as faults;
-ghost use Rattle.ion_binary.specs.Output.{counted, framed, named, table_value, text_of, value_octets};
+ghost use Rattle.ion_binary.specs.Output.{with_count, framed, named_octets, table_value, name_text, value_octets};
 
 use super::framing::{frame, insert_length, put_framed, put_id, put_symbol};
 use super::names::Names;
@@ -37,7 +37,7 @@ pub(crate) fn put_table<S: BuildHasher + Drop>(
 // The one annotation, behind the length of its id.
 fn put_counted(id: u64, out: &mut Vec<u8>) -> Result<(), Fault>
     requires { id < 2 ^ 63 }
-    ensures ok { OnOk result (out.new.items ≡ out.old.items ++ counted (var_uint_octets id)) }
+    ensures ok { OnOk result (out.new.items ≡ out.old.items ++ with_count (var_uint_octets id)) }
     ensures memory { IsOkUnless result faults.Memory }
 {
     let place = out.len();
@@ -54,9 +54,9 @@ fn put_table_fields<S: BuildHasher + Drop>(
     out: &mut Vec<u8>,
 ) -> Result<(), Fault>
     requires { first ≤ length names.now }
-    ensures ok { let imports = named names.now (Some (codes "imports")) (framed 7 (uint_octets base)) in
-        let texts = framed 11 (flat_map (λ s. framed 8 (text_of s)) (drop first names.now)) in
-        let symbols = named names.now (Some (codes "symbols")) texts in
+    ensures ok { let imports = named_octets names.now (Some (codes "imports")) (framed 7 (uint_octets base)) in
+        let texts = framed 11 (flat_map (λ s. framed 8 (name_text s)) (drop first names.now)) in
+        let symbols = named_octets names.now (Some (codes "symbols")) texts in
         OnOk result (out.new.items ≡ out.old.items ++ framed 13 (imports ++ symbols)) }
     ensures memory { IsOkUnless result faults.Memory }
 {
@@ -74,7 +74,7 @@ fn put_table_fields<S: BuildHasher + Drop>(
 // The texts as a list of strings.
 fn put_texts(symbols: &[Symbol], out: &mut Vec<u8>) -> Result<(), Fault>
     ensures ok { OnOk result (out.new.items ≡
-        out.old.items ++ framed 11 (flat_map (λ s. framed 8 (text_of s)) symbols.now)) }
+        out.old.items ++ framed 11 (flat_map (λ s. framed 8 (name_text s)) symbols.now)) }
     ensures memory { IsOkUnless result faults.Memory }
 {
     let place = out.len();

@@ -37,12 +37,12 @@ with_coefficient power octets =
     (if nat_lt (int_magnitude octets) (2 ^ 127) then Ok (decimal_with (int_negative octets) (int_magnitude octets) (signed power.negative power.magnitude)) else Err TooLarge)
     else Err TooLarge
 
-abbrev pub with_power : List ℕ → Result (Signed × ℕ) Reason → Result DecimalParts Reason
-with_power body (Ok read) = with_coefficient read.0 (drop read.1 body)
-with_power body (Err TooLarge) = Err TooLarge
-with_power body (Err _) = Err Malformed
+abbrev pub with_exponent : List ℕ → Result (Signed × ℕ) Reason → Result DecimalParts Reason
+with_exponent body (Ok read) = with_coefficient read.0 (drop read.1 body)
+with_exponent body (Err TooLarge) = Err TooLarge
+with_exponent body (Err _) = Err Malformed
 
 -- what a body is as a decimal: too large where its exponent or its coefficient is, and malformed where the exponent does not end
 unfoldable pub decimal_of_body : List ℕ → Result DecimalParts Reason
 decimal_of_body [] = Ok (decimal_with false 0 (pos 0))
-decimal_of_body (octet ∷ rest) = with_power (octet ∷ rest) (var_int (octet ∷ rest))
+decimal_of_body (octet ∷ rest) = with_exponent (octet ∷ rest) (var_int (octet ∷ rest))

@@ -11,16 +11,16 @@ positional base [] = 0
 positional base (d ∷ ds) = d * base ^ length ds + positional base ds
 
 -- digits of base 128
-pub data Digits : List ℕ → Type 0 where
-  none : Digits []
-  more : (ds : List ℕ) (d : ℕ) → Digits ds → d < 128 → Digits (ds ++ d ∷ [])
+pub data Digits128 : List ℕ → Type 0 where
+  none : Digits128 []
+  more : (ds : List ℕ) (d : ℕ) → Digits128 ds → d < 128 → Digits128 (ds ++ d ∷ [])
 
 -- These octets are a VarUInt: digits of base 128, 128 added to the last. That they are octets isn't said here: a greater number passes for
 -- a last one, too, and where that matters it is asked beside this (`AreBelow 256`).
 pub record VarUInt (w : List ℕ) (n : ℕ) : Type 0 where
   pub digits : List ℕ
   pub last : ℕ
-  pub small : Digits digits
+  pub small : Digits128 digits
   pub octets : w ≡ digits ++ (128 + last) ∷ []
   pub value : n ≡ positional 128 (digits ++ last ∷ [])
   pub bound : n < 2 ^ 63
@@ -63,7 +63,7 @@ six_bits octet = if is_negative octet then seven_bits octet - 64 else seven_bits
 -- said here that they are octets.
 pub data VarInt : List ℕ → Bool → ℕ → Type 0 where
   short : (octet : ℕ) → 128 ≤ octet → VarInt (octet ∷ []) (is_negative octet) (six_bits octet)
-  long : (octet : ℕ) (digits : List ℕ) (last : ℕ) → octet < 128 → Digits digits → positional 128 (six_bits octet ∷ digits ++ last ∷ []) < 2 ^ 63 → VarInt (octet ∷ digits ++ (128 + last) ∷ []) (is_negative octet) (positional 128 (six_bits octet ∷ digits ++ last ∷ []))
+  long : (octet : ℕ) (digits : List ℕ) (last : ℕ) → octet < 128 → Digits128 digits → positional 128 (six_bits octet ∷ digits ++ last ∷ []) < 2 ^ 63 → VarInt (octet ∷ digits ++ (128 + last) ∷ []) (is_negative octet) (positional 128 (six_bits octet ∷ digits ++ last ∷ []))
 
 abbrev pub signed_of : Bool → ℕ → Signed
 signed_of negative magnitude = record { negative = negative; magnitude = magnitude }

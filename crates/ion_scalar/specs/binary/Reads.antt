@@ -5,7 +5,7 @@ use Rattle.ion_atoms.specs.declared.refusal.Reason.{Reason}
 use Rattle.ion_atoms.specs.declared.refusal.Reason.TheVariants.{TooLarge, Malformed, Incomplete}
 use Rattle.ion_scalar.specs.declared.fields.Signed.{Signed}
 use Rattle.ion_scalar.specs.binary.Decimal.{IsDecimalField}
-use Rattle.ion_scalar.specs.binary.Fields.{positional, Digits, VarUInt, VarInt, seven_bits, six_bits}
+use Rattle.ion_scalar.specs.binary.Fields.{positional, Digits128, VarUInt, VarInt, seven_bits, six_bits}
 
 -- behind the digit `front`, the seven bits of octets reach 2^63 with one that no octet before it ends
 pub record Reaches (front : ℕ) (octets : List ℕ) : Type 0 where
@@ -13,12 +13,12 @@ pub record Reaches (front : ℕ) (octets : List ℕ) : Type 0 where
   pub octet : ℕ
   pub rest : List ℕ
   pub cut : octets ≡ digits ++ octet ∷ rest
-  pub small : Digits digits
+  pub small : Digits128 digits
   pub large : 2 ^ 63 ≤ positional 128 (front ∷ digits ++ seven_bits octet ∷ [])
 
 -- octets of which none ends, below 2^63 behind that digit
 pub record GoesOn (front : ℕ) (octets : List ℕ) : Type 0 where
-  pub small : Digits octets
+  pub small : Digits128 octets
   pub bound : positional 128 (front ∷ octets) < 2 ^ 63
 
 -- octets that begin with a VarUInt of `used` octets

@@ -1,7 +1,7 @@
 -- Decimals as tokens, behind the sign (Ion 1.0, "Ion Text Encoding" and its grammar, decimals). Floats have the same forms, with `e` in place of `d`.
 -- Octets stand as numbers: 43 is `+`, 45 `-`, 46 `.`, 68 and 100 `D` and `d`, 69 and 101 `E` and `e`.
 use Rattle.std.specs.Prelude.{ℕ, ℤ, ◌≡◌, ◌^◌, ◌<◌, ◌⊎◌, Bool, true, false, List, [], ◌∷◌, ◌++◌, length, min, pos, neg_ℤ, ◌-ℤ◌, ◌≤ℤ◌, ◌<ℤ◌}
-use Rattle.ion_scalar.specs.text.Ints.{IsDigits, digits_in, number, continued, IsWhole}
+use Rattle.ion_scalar.specs.text.Ints.{IsDigits, digits_in, number, continued, IsWholePart}
 use Rattle.ion_scalar.specs.declared.decimals.Tail.{Tail}
 
 abbrev pub signed : Bool → ℕ → ℤ
@@ -53,7 +53,7 @@ pub record IsDecimalBody (float : Bool) (body : List ℕ) (magnitude : ℕ) (exp
   pub below : Bool
   pub written : ℕ
   pub octets : body ≡ whole ++ tail
-  pub is_whole : IsWhole whole
+  pub is_whole : IsWholePart whole
   pub is_tail : IsTail tail fraction float below written
   pub digits : magnitude ≡ number 10 (whole ++ fraction)
   pub power : exponent ≡ signed below written -ℤ pos (length (digits_in fraction))

@@ -35,8 +35,8 @@ abbrev pub continued : ℕ → ℕ → List ℕ → ℕ
 continued base before os = positional base (before ∷ digits_in os)
 
 -- `0`, or digits that begin with 1 to 9
-abbrev pub IsWhole : List ℕ → Type 0
-IsWhole os = (os ≡ 48 ∷ []) ⊎ (IsDigits 10 os × (slice_index os 0 ≢ 48))
+abbrev pub IsWholePart : List ℕ → Type 0
+IsWholePart os = (os ≡ 48 ∷ []) ⊎ (IsDigits 10 os × (slice_index os 0 ≢ 48))
 
 -- whether the octets begin with `-`
 abbrev pub BeginsWithMinus : Bool → List ℕ → Type 0
@@ -51,7 +51,7 @@ IsRadix base lower upper (c ∷ x ∷ ds) n = (c ≡ 48) × ((x ≡ lower) ⊎ (
 
 -- an int's octets behind the sign: decimal, or hexadecimal behind `0x` or `0X`, or binary behind `0b` or `0B`
 abbrev pub IsMagnitude : List ℕ → ℕ → Type 0
-IsMagnitude body n = (IsWhole body × (n ≡ number 10 body)) ⊎ (IsRadix 16 120 88 body n ⊎ IsRadix 2 98 66 body n)
+IsMagnitude body n = (IsWholePart body × (n ≡ number 10 body)) ⊎ (IsRadix 16 120 88 body n ⊎ IsRadix 2 98 66 body n)
 
 -- `0` and the letter of this base
 abbrev pub HasBase : ℕ → List ℕ → Type 0

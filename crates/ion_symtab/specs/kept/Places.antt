@@ -7,9 +7,9 @@ use Rattle.ion_symtab.specs.declared.places.Places.{Places}
 use Rattle.ion_symtab.specs.declared.places.Versions.{Versions}
 
 -- the place of a version among those of a name
-abbrev pub version_of : Option Versions → ℕ → Option ℕ
-version_of None version = None
-version_of (Some versions) version = get nat_cmp versions.places version
+abbrev pub version_kept : Option Versions → ℕ → Option ℕ
+version_kept None version = None
+version_kept (Some versions) version = get nat_cmp versions.places version
 
 abbrev pub newest_among : Option Versions → Option ℕ
 newest_among None = None
@@ -17,7 +17,7 @@ newest_among (Some versions) = Some versions.newest
 
 -- the place of the table of this name and version
 abbrev pub place_of : Places → List ℕ → ℕ → Option ℕ
-place_of places name version = version_of (get_by_text places.names name) version
+place_of places name version = version_kept (get_by_text places.names name) version
 
 -- the place of the newest table of this name
 abbrev pub newest_of : Places → List ℕ → Option ℕ

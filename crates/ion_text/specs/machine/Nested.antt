@@ -14,11 +14,11 @@ use Rattle.ion_text.specs.declared.state.Now.TheVariants as nows
 use Rattle.ion_text.specs.machine.EachToken.{Setting, Spot, Reading, Turn, list_closed, sexp_closed, struct_closed}
 
 -- octets begin with the mark of an open, and `{` is none of a lob's `{{`
-abbrev pub Opens : List ℕ → Mark → Type 0
-Opens octets marks.ListOpen = slice_index octets 0 ≡ 91
-Opens octets marks.SexpOpen = slice_index octets 0 ≡ 40
-Opens octets marks.FieldsOpen = (slice_index octets 0 ≡ 123) × (slice_index octets 1 ≢ 123)
-Opens octets _ = ⊥
+abbrev pub OpensAt : List ℕ → Mark → Type 0
+OpensAt octets marks.ListOpen = slice_index octets 0 ≡ 91
+OpensAt octets marks.SexpOpen = slice_index octets 0 ≡ 40
+OpensAt octets marks.FieldsOpen = (slice_index octets 0 ≡ 123) × (slice_index octets 1 ≢ 123)
+OpensAt octets _ = ⊥
 
 -- no item is open, the scanner rests there, and the octets begin with the open of a struct
 pub record OpensStruct (r : TextReader) (octets : List ℕ) (rest : Rest) : Type 0 where
@@ -28,7 +28,7 @@ pub record OpensStruct (r : TextReader) (octets : List ℕ) (rest : Rest) : Type
   pub bare : r.notes ≡ []
   pub ready : r.stage ≡ nows.Ready
   pub more : 1 < length octets
-  pub opens : Opens octets marks.FieldsOpen
+  pub opens : OpensAt octets marks.FieldsOpen
 
 -- the octet of a close
 abbrev pub close_octet : Mark → ℕ
@@ -46,7 +46,7 @@ closes marks.FieldsClose (frames.Fields ss ms ∷ fs) nows.After = true
 closes _ _ _ = false
 
 -- so the octet does, and another container stands around that
-pub record Closes (r : Reading) (o : ℕ) (mark : Mark) : Type 0 where
+pub record ClosesAt (r : Reading) (o : ℕ) (mark : Mark) : Type 0 where
   pub octet : o ≡ close_octet mark
   pub fits : closes mark r.frames r.now ≡ true
   pub bare : r.notes ≡ []

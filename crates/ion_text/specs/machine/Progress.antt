@@ -64,15 +64,15 @@ module _ (g : Catalog) (l : Limits) (again : Bool) (to : ℕ) (m : State) (piece
     pub onward : again ≡ true → 0 < used
 
   -- a step without a value, with one that its last octet ends, and with one whose end the next octet showed
-  abbrev pub Stops : ℕ → Option Value → Option ℕ → State → Type 0
-  Stops used None (Some o) now = ⊥
-  Stops used None None now = (used ≡ length piece) × (resumed g l again to m piece ≡ led now)
-  Stops used (Some v) None now = (0 < used) × (resumed g l again to m (take used piece) ≡ record { given = (v, to + used) ∷ []; now = Ok now })
-  Stops used (Some v) (Some o) now = StopsBefore used v o now
+  abbrev pub StepStops : ℕ → Option Value → Option ℕ → State → Type 0
+  StepStops used None (Some o) now = ⊥
+  StepStops used None None now = (used ≡ length piece) × (resumed g l again to m piece ≡ led now)
+  StepStops used (Some v) None now = (0 < used) × (resumed g l again to m (take used piece) ≡ record { given = (v, to + used) ∷ []; now = Ok now })
+  StepStops used (Some v) (Some o) now = StopsBefore used v o now
 
   -- Over this piece a step answered what a run from here says, and left the reader there.
   abbrev pub Advances : Result Step Refusal → Option ℕ → State → Type 0
-  Advances (Ok step) awaited now = (step.used ≤ length piece) × Stops step.used step.value awaited now
+  Advances (Ok step) awaited now = (step.used ≤ length piece) × StepStops step.used step.value awaited now
   Advances (Err refusal) awaited now = refusal.reason ≢ Memory → resumed g l again to m piece ≡ record { given = []; now = Err refusal }
 
 -- what no step changes

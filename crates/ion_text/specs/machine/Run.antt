@@ -172,22 +172,22 @@ pub record Run : Type 0 where
 abbrev pub with_value : Value → ℕ → Run → Run
 with_value v to r = record { given = (v, to) ∷ r.given; now = r.now }
 
-abbrev pub failed : ℕ → Reason → Run
-failed to e = record { given = []; now = Err (record { offset = to; reason = e }) }
+abbrev pub failed_at : ℕ → Reason → Run
+failed_at to e = record { given = []; now = Err (record { offset = to; reason = e }) }
 
 -- behind an octet that comes again behind a value; it shows the end of one value alone
 abbrev pub once_more : ℕ → (State → Run) → Effect → Run
 once_more to rest (uses m) = rest m
 once_more to rest (tells v m) = with_value v (to + 1) (rest m)
-once_more to rest (leaves v m) = failed (to + 1) reasons.Unexpected
-once_more to rest (fails e) = failed (to + 1) e
+once_more to rest (leaves v m) = failed_at (to + 1) reasons.Unexpected
+once_more to rest (fails e) = failed_at (to + 1) e
 
 -- an octet behind `to` others
 abbrev pub run_on : ℕ → (State → Effect) → (State → Run) → Effect → Run
 run_on to again rest (uses m) = rest m
 run_on to again rest (tells v m) = with_value v (to + 1) (rest m)
 run_on to again rest (leaves v m) = with_value v to (once_more to rest (again m))
-run_on to again rest (fails e) = failed (to + 1) e
+run_on to again rest (fails e) = failed_at (to + 1) e
 
 module _ (g : Catalog) (l : Limits) where
   -- behind `to` octets

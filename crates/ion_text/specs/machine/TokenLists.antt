@@ -22,21 +22,21 @@ pub data Walk : Type 0 where
   walked : List Value → Reading → Walk
   stopped : Walk
 
-abbrev pub adds : List Value → Walk → Walk
-adds vs (walked ws r) = walked (vs ++ ws) r
-adds vs stopped = stopped
+abbrev pub adds_values : List Value → Walk → Walk
+adds_values vs (walked ws r) = walked (vs ++ ws) r
+adds_values vs stopped = stopped
 
 abbrev pub done : Reading → Walk
 done r = walked [] r
 
 abbrev pub on_turn : Turn → (Reading → Walk) → Walk
 on_turn (goes r) f = f r
-on_turn (gives v r) f = adds (v ∷ []) (f r)
+on_turn (gives v r) f = adds_values (v ∷ []) (f r)
 on_turn (refuses e) f = stopped
 on_turn (late e r) f = stopped
 
 abbrev pub then_walk : Walk → (Reading → Walk) → Walk
-then_walk (walked vs r) f = adds vs (f r)
+then_walk (walked vs r) f = adds_values vs (f r)
 then_walk stopped f = stopped
 
 -- what waits goes on with the token
@@ -78,21 +78,21 @@ module _ (g : Catalog) (l : Limits) where
   reads r [] = done r
   reads r (t ∷ ts) = on_placed (same_place t.place (place r)) (on_judged r t (said t.lexeme.kind t.lexeme.octets) (λ k. reads k ts))
 
-  pub adds_adds : (us vs : List Value) (w : Walk) → adds us (adds vs w) ≡ adds (us ++ vs) w
+  pub adds_adds : (us vs : List Value) (w : Walk) → adds_values us (adds_values vs w) ≡ adds_values (us ++ vs) w
   adds_adds us vs (walked ws r) = ap (λ x. walked x r) (sym (append_assoc us vs ws))
   adds_adds us vs stopped = refl
 
-  adds_then : (vs : List Value) (w : Walk) (h : Reading → Walk) → adds vs (then_walk w h) ≡ then_walk (adds vs w) h
+  adds_then : (vs : List Value) (w : Walk) (h : Reading → Walk) → adds_values vs (then_walk w h) ≡ then_walk (adds_values vs w) h
   adds_then vs (walked ws r) h = adds_adds vs ws (h r)
   adds_then vs stopped h = refl
 
-  pub adds_none : (w : Walk) → adds [] w ≡ w
+  pub adds_none : (w : Walk) → adds_values [] w ≡ w
   adds_none (walked ws r) = refl
   adds_none stopped = refl
 
   turn_then : (t : Turn) (f k h : Reading → Walk) → ((r : Reading) → f r ≡ then_walk (k r) h) → on_turn t f ≡ then_walk (on_turn t k) h
   turn_then (goes r) f k h e = e r
-  turn_then (gives v r) f k h e = ap (adds (v ∷ [])) (e r) ∙ adds_then (v ∷ []) (k r) h
+  turn_then (gives v r) f k h e = ap (adds_values (v ∷ [])) (e r) ∙ adds_then (v ∷ []) (k r) h
   turn_then (refuses x) f k h e = refl
   turn_then (late x r) f k h e = refl
 

@@ -167,14 +167,14 @@ count_of Leaves = 0
 count_of _ = 1
 
 -- from what came of octets at the scanner, a method did what comes of them
-pub record Meets (g : Catalog) (l : Limits) (r : Reading) (x : Outcome) (m : Met) (new : TextReader) : Type 0 where
+pub record DidWhatCame (g : Catalog) (l : Limits) (r : Reading) (x : Outcome) (m : Met) (new : TextReader) : Type 0 where
   pub did : DidMeet (λ again. on_scan g l again r x) (Ok m) new
   pub behind : IsBehind x (scanned new.scanner)
   pub left : is_left x ≡ comes_again m
 
 -- unless memory ran out
 abbrev pub MeetsWith : Catalog → Limits → Reading → Outcome → Result (ℕ × Met) Refusal → TextReader → Type 0
-MeetsWith g l r x (Ok m) new = Meets g l r x m.1 new
+MeetsWith g l r x (Ok m) new = DidWhatCame g l r x m.1 new
 MeetsWith g l r x (Err refusal) new = refusal.reason ≢ Memory → (refusal.offset ≡ decided x) × ((again : State → Effect) → on_scan g l again r x ≡ fails refusal.reason)
 
 -- the reason for which an octet is refused that was refused already, and comes again

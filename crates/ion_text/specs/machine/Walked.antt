@@ -56,13 +56,13 @@ pub record IsFlat (payload : Payload) (kind : Kind) : Type 0 where
   pub counted : nodes (bare payload) ≡ 1
 
 -- what is said is this value at once
-abbrev pub Ends : Content → Payload → Type 0
-Ends c payload = (setting : Setting) (spot : Spot) (fs : List Frame) (ss : Symbols) → on_ready setting spot fs ss c ≡ ended setting spot fs (annotated ss payload)
+abbrev pub EndsAtOnce : Content → Payload → Type 0
+EndsAtOnce c payload = (setting : Setting) (spot : Spot) (fs : List Frame) (ss : Symbols) → on_ready setting spot fs ss c ≡ ended setting spot fs (annotated ss payload)
 
 -- what is said is this value; where it waits, unless `::` follows
 abbrev pub IsValue : Bool → Content → Payload → Type 0
 IsValue true c payload = Pays (held_of c) payload
-IsValue false c payload = Ends c payload
+IsValue false c payload = EndsAtOnce c payload
 
 -- in this place octets begin with this token, which is such a value
 pub record FoundScalar (p : Place) (r : Rest) (octets : List ℕ) (s : Scalar) : Type 0 where

@@ -16,10 +16,10 @@ open_octet brackets.List = 91
 open_octet brackets.Sexp = 40
 open_octet brackets.Fields = 123
 
-abbrev pub close_octet : Bracket → ℕ
-close_octet brackets.List = 93
-close_octet brackets.Sexp = 41
-close_octet brackets.Fields = 125
+abbrev pub bracket_close : Bracket → ℕ
+bracket_close brackets.List = 93
+bracket_close brackets.Sexp = 41
+bracket_close brackets.Fields = 125
 
 abbrev pub octet_between : Bracket → ℕ
 octet_between brackets.List = 44
@@ -52,18 +52,18 @@ pub record Opens (a b : Transcription) (x : Bracket) (k : Option ℕ) : Type 0 w
 
 -- what closes them, behind which they are one whole item
 pub record Closes (a b : Transcription) (x : Bracket) (k : Option ℕ) : Type 0 where
-  pub octets : b.out.items ≡ a.out.items ++ close_octet x ∷ []
+  pub octets : b.out.items ≡ a.out.items ++ bracket_close x ∷ []
   pub before : b.before ≡ k
   pub between : b.between ≡ k
 
-abbrev pub adds : Transcription → Event → Transcription → Type 0
-adds a (part p) b = AddsPart a b p
-adds a (annotation s) b = IsText s × Adds a b (symbol_text s ++ codes "::")
-adds a (name s) b = IsText s × Adds a b (symbol_text s ++ codes ":")
+abbrev pub writes_event : Transcription → Event → Transcription → Type 0
+writes_event a (part p) b = AddsPart a b p
+writes_event a (annotation s) b = IsText s × Adds a b (symbol_text s ++ codes "::")
+writes_event a (name s) b = IsText s × Adds a b (symbol_text s ++ codes ":")
 
 abbrev pub transcribing : Visits Transcription (Option ℕ)
 transcribing = record {
-  takes = adds;
+  takes = writes_event;
   opens = λ a x k b. Opens a b x k;
   closes = λ a x k b. Closes a b x k;
   opens_wrapper = λ a k b. b ≡ a;

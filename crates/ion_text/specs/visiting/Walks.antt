@@ -54,32 +54,32 @@ pub record ItemAhead (r : TextReader) (piece : List ℕ) (blank : ℕ) (item : L
   pub none : begun.nodes ≡ 0
 
 module _ {S M : Type 0} (h : Visits S M) where
-  pub record Value (p : Place) (level : ℕ) (octets : List ℕ) (count : ℕ) (before after : Tally) (a b : S) : Type 0 where
+  pub record VisitedValue (p : Place) (level : ℕ) (octets : List ℕ) (count : ℕ) (before after : Tally) (a b : S) : Type 0 where
     pub walked : Walked p level octets count before after
     pub visited : VisitedPayload h walked.payload a b
 
-  pub record Container (p : Place) (m : Mark) (level : ℕ) (octets : List ℕ) (count : ℕ) (before after : Tally) (a b : S) : Type 0 where
+  pub record VisitedContainer (p : Place) (m : Mark) (level : ℕ) (octets : List ℕ) (count : ℕ) (before after : Tally) (a b : S) : Type 0 where
     pub walked : WalkedContainer p m level octets count before after
     pub visited : VisitedPayload h walked.inside.payload a b
 
   -- between an open and its close; with what the visitor makes of these it took the whole value
-  pub record Inside (m : Mark) (level : ℕ) (octets : List ℕ) (count : ℕ) (before after : Tally) (a b : S) : Type 0 where
+  pub record VisitedInside (m : Mark) (level : ℕ) (octets : List ℕ) (count : ℕ) (before after : Tally) (a b : S) : Type 0 where
     pub walked : WalkedInside m level octets count before after
     pub visited : (k : M) (x y : S) → h.opens x (bracket_of m) k a → h.closes b (bracket_of m) k y → VisitedPayload h walked.payload x y
 
-  pub record Name (octets : List ℕ) (count : ℕ) (before after : Tally) (a b : S) : Type 0 where
+  pub record VisitedName (octets : List ℕ) (count : ℕ) (before after : Tally) (a b : S) : Type 0 where
     pub walked : WalkedName octets count before after
     pub visited : h.takes a (name walked.name) b
 
-  pub record Notes (octets : List ℕ) (count : ℕ) (before after : Tally) (a b : S) : Type 0 where
+  pub record VisitedNotes (octets : List ℕ) (count : ℕ) (before after : Tally) (a b : S) : Type 0 where
     pub walked : WalkedNotes octets count before after
     pub some : 0 < count → 0 < length walked.notes
     pub visited : VisitedAnnotations h walked.notes a b
 
-  pub record Bare (level : ℕ) (octets : List ℕ) (count : ℕ) (before after : Tally) (a b : S) : Type 0 where
+  pub record VisitedBare (level : ℕ) (octets : List ℕ) (count : ℕ) (before after : Tally) (a b : S) : Type 0 where
     pub walked : WalkedBare level octets count before after
     pub visited : VisitedPayload h walked.payload a b
 
-  pub record Top (level : ℕ) (octets : List ℕ) (count : ℕ) (before after : Tally) (a b : S) : Type 0 where
+  pub record VisitedTop (level : ℕ) (octets : List ℕ) (count : ℕ) (before after : Tally) (a b : S) : Type 0 where
     pub walked : WalkedTop level octets count before after
     pub visited : Visited h walked.value a b

@@ -7,7 +7,7 @@ ghost use Rattle.ion_tokens.specs.Places.{is_name};
 ghost use Rattle.ion_tokens.specs.machine.Rests.{resting};
 ghost use Rattle.ion_text.specs.declared.state.Now.TheVariants as nows;
 ghost use Rattle.ion_text.specs.machine.EachToken.{place};
-ghost use Rattle.ion_text.specs.machine.Nested.{Opens, Closes, closed};
+ghost use Rattle.ion_text.specs.machine.Nested.{OpensAt, ClosesAt, closed};
 ghost use Rattle.ion_text.specs.machine.Views.{setting_of, spot_of, open_frames, reading_of, Does, SameReader, SameSetting};
 ghost use Rattle.ion_text.specs.machine.AtOnce.{Inside, Strides};
 
@@ -19,7 +19,7 @@ use ion_tokens::{Mark, Place, Rest, TokenKind};
 // The mark of an open at the front of octets. Behind `{` an octet shows that it begins no lob.
 pub(super) fn open_mark(octets: &[u8]) -> Option<Mark>
     requires more { 1 < length octets.now }
-    ensures { IfSome result (λ mark. Opens octets.now mark) }
+    ensures { IfSome result (λ mark. OpensAt octets.now mark) }
 {
     match octets[0] {
         b'[' => Some(Mark::ListOpen),
@@ -65,7 +65,7 @@ impl TextReader<'_> {
 
     /// The mark that the octet is, if it closes the innermost container, and another stands around that.
     fn close_mark(&self, octet: u8) -> Option<Mark>
-        ensures { IfSome result (λ mark. Closes (reading_of self.now) octet mark) }
+        ensures { IfSome result (λ mark. ClosesAt (reading_of self.now) octet mark) }
     {
         if self.frames.len() < 2 || self.has_notes() {
             return None;

@@ -135,7 +135,7 @@ impl TextReader<'_> {
     }
 
     /// A token ended with the last octet.
-    fn given(&mut self, token: Token<'_>) -> Result<Met, Reason>
+    fn meet_given(&mut self, token: Token<'_>) -> Result<Met, Reason>
         ensures did { DidMeet (λ _. behind_given self.old.limits (scanned self.old.scanner)
             (turn self.old.catalog.now self.old.limits (reading_of self.old)
             (token_in token.entry))) result self.new }
@@ -156,7 +156,7 @@ impl TextReader<'_> {
     }
 
     /// A token ended before the last octet.
-    fn left(&mut self, token: Token<'_>) -> Result<Met, Reason>
+    fn meet_left(&mut self, token: Token<'_>) -> Result<Met, Reason>
         ensures did { DidMeet (λ again. behind_left again (scanned self.old.scanner)
             (turn self.old.catalog.now self.old.limits (reading_of self.old)
             (token_in token.entry))) result self.new }
@@ -200,11 +200,11 @@ impl TextReader<'_> {
                     Ok(()) => Ok((used, Met::Uses)),
                     Err(reason) => Err(self.refused(0, reason)),
                 },
-                Some(token) if self.scanner.left() => match self.left(token) {
+                Some(token) if self.scanner.left() => match self.meet_left(token) {
                     Ok(met) => Ok((used, met)),
                     Err(reason) => Err(self.refused(1, reason)),
                 },
-                Some(token) => match self.given(token) {
+                Some(token) => match self.meet_given(token) {
                     Ok(met) => Ok((used, met)),
                     Err(reason) => Err(self.refused(0, reason)),
                 },

@@ -5,7 +5,7 @@ ghost use Rattle.std.specs.Prelude.{◌≡◌, ◌+◌, ◌-◌, ◌≤◌, ◌<
 ghost use Rattle.ion_visiting.specs.Visits.{annotation};
 ghost use Rattle.ion_text.specs.machine.Walked.{behind_note};
 ghost use Rattle.ion_text.specs.machine.Walked.{FoundNote, WalkedNote};
-ghost use Rattle.ion_text.specs.visiting.Walks.{NoteThere, Notes, Bare, Top};
+ghost use Rattle.ion_text.specs.visiting.Walks.{NoteThere, VisitedNotes, VisitedBare, VisitedTop};
 
 use super::finders::string_at;
 use super::nested::open_mark;
@@ -135,7 +135,7 @@ fn walk_note<T: Visitor>(
 // Goes over the annotations there: how many octets they have.
 fn walk_notes<T: Visitor>(octets: &[u8], tally: &mut Tally, visitor: &mut T) -> Option<usize>
     requires room { tally.old.rest.used + length octets.now < 2 ^ 63 }
-    ensures { IfSome result (λ count. Notes T.visits octets.now count
+    ensures { IfSome result (λ count. VisitedNotes T.visits octets.now count
         tally.old tally.new visitor.old visitor.new) }
 {
     let mut at = 0;
@@ -158,7 +158,7 @@ fn walk_string<T: Visitor>(
 ) -> Option<usize>
     requires low { tally.old.level ≤ level }
     requires room { tally.old.rest.used + length octets.now < 2 ^ 63 }
-    ensures { IfSome result (λ count. Bare T.visits level octets.now count
+    ensures { IfSome result (λ count. VisitedBare T.visits level octets.now count
         tally.old tally.new visitor.old visitor.new) }
 {
     let (scalar, said) = string_at(octets)?;
@@ -178,7 +178,7 @@ fn walk_bare<T: Visitor>(
 ) -> Option<usize>
     requires low { tally.old.level ≤ level }
     requires room { tally.old.rest.used + length octets.now < 2 ^ 63 }
-    ensures { IfSome result (λ count. Bare T.visits level octets.now count
+    ensures { IfSome result (λ count. VisitedBare T.visits level octets.now count
         tally.old tally.new visitor.old visitor.new) }
 {
     if octets.len() < 2 {
@@ -200,7 +200,7 @@ fn walk_annotated<T: Visitor>(
 ) -> Option<usize>
     requires low { tally.old.level ≤ level }
     requires room { tally.old.rest.used + length octets.now < 2 ^ 63 }
-    ensures { IfSome result (λ count. Top T.visits level octets.now count
+    ensures { IfSome result (λ count. VisitedTop T.visits level octets.now count
         tally.old tally.new visitor.old visitor.new) }
 {
     let mark = visitor.open_wrapper()?;
@@ -226,7 +226,7 @@ pub(crate) fn walk_top<T: Visitor>(
 ) -> Option<usize>
     requires low { tally.old.level ≤ level }
     requires room { tally.old.rest.used + length octets.now < 2 ^ 63 }
-    ensures { IfSome result (λ count. Top T.visits level octets.now count
+    ensures { IfSome result (λ count. VisitedTop T.visits level octets.now count
         tally.old tally.new visitor.old visitor.new) }
 {
     match octets.first() {

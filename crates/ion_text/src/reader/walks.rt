@@ -10,10 +10,10 @@ ghost use Rattle.ion_tokens.specs.declared.mode.Place.TheVariants as places;
 ghost use Rattle.ion_tokens.specs.declared.mode.TokenKind.TheVariants as tokens;
 ghost use Rattle.ion_tokens.specs.machine.Rests.{past_blank, past_token, IsPassed};
 ghost use Rattle.ion_text.specs.laws.reading.FrontTokens.{BeginsName};
-ghost use Rattle.ion_text.specs.machine.Nested.{Opens};
+ghost use Rattle.ion_text.specs.machine.Nested.{OpensAt};
 ghost use Rattle.ion_text.specs.machine.Walked.{close_of, kind_of_open, behind_key};
 ghost use Rattle.ion_text.specs.visiting.Parts.{bracket_of, payload_of};
-ghost use Rattle.ion_text.specs.visiting.Walks.{FoundPart, FoundNumber, Value, Container, Inside, Name};
+ghost use Rattle.ion_text.specs.visiting.Walks.{FoundPart, FoundNumber, VisitedValue, VisitedContainer, VisitedInside, VisitedName};
 
 use super::beside::may_be_rare;
 use super::finders::{
@@ -55,7 +55,7 @@ impl Tally {
 
     /// Notes the node of a value of this kind.
     #[inline(always)]
-    fn note(&mut self, kind: Kind)
+    fn count_node(&mut self, kind: Kind)
         ensures { self.new ≡ record {
           kind = kind;
           level = self.old.level;
@@ -123,7 +123,7 @@ impl Tally {
     {
         self.pass_token(place, scalar.token.kind, scalar.token.count);
         self.pass_blank(blank);
-        self.note(scalar.kind);
+        self.count_node(scalar.kind);
         scalar.token.count + blank
     }
 
@@ -209,7 +209,7 @@ fn walk_rare<T: Visitor>(
 ) -> Option<usize>
     requires low { tally.old.level ≤ level }
     requires room { tally.old.rest.used + length octets.now < 2 ^ 63 }
-    ensures { IfSome result (λ count. Value T.visits here level octets.now count
+    ensures { IfSome result (λ count. VisitedValue T.visits here level octets.now count
         tally.old tally.new visitor.old visitor.new) }
 {
     if !may_be_rare(octets) {
@@ -239,7 +239,7 @@ fn walk_part<T: Visitor>(
     requires found { FoundPart here tally.old.rest octets.now scalar (payload_of said.now) }
     requires low { tally.old.level ≤ level }
     requires room { tally.old.rest.used + length octets.now < 2 ^ 63 }
-    ensures { IfSome result (λ count. Value T.visits here level octets.now count
+    ensures { IfSome result (λ count. VisitedValue T.visits here level octets.now count
         tally.old tally.new visitor.old visitor.new) }
 {
     if !visitor.part(said) {
@@ -266,7 +266,7 @@ fn walk_number<T: Visitor>(
     requires found { FoundNumber here tally.old.rest octets.now token number.now }
     requires low { tally.old.level ≤ level }
     requires room { tally.old.rest.used + length octets.now < 2 ^ 63 }
-    ensures { IfSome result (λ count. Value T.visits here level octets.now count
+    ensures { IfSome result (λ count. VisitedValue T.visits here level octets.now count
         tally.old tally.new visitor.old visitor.new) }
 {
     if !visitor.number(number) {
@@ -292,7 +292,7 @@ fn walk_scalar<T: Visitor>(
     requires value { is_name here ≡ false }
     requires low { tally.old.level ≤ level }
     requires room { tally.old.rest.used + length octets.now < 2 ^ 63 }
-    ensures { IfSome result (λ count. Value T.visits here level octets.now count
+    ensures { IfSome result (λ count. VisitedValue T.visits here level octets.now count
         tally.old tally.new visitor.old visitor.new) }
 {
     if begins_number(octets) {
@@ -318,7 +318,7 @@ fn walk_rare_name<T: Visitor>(
     visitor: &mut T,
 ) -> Option<usize>
     requires room { tally.old.rest.used + length octets.now < 2 ^ 63 }
-    ensures { IfSome result (λ count. Name T.visits octets.now count
+    ensures { IfSome result (λ count. VisitedName T.visits octets.now count
         tally.old tally.new visitor.old visitor.new) }
 {
     if !may_be_rare(octets) {
@@ -343,7 +343,7 @@ fn walk_key<T: Visitor>(
 ) -> Option<usize>
     requires name { BeginsName places.Name tally.old.rest octets.now token (Some text.now) }
     requires room { tally.old.rest.used + length octets.now < 2 ^ 63 }
-    ensures { IfSome result (λ count. Name T.visits octets.now count
+    ensures { IfSome result (λ count. VisitedName T.visits octets.now count
         tally.old tally.new visitor.old visitor.new) }
 {
     let between = behind_name(octets, token.count)?;
@@ -363,7 +363,7 @@ fn walk_name<T: Visitor>(
     visitor: &mut T,
 ) -> Option<usize>
     requires room { tally.old.rest.used + length octets.now < 2 ^ 63 }
-    ensures { IfSome result (λ count. Name T.visits octets.now count
+    ensures { IfSome result (λ count. VisitedName T.visits octets.now count
         tally.old tally.new visitor.old visitor.new) }
 {
     match octets.first() {
@@ -439,7 +439,7 @@ fn walk_value<T: Visitor>(
     requires value { is_name here ≡ false }
     requires low { tally.old.level ≤ level }
     requires room { tally.old.rest.used + length octets.now < 2 ^ 63 }
-    ensures { IfSome result (λ count. Value T.visits here level octets.now count
+    ensures { IfSome result (λ count. VisitedValue T.visits here level octets.now count
         tally.old tally.new visitor.old visitor.new) }
 {
     if octets.len() < 2 {
@@ -463,9 +463,9 @@ pub(super) fn walk_container<T: Visitor>(
     visitor: &mut T,
 ) -> Option<usize>
     requires more { 1 < length octets.now }
-    requires opens { Opens octets.now mark }
+    requires opens { OpensAt octets.now mark }
     requires room { tally.old.rest.used + length octets.now < 2 ^ 63 }
-    ensures { IfSome result (λ count. Container T.visits here mark level octets.now count
+    ensures { IfSome result (λ count. VisitedContainer T.visits here mark level octets.now count
         tally.old tally.new visitor.old visitor.new) }
 {
     if level == 0 {
@@ -479,7 +479,7 @@ pub(super) fn walk_container<T: Visitor>(
         return None;
     }
     tally.pass_token(here, TokenKind::Mark(close_of(mark)), 1);
-    tally.note(kind_of_open(mark));
+    tally.count_node(kind_of_open(mark));
     Some(count + 2)
 }
 
@@ -495,7 +495,7 @@ fn walk_inside<T: Visitor>(
 ) -> Option<usize>
     requires low { tally.old.level ≤ level }
     requires room { tally.old.rest.used + length octets.now < 2 ^ 63 }
-    ensures { IfSome result (λ count. Inside T.visits mark level octets.now count
+    ensures { IfSome result (λ count. VisitedInside T.visits mark level octets.now count
         tally.old tally.new visitor.old visitor.new) }
 {
     match mark {
@@ -518,7 +518,7 @@ fn walk_list<T: Visitor>(
 ) -> Option<usize>
     requires low { tally.old.level ≤ level }
     requires room { tally.old.rest.used + length octets.now < 2 ^ 63 }
-    ensures { IfSome result (λ count. Inside T.visits marks.ListOpen level octets.now count
+    ensures { IfSome result (λ count. VisitedInside T.visits marks.ListOpen level octets.now count
         tally.old tally.new visitor.old visitor.new) }
 {
     let mut at = 0;
@@ -553,7 +553,7 @@ fn walk_sexp<T: Visitor>(
 ) -> Option<usize>
     requires low { tally.old.level ≤ level }
     requires room { tally.old.rest.used + length octets.now < 2 ^ 63 }
-    ensures { IfSome result (λ count. Inside T.visits marks.SexpOpen level octets.now count
+    ensures { IfSome result (λ count. VisitedInside T.visits marks.SexpOpen level octets.now count
         tally.old tally.new visitor.old visitor.new) }
 {
     let mut at = 0;
@@ -580,7 +580,7 @@ fn walk_struct<T: Visitor>(
 ) -> Option<usize>
     requires low { tally.old.level ≤ level }
     requires room { tally.old.rest.used + length octets.now < 2 ^ 63 }
-    ensures { IfSome result (λ count. Inside T.visits marks.FieldsOpen level octets.now count
+    ensures { IfSome result (λ count. VisitedInside T.visits marks.FieldsOpen level octets.now count
         tally.old tally.new visitor.old visitor.new) }
 {
     let mut at = 0;

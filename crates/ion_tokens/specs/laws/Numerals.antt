@@ -7,7 +7,7 @@ use Rattle.std.specs.List.{list_any}
 use Rattle.std.proofs.lemmas.Bool.{false≢true}
 use Rattle.std.proofs.lemmas.Bool.Decides.{nat_tests}
 use Rattle.std.proofs.lemmas.List.{take_all, take_more, take-append-drop}
-use Rattle.ion_scalar.specs.text.Ints.{IsDigits, IsWhole, IsRadix, IsMagnitude, minus}
+use Rattle.ion_scalar.specs.text.Ints.{IsDigits, IsWholePart, IsRadix, IsMagnitude, minus}
 use Rattle.ion_scalar.specs.text.Decimals.{IsSigned, IsLetter, IsExponent, IsEnd, IsFraction, IsTail, IsDecimalBody}
 use Rattle.ion_scalar.specs.text.Timestamps.{IsAt, IsDigitAt, AreTwoAt, BeginsWithMonth, BeginsWithDay, BeginsWithMinute, BeginsWithSecond, IsOffsetToken, IsDay, IsFractionEnd, IsTimestampToken}
 use Rattle.ion_scalar.specs.text.Timestamps.IsTimestampToken.{year, month, day, minute, second, fraction}
@@ -48,7 +48,7 @@ digits_numeric base (c ∷ d ∷ os) b (h, inl more) = (from_value base c b h, d
 digits_numeric base (c ∷ d ∷ os) b (h, inr mark) = (from_value base c b h, (same_octet d 95 refl mark.0, digits_numeric base os b mark.1))
 
 -- magnitudes
-whole_numeric : (os : List ℕ) → IsWhole os → Each is_numeric_octet os
+whole_numeric : (os : List ℕ) → IsWholePart os → Each is_numeric_octet os
 whole_numeric os h = digits_numeric 10 os (omega arith) (whole_digits os h)
 
 radix_numeric : (base lower upper : ℕ) (os : List ℕ) (n : ℕ) → base ≤ 16 → is_numeric_octet lower ≡ true → is_numeric_octet upper ≡ true → IsRadix base lower upper os n → Each is_numeric_octet os

@@ -41,7 +41,7 @@ use Rattle.ion_binary.specs.Judge.{judge}
 use Rattle.ion_binary.specs.machine.EachOctet as machine
 use Rattle.ion_binary.specs.machine.EachOctet.{Outcome, Spot, Machine, moved, in_body, open_struct, marks, goes, gives, refuses, under, anew, spot_at, at, initial, on_descriptor, deliver, turned, feed, unless, or_else, misfits, stray, unending, nameless, past, outside, unfit, hollow, begin, one_octet, judged, longer, sized, unsized, name_came, count_came, annotation_came, number_came, on_number}
 use Rattle.ion_binary.specs.machine.Run.{run, run_on}
-use Rattle.ion_binary.specs.machine.Pieces.{run-append, then_run, after}
+use Rattle.ion_binary.specs.machine.Pieces.{run-append, then_run, run_after}
 use Rattle.ion_binary.specs.laws.reading.Complete.{binary_run, body_run, begin_scalar}
 use Rattle.ion_binary.specs.laws.reading.Documents.{pieces_run}
 use Rattle.ion_binary.specs.laws.reading.OpenRuns.{Match, nothing_open, items, names, named, noted, same_levels, open_run, headed_run, takes_phase}
@@ -106,15 +106,15 @@ either : {A : Type 0} (P : A → Type 0) (b : Bool) (x y : A) → P x → P y �
 either P true x y p q = p
 either P false x y p q = q
 
-abbrev IsPlain : Reason → Type 0
-IsPlain e = (e ≡ Malformed) ⊎ (e ≡ Float)
+abbrev IsPlainReason : Reason → Type 0
+IsPlainReason e = (e ≡ Malformed) ⊎ (e ≡ Float)
 
 abbrev PlainOpening : Opening → Type 0
-PlainOpening (Refused e) = IsPlain e
+PlainOpening (Refused e) = IsPlainReason e
 PlainOpening _ = Unit {0}
 
 abbrev PlainDescriptor : Result Descriptor Reason → Type 0
-PlainDescriptor (Err e) = IsPlain e
+PlainDescriptor (Err e) = IsPlainReason e
 PlainDescriptor (Ok d) = Unit {0}
 
 with_plain : (t : Scalar) (z : Size) → PlainOpening (with_octets t z)
@@ -152,7 +152,7 @@ opening_plain : (b : ℕ) → PlainOpening (opening_of b)
 unfolding opening_of descriptor_of
 opening_plain b = opens_plain (descriptor_of b) (typed_plain (b / 16) (b % 16))
 
-plain_small : (e : Reason) → IsPlain e → reason_number e ≤ 5
+plain_small : (e : Reason) → IsPlainReason e → reason_number e ≤ 5
 plain_small e (inl h) = subst (λ (x : Reason). reason_number x ≤ 5) (sym h) (omega arith)
 plain_small e (inr h) = subst (λ (x : Reason). reason_number x ≤ 5) (sym h) (omega arith)
 
@@ -568,7 +568,7 @@ module _ (g : Catalog) (l : Limits) where
         ∙ (ap (λ x. (run_on (length front) (λ n. run g l (length front) n body) (begin (under g l) (spot_at (length front) start c) d.fs (forms.Scalar t) x)).now) n
         ∙ (ap (λ x. (run_on (length front) (λ n. run g l (length front) n body) x).now) (begin_scalar g l (spot_at (length front) start c) d.fs t (length bs))
         ∙ (ap (λ x. x.now) (body_run g l (spot_at (length front) start c) d.fs t (length bs) [] body to refl k)
-        ∙ ap (λ x. (after to (judged (under g l) (spot_at to start c) d.fs x)).now) j)))))))
+        ∙ ap (λ x. (run_after to (judged (under g l) (spot_at to start c) d.fs x)).now) j)))))))
 
   row_bad_table : (u w : List ℕ) (s : List Value) (c : List Slot) (v : Value) (e : Reason) → Pieces g l u s c → Binary c w v → is_table v ≡ true → depth v ≤ l.depth → length w ≤ l.item → next c v g ≡ Err e → Stopped g l (u ++ w) e
   row_bad_table u w s c v e d b t n p q =
@@ -579,7 +579,7 @@ module _ (g : Catalog) (l : Limits) where
       (ap (λ x. x.now) (run-append g l 0 (length u) u w (omega arith) initial)
       ∙ (ap (λ x. (then_run x (λ n. run g l (length u) n w)).now) r.ran
       ∙ ap (λ x. x.now) (binary_run g l (spot_at (length u) (length u) c) [] to w v b (record { fitting = refl; named = refl }) k (λ i. omega arith) (omega arith)
-      ∙ (ap (after to) (cond-true _ _ _ t) ∙ ap (λ x. after to (turned to x)) q))))
+      ∙ (ap (run_after to) (cond-true _ _ _ t) ∙ ap (λ x. run_after to (turned to x)) q))))
 
   -- markers
 

@@ -13,7 +13,7 @@ use Rattle.ion_binary.specs.declared.state.Phase.TheVariants.{Ready}
 use Rattle.ion_binary.specs.Grammar.{Pieces, begins, marked, skips, turns, holds, the_marker}
 use Rattle.ion_binary.specs.machine.EachOctet.{anew, at, initial, turned}
 use Rattle.ion_binary.specs.machine.Run.{run}
-use Rattle.ion_binary.specs.machine.Pieces.{run-append, then_run, after}
+use Rattle.ion_binary.specs.machine.Pieces.{run-append, then_run, run_after}
 use Rattle.ion_binary.specs.laws.reading.Complete.{Admits, binary_run, skip_run, marker_run}
 use Rattle.ion_binary.specs.laws.reading.Small.{binary_nodes, spaced_on, spaced_more}
 
@@ -56,12 +56,12 @@ module _ (g : Catalog) (l : Limits) where
       let to = length (u ++ w) in
       rw append-nil at (behind u w s [] c e [] r
       (binary_run g l (anew (length u) c) [] to w v b top k (λ i. omega arith) (omega arith)
-      ∙ (ap (after to) (cond-true _ _ _ t) ∙ ap (λ x. after to (turned to x)) n)) refl (rw append-nil (longer_spaced u w r.given r.spaced)))
+      ∙ (ap (run_after to) (cond-true _ _ _ t) ∙ ap (λ x. run_after to (turned to x)) n)) refl (rw append-nil (longer_spaced u w r.given r.spaced)))
   pieces_run _ _ _ (holds u w s c v d b t p q) =
       let r = pieces_run u s c d in
       let k = length-append u w in
       let n = binary_nodes c w v b in
       let to = length (u ++ w) in
       behind u w s (v ∷ []) c c ((v, to) ∷ []) r
-      (binary_run g l (anew (length u) c) [] to w v b top k (λ i. omega arith) (omega arith) ∙ ap (after to) (cond-false _ _ _ t))
+      (binary_run g l (anew (length u) c) [] to w v b top k (λ i. omega arith) (omega arith) ∙ ap (run_after to) (cond-false _ _ _ t))
       refl (spaced_more l.item 0 r.given (length u) v to r.spaced (record { start = length u; end = to; behind = omega arith; within = omega arith; fits = omega arith; holds = omega arith }))

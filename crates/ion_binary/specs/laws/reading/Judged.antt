@@ -18,7 +18,7 @@ use Rattle.ion_binary.specs.declared.form.Scalar.{Scalar}
 use Rattle.ion_binary.specs.declared.form.Scalar.TheVariants as scalars
 use Rattle.ion_scalar.specs.binary.Reads.{ReadsDecimalBody}
 use Rattle.ion_scalar.specs.binary.Decimal.{decimal_of_body}
-use Rattle.ion_scalar.specs.binary.laws.Decimal.{decimal_read, decimal_answers}
+use Rattle.ion_scalar.specs.binary.laws.Decimal.{decimal_body_read, decimal_answers}
 use Rattle.ion_scalar.specs.binary.Timestamp.{timestamp_of_body}
 use Rattle.ion_scalar.specs.binary.laws.Shown.{timestamp_read, timestamp_told}
 use Rattle.ion_binary.specs.Grammar.{IsScalar, is_int, is_negative, is_decimal, is_timestamp, is_symbol, is_string, is_clob, is_blob}
@@ -29,7 +29,7 @@ pub judge_scalar : (c : List Slot) (body : List ℕ) (t : Scalar) (p : Payload) 
 unfolding judge
 judge_scalar c body _ _ (is_int h) = ap (int_of false) (cond-true _ _ _ (lt-ltb (positional 256 body) (2 ^ 127) h))
 judge_scalar c body _ _ (is_negative h k) = ap (int_of true) (cond-true _ _ _ (lt-ltb (positional 256 body) (2 ^ 127) h)) ∙ cond-false _ _ _ (ne_eqb (positional 256 body) 0 (λ e. omega arith))
-judge_scalar c body _ _ (is_decimal d h k) = ap as_decimal (decimal_read body d h k)
+judge_scalar c body _ _ (is_decimal d h k) = ap as_decimal (decimal_body_read body d h k)
 judge_scalar c body _ _ (is_timestamp t h) = ap as_timestamp (timestamp_read body t h)
 judge_scalar c body _ _ (is_symbol s h k) = ap (symbol_of c) (cond-true _ _ _ (lt-ltb (positional 256 body) (2 ^ 127) h)) ∙ ap as_symbol k
 judge_scalar c body _ _ (is_string h) = cond-true _ _ _ (is_utf8-from_IsUtf8 body h)

@@ -4,7 +4,7 @@ use Rattle.std.proofs.lemmas.Bool.{cond-true, cond-false}
 use Rattle.ion_model.specs.declared.value.Value.{Value}
 use Rattle.ion_atoms.specs.declared.refusal.Reason.{Reason}
 use Rattle.ion_atoms.specs.Reasons.{reason_number}
-use Rattle.ion_scalar.specs.binary.Fields.{positional, Digits, none, more}
+use Rattle.ion_scalar.specs.binary.Fields.{positional, Digits128, none, more}
 use Rattle.ion_symtab.specs.declared.limits.Limits.{Limits}
 use Rattle.ion_symtab.specs.declared.catalog.Catalog.{Catalog}
 use Rattle.ion_symtab.specs.Slots.{Slot}
@@ -18,7 +18,7 @@ use Rattle.ion_binary.specs.declared.state.Phase.{Phase}
 use Rattle.ion_binary.specs.declared.state.Phase.TheVariants.{Ready, InNumber}
 use Rattle.ion_binary.specs.machine.EachOctet.{Outcome, goes, refuses, under, spot_at, at, initial, unless, nameless, unending, past, sized, number_came, on_descriptor, feed}
 use Rattle.ion_binary.specs.machine.Run.{run, run_on}
-use Rattle.ion_binary.specs.machine.Pieces.{run-append, then_run, after, led, run_via}
+use Rattle.ion_binary.specs.machine.Pieces.{run-append, then_run, run_after, led, run_via}
 use Rattle.ion_binary.specs.laws.reading.Complete.{too_long_none, digits_more, number_run, count_goes, ids_run, begin_wrapper, last_step}
 use Rattle.ion_binary.specs.laws.reading.OpenRuns.{Match, nothing_open, items, names, named, noted, may_admit, phase_of, Leads, open_run, headed_run, takes_phase}
 use Rattle.ion_binary.specs.Deciding as deciding
@@ -82,7 +82,7 @@ module _ (g : Catalog) (l : Limits) where
     pub goes_with : (fs hs : List Frame) (phase then' : Phase) (u : List ℕ) (b : ℕ) → (o : Holds fs phase u) → feed (under g l) (at (spot_at (length u) start c) fs phase) b ≡ goes (at (spot_at (length u + 1) start c) hs then') → Holds hs then' (u ++ b ∷ [])
     goes_with fs hs phase then' u b o fed =
         let k = length-append u (b ∷ []) in
-        holds_via fs hs phase then' u (b ∷ []) (u ++ b ∷ []) o refl (ap (after (length u + 1)) fed ∙ ap (λ n. led (at (spot_at n start c) hs then')) (let j : length u + 1 ≡ length (u ++ b ∷ []) = omega arith in j))
+        holds_via fs hs phase then' u (b ∷ []) (u ++ b ∷ []) o refl (ap (run_after (length u + 1)) fed ∙ ap (λ n. led (at (spot_at n start c) hs then')) (let j : length u + 1 ≡ length (u ++ b ∷ []) = omega arith in j))
 
     pub leads_holds : (ks : List Container) (u : List ℕ) → (d : Leads g l c start ks u) → Holds d.fs (phase_of ks) u
     leads_holds ks u d = record { given = d.given; ran = d.ran }
@@ -134,7 +134,7 @@ module _ (g : Catalog) (l : Limits) where
               ∙ ap (λ x. goes (at (spot_at (length u + 1) start c) o.fs (InNumber (purpose_of p) x))) (sym e)))));
         }
 
-    digits_hold : (ks : List Container) (p : Number) (ds : List ℕ) (u : List ℕ) → Digits ds → HoldsIn ks p 0 u → positional 128 ds < 2 ^ 63 → MayGoOn g l c start ks p (length (u ++ ds)) → HoldsIn ks p (positional 128 ds) (u ++ ds)
+    digits_hold : (ks : List Container) (p : Number) (ds : List ℕ) (u : List ℕ) → Digits128 ds → HoldsIn ks p 0 u → positional 128 ds < 2 ^ 63 → MayGoOn g l c start ks p (length (u ++ ds)) → HoldsIn ks p (positional 128 ds) (u ++ ds)
     digits_hold ks p _ u none o b h = subst (HoldsIn ks p 0) (sym (append-nil u)) o
     digits_hold ks p _ u (more ds d s q) o b h =
         let k = digits_more ds d in
@@ -201,7 +201,7 @@ module _ (g : Catalog) (l : Limits) where
           holds = holds_via w.fs (frames.Annotated end ss ∷ f.0) (InNumber purposes.AnnotationsLength 0) (InNumber (purposes.Annotation stop) 0) front (count ++ ids) u w.holds refl
               (ap (λ fs. run g l (length front) (at (spot_at (length front) start c) fs (InNumber purposes.AnnotationsLength 0)) (count ++ ids)) f.1
               ∙ run_via g l (length front) mid (at (spot_at (length front) start c) (frames.Annotated end [] ∷ f.0) (InNumber purposes.AnnotationsLength 0)) (at (spot_at mid start c) (frames.Annotated end [] ∷ f.0) (InNumber (purposes.Annotation stop) 0)) _ count ids refl
-              (number_run g l (spot_at (length front) start c) (frames.Annotated end [] ∷ f.0) purposes.AnnotationsLength count n mid v refl (omega arith) ∙ ap (after mid) (count_goes g l (spot_at mid start c) f.0 end n [] some room))
+              (number_run g l (spot_at (length front) start c) (frames.Annotated end [] ∷ f.0) purposes.AnnotationsLength count n mid v refl (omega arith) ∙ ap (run_after mid) (count_goes g l (spot_at mid start c) f.0 end n [] some room))
               (ids_run g l (spot_at mid start c) f.0 end stop ids ss (length u) t (omega arith) there (omega arith)
               ∙ ap (λ ph. led (at (spot_at (length u) start c) (frames.Annotated end ss ∷ f.0) ph)) (cond-false _ _ _ (ne_eqb (length u) stop (λ x. omega arith)))));
         }

@@ -22,7 +22,7 @@ use Rattle.ion_scalar.specs.declared.descriptor.Size.TheVariants.{Follows}
 use Rattle.ion_binary.specs.declared.form.Opening.TheVariants.{Sized}
 use Rattle.ion_binary.specs.Opening.{is_pad}
 use Rattle.ion_binary.specs.machine.EachOctet.{end_of}
-use Rattle.ion_binary.specs.laws.reading.Stands.{Ends, Box, IsStruct, InStruct, Opened, Front, MarkerStands, LengthStands, NumberStands, BodyStands, Standing, marker_place}
+use Rattle.ion_binary.specs.laws.reading.Stands.{BodyMayEnd, Box, IsStructOf, InFields, Opened, Front, MarkerStands, LengthStands, NumberStands, BodyStands, Standing, marker_place}
 use Rattle.ion_binary.specs.laws.reading.Steady.{FineFrames}
 
 module _ (g : Catalog) (l : Limits) where
@@ -45,7 +45,7 @@ module _ (g : Catalog) (l : Limits) where
   box_before : (start : ℕ) (s : List Value) (Outer : List ℕ → Type 0) (fs : List Frame) (form : Form) (end : ℕ) (u : List ℕ) → ((w : List ℕ) → Outer w → Cut start s w) → Box l start Outer fs form end u → Cut start s u
   box_before start s Outer fs form end u f o = cut_on start s o.before o.header u o.whole (f o.before o.outer)
 
-  struct_before : (start : ℕ) (c : List Slot) (s : List Value) (Outer : List ℕ → Type 0) (fs : List Frame) (end : ℕ) (ms : List Field) (u : List ℕ) → ((w : List ℕ) → Outer w → Cut start s w) → InStruct l start c Outer fs end ms u → Cut start s u
+  struct_before : (start : ℕ) (c : List Slot) (s : List Value) (Outer : List ℕ → Type 0) (fs : List Frame) (end : ℕ) (ms : List Field) (u : List ℕ) → ((w : List ℕ) → Outer w → Cut start s w) → InFields l start c Outer fs end ms u → Cut start s u
   struct_before start c s Outer fs end ms u f o = cut_on start s o.front o.body u o.whole (box_before start s Outer fs o.form end o.front f o.box)
 
   opened_cut : (start : ℕ) (c : List Slot) (s : List Value) (fs : List Frame) (u : List ℕ) → Opened g l start c s fs u → Cut start s u
@@ -64,13 +64,13 @@ module _ (g : Catalog) (l : Limits) where
   front_long start c s u (inr h) = h.1
 
   -- what ends where a body may end in these frames ends within the item
-  ends_within : (start : ℕ) (f : Frame) (fs : List Frame) (form : Form) (to : ℕ) → end_of f ≤ start + l.item → Ends l start (f ∷ fs) form to → to ≤ start + l.item
+  ends_within : (start : ℕ) (f : Frame) (fs : List Frame) (form : Form) (to : ℕ) → end_of f ≤ start + l.item → BodyMayEnd l start (f ∷ fs) form to → to ≤ start + l.item
   ends_within start (frames.Items end x vs) fs form to h r = omega arith
   ends_within start (frames.Fields end ms) fs form to h r = omega arith
   ends_within start (frames.Named end ms name) fs form to h r = omega arith
   ends_within start (frames.Annotated end ss) fs form to h r = omega arith
 
-  struct_form : (form : Form) (n : ℕ) → IsStruct form n → is_pad form ≡ false
+  struct_form : (form : Form) (n : ℕ) → IsStructOf form n → is_pad form ≡ false
   struct_form forms.Pad n h = absurd h
   struct_form (forms.Scalar t) n h = refl
   struct_form (forms.Listing x) n h = refl

@@ -20,11 +20,11 @@ use Rattle.ion_binary.specs.machine.EachOctet as machine
 use Rattle.ion_binary.specs.Opening.{is_pad, is_wrapper}
 use Rattle.ion_binary.specs.machine.EachOctet.{under, spot_at, at, initial, begin, proceed, stray, nameless, open_struct, hollow}
 use Rattle.ion_binary.specs.machine.Run.{run, run_on}
-use Rattle.ion_binary.specs.machine.Pieces.{run-append, then_run, then_after, after, led, run_via}
-use Rattle.ion_binary.specs.laws.reading.Stands.{Ends}
+use Rattle.ion_binary.specs.machine.Pieces.{run-append, then_run, then_after, run_after, led, run_via}
+use Rattle.ion_binary.specs.laws.reading.Stands.{BodyMayEnd}
 use Rattle.ion_binary.specs.laws.reading.Documents.{pieces_run}
 use Rattle.ion_binary.specs.laws.reading.Complete.{Admits, header_run, number_run, items_run, fields_run, items_go, fields_go, name_run, ids_run, count_goes, begin_wrapper, begin_ordered}
-use Rattle.ion_binary.specs.Deciding.{Container, Items, Names, Named, Noted, levels, MayBegin, MayReach, Headed, InStruct, IsStruct, Open}
+use Rattle.ion_binary.specs.Deciding.{Container, Items, Names, Named, Noted, container_levels, MayBegin, MayReach, Headed, InStruct, IsStruct, Open}
 
 -- the frames of the machine are these containers
 pub data Match (c : List Slot) : List Frame → List Container → Type 0 where
@@ -34,14 +34,14 @@ pub data Match (c : List Slot) : List Frame → List Container → Type 0 where
   named : (end id : ℕ) (ms : List Field) (fs : List Frame) (ks : List Container) → Match c fs ks → Match c (frames.Named end ms (resolve c id) ∷ fs) (Named end id ∷ ks)
   noted : (end : ℕ) (ss : List (Option (List ℕ))) (fs : List Frame) (ks : List Container) → Match c fs ks → Match c (frames.Annotated end ss ∷ fs) (Noted end ∷ ks)
 
-pub same_levels : (c : List Slot) (fs : List Frame) (ks : List Container) → Match c fs ks → machine.levels fs ≡ levels ks
+pub same_levels : (c : List Slot) (fs : List Frame) (ks : List Container) → Match c fs ks → machine.levels fs ≡ container_levels ks
 same_levels c _ _ nothing_open = refl
 same_levels c _ _ (items end x vs fs ks m) = ap suc (same_levels c fs ks m)
 same_levels c _ _ (names end ms fs ks m) = ap suc (same_levels c fs ks m)
 same_levels c _ _ (named end id ms fs ks m) = ap suc (same_levels c fs ks m)
 same_levels c _ _ (noted end ss fs ks m) = same_levels c fs ks m
 
-pub reach_ends : (l : Limits) (start : ℕ) (c : List Slot) (fs : List Frame) (ks : List Container) (form : Form) (to : ℕ) → Match c fs ks → MayReach l start ks (is_pad form) to → Ends l start fs form to
+pub reach_ends : (l : Limits) (start : ℕ) (c : List Slot) (fs : List Frame) (ks : List Container) (form : Form) (to : ℕ) → Match c fs ks → MayReach l start ks (is_pad form) to → BodyMayEnd l start fs form to
 reach_ends l start c _ _ form to nothing_open h = h
 reach_ends l start c _ _ form to (items end x vs fs ks m) h = h
 reach_ends l start c _ _ form to (names end ms fs ks m) h = h
@@ -140,7 +140,7 @@ module _ (g : Catalog) (l : Limits) (c : List Slot) (start : ℕ) where
       behind_header ks (Names end ∷ ks) o.form end o.front o.body u (frames.Fields end o.fields ∷ d.fs) _ o.headed (struct_hollow o.form o.headed.n o.struct (omega arith)) d o.parts (names end o.fields d.fs ks d.match)
       (ap (run_on (length o.front) (λ n. run g l (length o.front) n o.body)) (struct_opens d.fs o.form o.headed.n (length o.front) o.struct (omega arith) ∙ cond-true _ _ _ (lt-ltb (machine.levels d.fs) l.depth (omega arith)))
       ∙ (rw here (fields_run g l (length o.front) start c d.fs end (length u) o.body o.fields o.come (omega arith) (omega arith) (omega arith))
-      ∙ ap (after (length u)) (fields_go g l (spot_at (length u) start c) d.fs end o.fields more)))
+      ∙ ap (run_after (length u)) (fields_go g l (spot_at (length u) start c) d.fs end o.fields more)))
 
   -- the innermost of the frames is that of a struct
   record NamesMatch (ks : List Container) (end : ℕ) (fs : List Frame) : Type 0 where
@@ -178,7 +178,7 @@ module _ (g : Catalog) (l : Limits) (c : List Slot) (start : ℕ) where
       behind_header ks (Items end ∷ ks) (forms.Listing o.listing) end o.front o.body u (frames.Items end o.listing o.items ∷ d.fs) _ o.headed refl d o.parts (items end o.listing o.items d.fs ks d.match)
       (ap (run_on (length o.front) (λ n. run g l (length o.front) n o.body)) (cond-true _ _ _ (lt-ltb (machine.levels d.fs) l.depth (omega arith)))
       ∙ (rw here (items_run g l (length o.front) start c d.fs end o.listing (length u) o.body o.items o.come (omega arith) (omega arith) (omega arith))
-      ∙ ap (after (length u)) (items_go g l (spot_at (length u) start c) d.fs end o.listing o.items more)))
+      ∙ ap (run_after (length u)) (items_go g l (spot_at (length u) start c) d.fs end o.listing o.items more)))
   open_run (Names end ∷ ks) u o = struct_run ks end u o (open_run ks o.headed.before o.headed.outer)
   open_run (Named end id ∷ ks) u o =
       let i = o.inside in
@@ -201,6 +201,6 @@ module _ (g : Catalog) (l : Limits) (c : List Slot) (start : ℕ) where
       behind_header ks (Noted end ∷ ks) forms.Wrapper end o.front (o.count ++ o.ids) u (frames.Annotated end o.symbols ∷ d.fs) _ o.headed (cond-false _ _ _ (ne_eqb o.headed.n 0 (λ x. omega arith))) d o.parts (noted end o.symbols d.fs ks d.match)
       (ap (run_on mid (λ n. run g l mid n (o.count ++ o.ids))) (begin_wrapper g l (spot_at mid start c) d.fs o.headed.n)
       ∙ (rw here (run_via g l mid mid2 (at (spot_at mid start c) (frames.Annotated end [] ∷ d.fs) (InNumber purposes.AnnotationsLength 0)) (at (spot_at mid2 start c) (frames.Annotated end [] ∷ d.fs) (InNumber (purposes.Annotation (mid2 + length o.ids)) 0)) _ o.count o.ids refl
-      (number_run g l (spot_at mid start c) (frames.Annotated end [] ∷ d.fs) purposes.AnnotationsLength o.count (length o.ids) mid2 o.number refl (omega arith) ∙ ap (after mid2) (count_goes g l (spot_at mid2 start c) d.fs end (length o.ids) [] some (omega arith)))
+      (number_run g l (spot_at mid start c) (frames.Annotated end [] ∷ d.fs) purposes.AnnotationsLength o.count (length o.ids) mid2 o.number refl (omega arith) ∙ ap (run_after mid2) (count_goes g l (spot_at mid2 start c) d.fs end (length o.ids) [] some (omega arith)))
       (ids_run g l (spot_at mid2 start c) d.fs end (mid2 + length o.ids) o.ids o.symbols (length u) o.come (omega arith) there (omega arith)
       ∙ ap (λ ph. led (at (spot_at (length u) start c) (frames.Annotated end o.symbols ∷ d.fs) ph)) (cond-true _ _ _ (eq-eqb (length u) (mid2 + length o.ids) there))))))

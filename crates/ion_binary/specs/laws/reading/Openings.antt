@@ -16,7 +16,7 @@ use Rattle.ion_binary.specs.declared.state.Purpose.{Purpose}
 use Rattle.ion_binary.specs.declared.state.Purpose.TheVariants as purposes
 use Rattle.ion_binary.specs.Opening.{is_pad, is_wrapper}
 use Rattle.ion_binary.specs.machine.EachOctet.{nameless}
-use Rattle.ion_binary.specs.laws.reading.Stands.{Ends, Box, IsStruct, InStruct, Opened, Receives, Inside, Going, Fitting, NumberStands}
+use Rattle.ion_binary.specs.laws.reading.Stands.{BodyMayEnd, Box, IsStructOf, InFields, Opened, Receives, Inside, Going, Fitting, NumberStands}
 use Rattle.ion_binary.specs.laws.reading.Complete.{header_some}
 use Rattle.ion_binary.specs.laws.reading.OpenRuns.{Match, nothing_open, items, names, named, noted, same_levels}
 use Rattle.ion_binary.specs.laws.reading.NumberRuns.{purpose_of, InFrames, length_in, name_in, count_in, id_in}
@@ -48,14 +48,14 @@ may_begin c _ _ form (named end id ms fs ks m) h = λ p. go (resolve c id) refl 
         let k : cond (is_pad form) None (Some x) ≡ Some x = cond-false _ _ _ p in
         absurd (let q : Some x ≡ None = sym k ∙ n in cc)
 
-pub may_reach : (l : Limits) (start : ℕ) (c : List Slot) (fs : List Frame) (ks : List Container) (form : Form) (to : ℕ) → Match c fs ks → Ends l start fs form to → MayReach l start ks (is_pad form) to
+pub may_reach : (l : Limits) (start : ℕ) (c : List Slot) (fs : List Frame) (ks : List Container) (form : Form) (to : ℕ) → Match c fs ks → BodyMayEnd l start fs form to → MayReach l start ks (is_pad form) to
 may_reach l start c _ _ form to nothing_open h = h
 may_reach l start c _ _ form to (items end x vs fs ks m) h = h
 may_reach l start c _ _ form to (names end ms fs ks m) h = h
 may_reach l start c _ _ form to (named end id ms fs ks m) h = h
 may_reach l start c _ _ form to (noted end ss fs ks m) h = h
 
-is_struct : (form : Form) (n : ℕ) → IsStruct form n → deciding.IsStruct form
+is_struct : (form : Form) (n : ℕ) → IsStructOf form n → deciding.IsStruct form
 is_struct forms.Struct n h = tt
 is_struct forms.OrderedStruct n h = tt
 is_struct forms.Pad n h = absurd h
@@ -64,7 +64,7 @@ is_struct (forms.Listing x) n h = absurd h
 is_struct forms.Wrapper n h = absurd h
 
 -- what ends inside of a container begins there
-pub ends_inside : (l : Limits) (start : ℕ) (fs : List Frame) (form : Form) (end n : ℕ) → Ends l start fs form end → n < end → Inside fs n
+pub ends_inside : (l : Limits) (start : ℕ) (fs : List Frame) (form : Form) (end n : ℕ) → BodyMayEnd l start fs form end → n < end → Inside fs n
 ends_inside l start [] form end n r h = tt
 ends_inside l start (frames.Annotated e ss ∷ fs) form end n r h = omega arith
 ends_inside l start (frames.Items e x vs ∷ fs) form end n r h = omega arith
@@ -99,7 +99,7 @@ module _ (g : Catalog) (l : Limits) (start : ℕ) (c : List Slot) (s : List Valu
       let e = b.ends in
       ends_inside l start fs form end (length b.before) b.room (omega arith)
 
-  struct_open : (fs : List Frame) (end : ℕ) (ms : List Field) (u : List ℕ) → (i : InStruct l start c (Opened g l start c s fs) fs end ms u) → (o : Shape fs i.box.before) → Match c fs o.ks → length u < end → deciding.InStruct l c start (Open g l c start o.ks) o.ks end u
+  struct_open : (fs : List Frame) (end : ℕ) (ms : List Field) (u : List ℕ) → (i : InFields l start c (Opened g l start c s fs) fs end ms u) → (o : Shape fs i.box.before) → Match c fs o.ks → length u < end → deciding.InStruct l c start (Open g l c start o.ks) o.ks end u
   struct_open fs end ms u i o m h =
       let d = i.deep in
       let e = same_levels c fs o.ks o.match in

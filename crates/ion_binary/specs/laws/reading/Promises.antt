@@ -21,7 +21,7 @@ use Rattle.ion_binary.specs.Grammar.{Pieces, begins, marked, skips, turns, holds
 use Rattle.ion_binary.specs.machine.EachOctet.{Machine, under, anew, at, initial}
 use Rattle.ion_binary.specs.machine.Run.{Run, run, whole, ends_of, refused_of, trace_of, trace}
 use Rattle.ion_binary.specs.machine.Pieces.{run-append, then_run, on_now}
-use Rattle.ion_binary.specs.laws.reading.Stands.{Standing, Stands}
+use Rattle.ion_binary.specs.laws.reading.Stands.{Standing, MachineStands}
 use Rattle.ion_binary.specs.laws.reading.Sound.{run_stands, initial_stands, Ended}
 use Rattle.ion_binary.specs.laws.reading.Steady.{Steady, FineFrames, feed_steady}
 use Rattle.ion_binary.specs.laws.reading.Small.{spaced_on}
@@ -91,7 +91,7 @@ pub one_shown : (g : Catalog) (l : Limits) (u : List ℕ) (s t : List Value) →
 one_shown g l u s t a b = shown_once (λ front following s. Whole g l front s) u s t (λ front following p q. one_whole g l front front s t refl p q) a b
 
 -- what the machine holds behind octets stands for them
-pub ran_stands : (g : Catalog) (l : Limits) (u : List ℕ) (given : List (Value × ℕ)) (m : Machine) → run g l 0 initial u ≡ record { given = given; now = Ok m } → Stands g l u (plain given) m
+pub ran_stands : (g : Catalog) (l : Limits) (u : List ℕ) (given : List (Value × ℕ)) (m : Machine) → run g l 0 initial u ≡ record { given = given; now = Ok m } → MachineStands g l u (plain given) m
 ran_stands g l u given m e = subst (λ (r : Run). Ended g l u [] r.given r.now) e (run_stands g l 0 initial [] u [] (initial_stands g l))
 
 cut_of : (g : Catalog) (l : Limits) (u : List ℕ) (given : List (Value × ℕ)) (m : Machine) → run g l 0 initial u ≡ record { given = given; now = Ok m } → OpenCut g l m.spot.start (plain given) u

@@ -59,12 +59,12 @@ or_false true b h = cc
 
 module _ (g : Catalog) (l : Limits) (c : List Slot) (start : ℕ) where
   -- a header ends, in these frames
-  pub record Here (fs : List Frame) (form : Form) (n : ℕ) (u : List ℕ) : Type 0 where
+  pub record HeaderEnds (fs : List Frame) (form : Form) (n : ℕ) (u : List ℕ) : Type 0 where
     pub ks : List Container
     pub match : Match c fs ks
     pub ends : EndsHeader g l c start ks form n u
 
-  pub hollow_row : (fs : List Frame) (form : Form) (n : ℕ) (u : List ℕ) → Here fs form n u → (x : Reason) → hollow form n ≡ Some x → Decides g l u x
+  pub hollow_row : (fs : List Frame) (form : Form) (n : ℕ) (u : List ℕ) → HeaderEnds fs form n u → (x : Reason) → hollow form n ≡ Some x → Decides g l u x
   hollow_row fs (forms.Scalar scalars.NegativeInt) n u h x e =
       let p = some_then (n == 0) Malformed x e in
       subst (Decides g l u) p.1 (bad_empty_body c start h.ks scalars.NegativeInt u Malformed (subst (λ k. EndsHeader g l c start h.ks (forms.Scalar scalars.NegativeInt) k u) (eqb-true n 0 p.0) h.ends) (negative_empty c))
@@ -147,7 +147,7 @@ module _ (g : Catalog) (l : Limits) (c : List Slot) (start : ℕ) where
       (name_row fs ks form u b m o (λ size p e. sized_pad form (Known n) size p (sym i ∙ e)))
 
   -- at the end of a length: what is wrong is where it reaches
-  pub long_row : (fs : List Frame) (form : Form) (n : ℕ) (u : List ℕ) → Here fs form n u → stray fs form ≡ None → nameless fs form ≡ None → (x : Reason) → unfit l.item start fs form (length u + n) ≡ Some x → Decides g l u x
+  pub long_row : (fs : List Frame) (form : Form) (n : ℕ) (u : List ℕ) → HeaderEnds fs form n u → stray fs form ≡ None → nameless fs form ≡ None → (x : Reason) → unfit l.item start fs form (length u + n) ≡ Some x → Decides g l u x
   long_row fs form n u h a d =
       first_of_three (stray fs form) (misfits l.item start fs form (length u + n)) (nameless fs form) (Decides g l u)
       (λ y e. absurd (let q : None ≡ Some y = sym a ∙ e in cc))
@@ -214,7 +214,7 @@ module _ (g : Catalog) (l : Limits) (c : List Slot) (start : ℕ) where
   number_row _ _ _ a u b (id_in ks end stop ss fs m) o h x e = going_row stop ks (Id stop) a u b o h (of_annotations ks stop) x e
 
   -- what a number that ended is of
-  pub header_here : (ks : List Container) (q : Number) (fs : List Frame) (form : Form) (n : ℕ) (u : List ℕ) → InFrames c ks q fs → purpose_of q ≡ purposes.Length form → EndsNumber g l c start ks q n u → Here fs form n u
+  pub header_here : (ks : List Container) (q : Number) (fs : List Frame) (form : Form) (n : ℕ) (u : List ℕ) → InFrames c ks q fs → purpose_of q ≡ purposes.Length form → EndsNumber g l c start ks q n u → HeaderEnds fs form n u
   header_here _ _ _ form n u (length_in ks f fs m) e o = record { ks = ks; match = m; ends = deciding.by_length u (subst (λ x. EndsNumber g l c start ks (Length x) n u) (let k : f ≡ form = cc in k) o) }
   header_here _ _ _ form n u (name_in end ks fs m) e o = absurd cc
   header_here _ _ _ form n u (count_in ks end fs m) e o = absurd cc
@@ -250,5 +250,5 @@ module _ (g : Catalog) (l : Limits) (c : List Slot) (start : ℕ) where
   marker_row _ _ _ u b (named end id ms fs ks m) o t i = inner_marker c start (Named end id) ks u b o t i
   marker_row _ _ _ u b (noted end ss fs ks m) o t i = inner_marker c start (Noted end) ks u b o t i
 
-  pub deep_row : (fs : List Frame) (form : Form) (n : ℕ) (u : List ℕ) → Here fs form n u → IsContainer form → l.depth ≤ machine.levels fs → Decides g l u Depth
+  pub deep_row : (fs : List Frame) (form : Form) (n : ℕ) (u : List ℕ) → HeaderEnds fs form n u → IsContainer form → l.depth ≤ machine.levels fs → Decides g l u Depth
   deep_row fs form n u h i d = let s = same_levels c fs h.ks h.match in too_deep c start h.ks form n u h.ends i (omega arith)

@@ -21,7 +21,7 @@ use Rattle.ion_scalar.specs.declared.descriptor.Size.TheVariants.{Known, Follows
 use Rattle.ion_scalar.specs.declared.descriptor.Descriptor.{Descriptor}
 use Rattle.ion_scalar.specs.declared.descriptor.Descriptor.TheVariants as descriptors
 use Rattle.ion_scalar.specs.binary.Descriptor.{descriptor_of, typed, size, kind}
-use Rattle.ion_scalar.specs.binary.Fields.{positional, Digits, none, more, VarUInt, seven_bits, is_last}
+use Rattle.ion_scalar.specs.binary.Fields.{positional, Digits128, none, more, VarUInt, seven_bits, is_last}
 use Rattle.ion_scalar.specs.Positional.{positional_push}
 use Rattle.ion_binary.specs.declared.form.Form.{Form}
 use Rattle.ion_binary.specs.declared.form.Form.TheVariants as forms
@@ -45,18 +45,18 @@ use Rattle.ion_binary.specs.Judge.{judge}
 use Rattle.ion_binary.specs.Deciding as deciding
 use Rattle.ion_binary.specs.Deciding.{Decides, bad_table, bad_body, bad_empty_body, no_fields, no_count, no_descriptor, no_marker, other_marker, other_version, a_null, a_truth, by_descriptor, EndsNumber}
 use Rattle.ion_binary.specs.laws.reading.Openings.{opened_open, takes, may_begin, may_reach, ends_inside, Numbered, numbered}
-use Rattle.ion_binary.specs.laws.reading.RefusedRows.{Here, hollow_row, short_row, long_row, one_row, unending_row, follows_stray, follows_name, number_row, header_here, value_row, count_row, none_row, annotation_row, marker_row, deep_row}
+use Rattle.ion_binary.specs.laws.reading.RefusedRows.{HeaderEnds, hollow_row, short_row, long_row, one_row, unending_row, follows_stray, follows_name, number_row, header_here, value_row, count_row, none_row, annotation_row, marker_row, deep_row}
 use Rattle.ion_binary.specs.laws.reading.Judged.{judge_sound, scalar_flat}
 use Rattle.ion_binary.specs.machine.EachOctet.{Spot, under, anew, counted, Machine, Outcome, goes, gives, refuses, at, end_of, levels, turned, deliver, proceed, unless, or_else, misfits, stray, nameless, unending, past, unfit, hollow, judged, open_struct, begin, sized, longer, one_octet, on_descriptor, annotation_came, number_came, on_number, on_marker, on_body, on_pad, on_phase, feed, initial}
 use Rattle.ion_binary.specs.machine.Run.{run, run_on}
-use Rattle.ion_binary.specs.laws.reading.Stands.{MarkCame, AtFirst, Inside, Fitting, Ends, Box, IsStruct, InStruct, IsBare, Opened, Receives, Accepts, Before, marker_front, Front, marker_place, IfGood, MarkerStands, Going, NumberStands, BodyStands, Standing, Stands}
+use Rattle.ion_binary.specs.laws.reading.Stands.{MarkCame, AtFirst, Inside, Fitting, BodyMayEnd, Box, IsStructOf, InFields, IsBare, Opened, Receives, Accepts, AwaitsDescriptor, marker_front, Front, marker_place, IfGood, MarkerStands, Going, NumberStands, BodyStands, Standing, MachineStands}
 use Rattle.ion_binary.specs.machine.Pieces.{length-one}
 use Rattle.ion_binary.specs.laws.reading.Complete.{header_some, depth-listed, depth-fields, field_deepest-more, body_more, pad_more, begin_scalar, begin_pad, begin_ordered, begin_wrapper}
 
 -- what an outcome leaves stands for the octets
 abbrev pub Leaves : Catalog → Limits → List ℕ → List Value → Outcome → Type 0
-Leaves g l u s (goes m) = Stands g l u s m
-Leaves g l u s (gives v m) = Stands g l u (s ++ v ∷ []) m
+Leaves g l u s (goes m) = MachineStands g l u s m
+Leaves g l u s (gives v m) = MachineStands g l u (s ++ v ∷ []) m
 Leaves g l u s (refuses e) = Decides g l u e
 
 -- a value that may come in these frames: in a wrapper one without annotations
@@ -79,14 +79,14 @@ binary_comes c (frames.Fields end ms ∷ fs) w v i h = h
 binary_comes c (frames.Named end ms name ∷ fs) w v i h = h
 
 -- all forms but a pad may end at the same places
-pub ends_back : (l : Limits) (start : ℕ) (fs : List Frame) (form : Form) (to : ℕ) → is_pad form ≡ false → Ends l start fs form to → Ends l start fs forms.Struct to
+pub ends_back : (l : Limits) (start : ℕ) (fs : List Frame) (form : Form) (to : ℕ) → is_pad form ≡ false → BodyMayEnd l start fs form to → BodyMayEnd l start fs forms.Struct to
 ends_back l start [] form to i r = λ p. r i
 ends_back l start (frames.Annotated end ss ∷ fs) form to i r = r
 ends_back l start (frames.Items end x vs ∷ fs) form to i r = r
 ends_back l start (frames.Fields end ms ∷ fs) form to i r = r
 ends_back l start (frames.Named end ms name ∷ fs) form to i r = r
 
-struct_sized : (form : Form) (n : ℕ) → IsStruct form n → is_pad form ≡ false
+struct_sized : (form : Form) (n : ℕ) → IsStructOf form n → is_pad form ≡ false
 struct_sized forms.Pad n h = absurd h
 struct_sized (forms.Scalar t) n h = refl
 struct_sized (forms.Listing x) n h = refl
@@ -95,7 +95,7 @@ struct_sized forms.OrderedStruct n h = refl
 struct_sized forms.Wrapper n h = refl
 
 -- a whole struct
-struct_is : (c : List Slot) (form : Form) (n : ℕ) (h body : List ℕ) (ms : List Field) → IsStruct form n → Header form n h → n ≡ length body → Fields c body ms → Plain c (h ++ body) (payloads.Fields ms)
+struct_is : (c : List Slot) (form : Form) (n : ℕ) (h body : List ℕ) (ms : List Field) → IsStructOf form n → Header form n h → n ≡ length body → Fields c body ms → Plain c (h ++ body) (payloads.Fields ms)
 struct_is c forms.Struct n h body ms i d e b = is_struct h body ms (subst (λ n. Header forms.Struct n h) e d) b
 struct_is c forms.OrderedStruct n h body ms i d e b = is_ordered h body ms (subst (λ n. Header forms.OrderedStruct n h) e d) (omega arith) b
 struct_is c forms.Pad n h body ms i d e b = absurd i
@@ -122,7 +122,7 @@ top_room : (b : Bool) (item start to : ℕ) → cond (b || nat_le to (start + it
 top_room true item start to h e = absurd cc
 top_room false item start to h e = leb-true to (start + item) (cond_none _ _ h)
 
-pub misfits_ends : (l : Limits) (start : ℕ) (fs : List Frame) (form : Form) (to : ℕ) → misfits l.item start fs form to ≡ None → Ends l start fs form to
+pub misfits_ends : (l : Limits) (start : ℕ) (fs : List Frame) (form : Form) (to : ℕ) → misfits l.item start fs form to ≡ None → BodyMayEnd l start fs form to
 misfits_ends l start [] form to h = top_room (is_pad form) l.item start to h
 misfits_ends l start (frames.Annotated end ss ∷ fs) form to h = eqb-true to end (cond_none _ _ h)
 misfits_ends l start (frames.Items end x vs ∷ fs) form to h = leb-true to end (cond_none _ _ h)
@@ -153,7 +153,7 @@ stray_accepts fs forms.Struct r h = tt
 stray_accepts fs forms.OrderedStruct r h = tt
 
 -- a VarUInt that ends with this octet
-ended : (ds : List ℕ) (a b : ℕ) → Digits ds → a ≡ positional 128 ds → 128 ≤ b → 128 * a + (b - 128) < 2 ^ 63 → VarUInt (ds ++ b ∷ []) (128 * a + (b - 128))
+ended : (ds : List ℕ) (a b : ℕ) → Digits128 ds → a ≡ positional 128 ds → 128 ≤ b → 128 * a + (b - 128) < 2 ^ 63 → VarUInt (ds ++ b ∷ []) (128 * a + (b - 128))
 ended ds a b s v h m =
     let i = positional_push 128 ds (b - 128) in
     record { digits = ds; last = b - 128; small = s; octets = ap (λ x. ds ++ x ∷ []) (omega arith); value = omega arith; bound = m }
@@ -258,7 +258,7 @@ module _ (g : Catalog) (l : Limits) where
 
   -- the adding of a value, in these frames
   abbrev Adds : Spot → List Value → List Frame → Type 0
-  Adds spot s fs = (u w : List ℕ) (v : Value) → Opened g l spot.start spot.context s fs u → Comes spot.context fs w v → spot.used ≡ length (u ++ w) → depth v + levels fs ≤ l.depth → Ends l spot.start fs forms.Struct spot.used → Receives fs → nameless fs forms.Struct ≡ None → Leaves g l (u ++ w) s (deliver (under g l) spot fs v)
+  Adds spot s fs = (u w : List ℕ) (v : Value) → Opened g l spot.start spot.context s fs u → Comes spot.context fs w v → spot.used ≡ length (u ++ w) → depth v + levels fs ≤ l.depth → BodyMayEnd l spot.start fs forms.Struct spot.used → Receives fs → nameless fs forms.Struct ≡ None → Leaves g l (u ++ w) s (deliver (under g l) spot fs v)
 
   -- a list or s-expression goes on, or ends here
   items_stand : (spot : Spot) (s : List Value) (fs : List Frame) (u : List ℕ) (end : ℕ) (x : Listing) (vs : List Value) → Adds spot s fs → Opened g l spot.start spot.context s (frames.Items end x vs ∷ fs) u → spot.used ≡ length u
@@ -277,11 +277,11 @@ module _ (g : Catalog) (l : Limits) where
       subst (λ y. Leaves g l y s (deliver (under g l) spot fs (bare (listed x vs)))) (sym outside)
       (k o.box.before (o.box.header ++ o.body) (bare (listed x vs)) o.box.outer
       (plain_comes spot.context fs _ _ (is_listing o.box.header o.body x vs (subst (λ n. Header (forms.Listing x) n o.box.header) full o.box.head) o.items))
-      (e ∙ ap length outside) (omega arith) (ends_back l spot.start fs (forms.Listing x) spot.used refl (subst (Ends l spot.start fs (forms.Listing x)) (sym here) o.box.room)) o.box.admits.receives (named_struct fs (forms.Listing x) refl o.box.admits.named)))
+      (e ∙ ap length outside) (omega arith) (ends_back l spot.start fs (forms.Listing x) spot.used refl (subst (BodyMayEnd l spot.start fs (forms.Listing x)) (sym here) o.box.room)) o.box.admits.receives (named_struct fs (forms.Listing x) refl o.box.admits.named)))
       (λ h. let apart = eqb-false spot.used end h in let in_it = o.within in record { used = e; standing = record { opened = o; receives = tt; more = omega arith } })
 
   -- a struct goes on, or ends here
-  fields_stand : (spot : Spot) (s : List Value) (fs : List Frame) (u : List ℕ) (end : ℕ) (ms : List Field) → Adds spot s fs → InStruct l spot.start spot.context (Opened g l spot.start spot.context s fs) fs end ms u → spot.used ≡ length u
+  fields_stand : (spot : Spot) (s : List Value) (fs : List Frame) (u : List ℕ) (end : ℕ) (ms : List Field) → Adds spot s fs → InFields l spot.start spot.context (Opened g l spot.start spot.context s fs) fs end ms u → spot.used ≡ length u
       → Leaves g l u s (proceed (under g l) spot (frames.Fields end ms ∷ fs))
   fields_stand spot s fs u end ms k o e =
       let k1 = ap length o.whole in
@@ -298,7 +298,7 @@ module _ (g : Catalog) (l : Limits) where
       subst (λ y. Leaves g l y s (deliver (under g l) spot fs (bare (payloads.Fields ms)))) (sym outside)
       (k o.box.before (o.box.header ++ o.body) (bare (payloads.Fields ms)) o.box.outer
       (plain_comes spot.context fs _ _ (struct_is spot.context o.form o.box.n o.box.header o.body ms o.kind o.box.head full o.items))
-      (e ∙ ap length outside) (omega arith) (ends_back l spot.start fs o.form spot.used (struct_sized o.form o.box.n o.kind) (subst (Ends l spot.start fs o.form) (sym here) o.box.room)) o.box.admits.receives (named_struct fs o.form (struct_sized o.form o.box.n o.kind) o.box.admits.named)))
+      (e ∙ ap length outside) (omega arith) (ends_back l spot.start fs o.form spot.used (struct_sized o.form o.box.n o.kind) (subst (BodyMayEnd l spot.start fs o.form) (sym here) o.box.room)) o.box.admits.receives (named_struct fs o.form (struct_sized o.form o.box.n o.kind) o.box.admits.named)))
       (λ h. let apart = eqb-false spot.used end h in record { used = e; standing = record { front = u; digits = []; whole = sym (append-nil u); inside = o; small = none; value = refl; bound = omega arith; going = omega arith } })
 
   -- a value ends here
@@ -322,7 +322,7 @@ module _ (g : Catalog) (l : Limits) where
       subst (λ y. Leaves g l y s (deliver (under g l) spot fs (annotated ss v.payload))) (sym outside)
       (deliver_stands spot s fs o.box.before (o.box.header ++ (o.count ++ (o.ids ++ w))) (annotated ss v.payload) o.box.outer
       (binary_comes spot.context fs _ _ o.bare (wrapped o.box.header o.count o.ids w ss v.payload (subst (λ n. Header forms.Wrapper n o.box.header) full o.box.head) o.number o.some o.symbols b))
-      (e ∙ ap length outside) (omega arith) (ends_back l spot.start fs forms.Wrapper spot.used refl (subst (Ends l spot.start fs forms.Wrapper) (sym r) o.box.room)) o.box.admits.receives (named_struct fs forms.Wrapper refl o.box.admits.named))
+      (e ∙ ap length outside) (omega arith) (ends_back l spot.start fs forms.Wrapper spot.used refl (subst (BodyMayEnd l spot.start fs forms.Wrapper) (sym r) o.box.room)) o.box.admits.receives (named_struct fs forms.Wrapper refl o.box.admits.named))
   deliver_stands spot s (frames.Named end ms (Err x) ∷ fs) u w v o b e d r rc nm = absurd (let q : Some x ≡ None = nm in cc)
   deliver_stands spot s (frames.Named end ms (Ok n) ∷ fs) u w v o b e d r rc nm =
       let i = o.inside in
@@ -339,7 +339,7 @@ module _ (g : Catalog) (l : Limits) where
       (record { front = o.front; body = o.body ++ w; whole = whole; box = o.box; items = one_more o.body w vs v o.items b; deep = omega arith; within = omega arith }) e
 
   -- a pad ends here
-  skip_stands : (spot : Spot) (s : List Value) (fs : List Frame) (u w : List ℕ) → Opened g l spot.start spot.context s fs u → Receives fs → IsBare fs → IsPad w → spot.used ≡ length (u ++ w) → Ends l spot.start fs forms.Pad spot.used
+  skip_stands : (spot : Spot) (s : List Value) (fs : List Frame) (u w : List ℕ) → Opened g l spot.start spot.context s fs u → Receives fs → IsBare fs → IsPad w → spot.used ≡ length (u ++ w) → BodyMayEnd l spot.start fs forms.Pad spot.used
       → Leaves g l (u ++ w) s (proceed (under g l) spot fs)
   skip_stands spot s [] u w o i y b e r = record { used = e; standing = record { opened = (skips u w s spot.context o.0 b, sym e); receives = tt; more = tt } }
   skip_stands spot s (frames.Fields end ms ∷ fs) u w o i y b e r = absurd i
@@ -363,10 +363,10 @@ module _ (g : Catalog) (l : Limits) where
   shallow start c s (frames.Annotated end ss ∷ fs) u o = shallow start c s fs o.box.before o.box.outer
 
   -- behind a header
-  abbrev boxed : (start : ℕ) (c : List Slot) (s : List Value) (fs : List Frame) (u h : List ℕ) (form : Form) (n end : ℕ) → Opened g l start c s fs u → Header form n h → end ≡ length (u ++ h) + n → Ends l start fs form end → Fitting fs form → Box l start (Opened g l start c s fs) fs form end (u ++ h)
+  abbrev boxed : (start : ℕ) (c : List Slot) (s : List Value) (fs : List Frame) (u h : List ℕ) (form : Form) (n end : ℕ) → Opened g l start c s fs u → Header form n h → end ≡ length (u ++ h) + n → BodyMayEnd l start fs form end → Fitting fs form → Box l start (Opened g l start c s fs) fs form end (u ++ h)
   boxed start c s fs u h form n end o d i r ad = record { before = u; header = h; n = n; whole = refl; outer = o; head = d; ends = i; room = r; admits = ad }
 
-  struct_begins : (spot : Spot) (s : List Value) (fs : List Frame) (u h : List ℕ) (form : Form) (n : ℕ) → IsStruct form n → Opened g l spot.start spot.context s fs u → Header form n h → spot.used ≡ length (u ++ h) → Ends l spot.start fs form (spot.used + n) → Fitting fs form → (l.depth ≤ levels fs → Decides g l (u ++ h) Depth)
+  struct_begins : (spot : Spot) (s : List Value) (fs : List Frame) (u h : List ℕ) (form : Form) (n : ℕ) → IsStructOf form n → Opened g l spot.start spot.context s fs u → Header form n h → spot.used ≡ length (u ++ h) → BodyMayEnd l spot.start fs form (spot.used + n) → Fitting fs form → (l.depth ≤ levels fs → Decides g l (u ++ h) Depth)
       → Leaves g l (u ++ h) s (open_struct (under g l) spot fs n)
   struct_begins spot s fs u h form n i o d e r ad deepest =
       cond_both (nat_lt (levels fs) l.depth) _ _ (Leaves g l (u ++ h) s)
@@ -375,9 +375,9 @@ module _ (g : Catalog) (l : Limits) where
       (record { front = u ++ h; body = []; form = form; whole = sym (append-nil (u ++ h)); box = boxed spot.start spot.context s fs u h form n (spot.used + n) o d (omega arith) r ad; kind = i; items = no_fields; deep = omega arith; within = omega arith }) e)
       (λ j. deepest (ltb-false (levels fs) l.depth j))
 
-  begin_stands : (spot : Spot) (s : List Value) (fs : List Frame) (u h : List ℕ) (form : Form) (n : ℕ) → Opened g l spot.start spot.context s fs u → Accepts form fs → Header form n h → spot.used ≡ length (u ++ h) → Ends l spot.start fs form (spot.used + n) → Fitting fs form → Here g l spot.context spot.start fs form n (u ++ h) → hollow form n ≡ None
+  begin_stands : (spot : Spot) (s : List Value) (fs : List Frame) (u h : List ℕ) (form : Form) (n : ℕ) → Opened g l spot.start spot.context s fs u → Accepts form fs → Header form n h → spot.used ≡ length (u ++ h) → BodyMayEnd l spot.start fs form (spot.used + n) → Fitting fs form → HeaderEnds g l spot.context spot.start fs form n (u ++ h) → hollow form n ≡ None
       → Leaves g l (u ++ h) s (begin (under g l) spot fs form n)
-  begin_stands spot s fs u h forms.Pad zero o a d e r ad hr h0 = skip_stands spot s fs u h o a.0 a.1 (subst IsPad (append-nil h) (skipped h [] d)) e (subst (Ends l spot.start fs forms.Pad) (omega arith) r)
+  begin_stands spot s fs u h forms.Pad zero o a d e r ad hr h0 = skip_stands spot s fs u h o a.0 a.1 (subst IsPad (append-nil h) (skipped h [] d)) e (subst (BodyMayEnd l spot.start fs forms.Pad) (omega arith) r)
   begin_stands spot s fs u h forms.Pad (suc n) o a d e r ad hr h0 =
       let k = length-append u h in
       subst (Leaves g l (u ++ h) s) (sym (begin_pad g l spot fs n))
@@ -388,7 +388,7 @@ module _ (g : Catalog) (l : Limits) where
       let is = judge_sound spot.context t [] p j in
       let flat = scalar_flat spot.context [] t p is in
       deliver_stands spot s fs u h (bare p) o (plain_comes spot.context fs h p (subst (λ x. Plain spot.context x p) (append-nil h) (is_scalar h [] t p d is))) e (omega arith)
-      (ends_back l spot.start fs (forms.Scalar t) spot.used refl (subst (Ends l spot.start fs (forms.Scalar t)) (omega arith) r)) ad.receives (named_struct fs (forms.Scalar t) refl ad.named))
+      (ends_back l spot.start fs (forms.Scalar t) spot.used refl (subst (BodyMayEnd l spot.start fs (forms.Scalar t)) (omega arith) r)) ad.receives (named_struct fs (forms.Scalar t) refl ad.named))
   begin_stands spot s fs u h (forms.Scalar t) (suc n) o a d e r ad hr h0 =
       let k = length-append u h in
       subst (Leaves g l (u ++ h) s) (sym (begin_scalar g l spot fs t n))
@@ -408,7 +408,7 @@ module _ (g : Catalog) (l : Limits) where
       subst (Leaves g l (u ++ h) s) (sym (begin_wrapper g l spot fs (suc n)))
       (record { used = e; standing = record { front = u ++ h; digits = []; whole = sym (append-nil (u ++ h)); box = boxed spot.start spot.context s fs u h forms.Wrapper (suc n) (spot.used + suc n) o d (omega arith) r ad; bare = a; none_yet = refl; small = none; value = refl; bound = omega arith; going = omega arith } })
 
-  sized_stands : (spot : Spot) (s : List Value) (fs : List Frame) (u h : List ℕ) (form : Form) (n : ℕ) → Opened g l spot.start spot.context s fs u → (stray fs form ≡ None → Accepts form fs) → Header form n h → spot.used ≡ length (u ++ h) → Receives fs → Here g l spot.context spot.start fs form n (u ++ h) → ((x : Reason) → unfit l.item spot.start fs form (length (u ++ h) + n) ≡ Some x → Decides g l (u ++ h) x)
+  sized_stands : (spot : Spot) (s : List Value) (fs : List Frame) (u h : List ℕ) (form : Form) (n : ℕ) → Opened g l spot.start spot.context s fs u → (stray fs form ≡ None → Accepts form fs) → Header form n h → spot.used ≡ length (u ++ h) → Receives fs → HeaderEnds g l spot.context spot.start fs form n (u ++ h) → ((x : Reason) → unfit l.item spot.start fs form (length (u ++ h) + n) ≡ Some x → Decides g l (u ++ h) x)
       → Leaves g l (u ++ h) s (sized (under g l) spot fs form n)
   sized_stands spot s fs u h form n o a d e rc hr rows =
       unless_leaves (u ++ h) s _ (hollow form n) (hollow_row g l spot.context spot.start fs form n (u ++ h) hr) (λ j0.
@@ -436,11 +436,11 @@ module _ (g : Catalog) (l : Limits) where
       more_number _ _ o j = absurd o
 
   -- a VarUInt has ended
-  came_stands : (spot : Spot) (s : List Value) (fs : List Frame) (u : List ℕ) (p : Purpose) (a b n : ℕ) → NumberStands g l spot.start spot.context s fs p a u → (w : Numbered g l spot.start spot.context s fs p a u) → EndsNumber g l spot.context spot.start w.ks w.q n (u ++ b ∷ []) → ((ds : List ℕ) → Digits ds → a ≡ positional 128 ds → VarUInt (ds ++ b ∷ []) n) → spot.used ≡ length (u ++ b ∷ [])
+  came_stands : (spot : Spot) (s : List Value) (fs : List Frame) (u : List ℕ) (p : Purpose) (a b n : ℕ) → NumberStands g l spot.start spot.context s fs p a u → (w : Numbered g l spot.start spot.context s fs p a u) → EndsNumber g l spot.context spot.start w.ks w.q n (u ++ b ∷ []) → ((ds : List ℕ) → Digits128 ds → a ≡ positional 128 ds → VarUInt (ds ++ b ∷ []) n) → spot.used ≡ length (u ++ b ∷ [])
       → Leaves g l (u ++ b ∷ []) s (number_came (under g l) spot fs p n)
   came_stands spot s fs u (purposes.Length form) a b n o w en v e =
       let whole : u ++ b ∷ [] ≡ o.before ++ (o.b ∷ (o.digits ++ b ∷ [])) = ap (λ x. x ++ b ∷ []) o.whole ∙ append_assoc o.before (o.b ∷ o.digits) (b ∷ []) in
-      let here = subst (Here g l spot.context spot.start fs form n) whole (header_here g l spot.context spot.start w.ks w.q fs form n (u ++ b ∷ []) w.frames' w.same en) in
+      let here = subst (HeaderEnds g l spot.context spot.start fs form n) whole (header_here g l spot.context spot.start w.ks w.q fs form n (u ++ b ∷ []) w.frames' w.same en) in
       subst (λ y. Leaves g l y s (sized (under g l) spot fs form n)) (sym whole)
       (sized_stands spot s fs o.before (o.b ∷ (o.digits ++ b ∷ [])) form n o.outer (λ i. o.accepts) (long o.b (o.digits ++ b ∷ []) o.head (v o.digits o.small o.value)) (e ∙ ap length whole) o.admits.receives here (long_row g l spot.context spot.start fs form n _ here o.admits.fitting o.admits.named))
   came_stands spot s (frames.Fields end ms ∷ fs) u purposes.FieldName a b n o w en v e =
@@ -508,7 +508,7 @@ module _ (g : Catalog) (l : Limits) where
           let rm = o.room in
           let sm = o.some in
           let go = o.going in
-          cond_both (spot.used == stop) _ _ (λ ph. Stands g l (u ++ b ∷ []) s (at spot (frames.Annotated end (ss ++ t ∷ []) ∷ fs) ph))
+          cond_both (spot.used == stop) _ _ (λ ph. MachineStands g l (u ++ b ∷ []) s (at spot (frames.Annotated end (ss ++ t ∷ []) ∷ fs) ph))
           (λ j.
           let here = eqb-true spot.used stop j in
           let full : o.n ≡ length (o.ids ++ id) = omega arith in
@@ -590,7 +590,7 @@ module _ (g : Catalog) (l : Limits) where
       deliver_stands spot s fs u (b ∷ []) (bare p) o (plain_comes spot.context fs (b ∷ []) p is) e (omega arith) (misfits_ends l spot.start fs forms.Struct spot.used j2.0) rc j2.1)
 
   -- on a descriptor
-  descriptor_stands : (spot : Spot) (s : List Value) (fs : List Frame) (u : List ℕ) (b : ℕ) (d : Opening) → opening_of b ≡ d → Before g l spot.start spot.context s fs u → spot.used ≡ length (u ++ b ∷ [])
+  descriptor_stands : (spot : Spot) (s : List Value) (fs : List Frame) (u : List ℕ) (b : ℕ) (d : Opening) → opening_of b ≡ d → AwaitsDescriptor g l spot.start spot.context s fs u → spot.used ≡ length (u ++ b ∷ [])
       → Leaves g l (u ++ b ∷ []) s (on_descriptor (under g l) spot fs d)
   descriptor_stands spot s fs u b (Refused reason) i o e =
       let sp = opened_open g l spot.start spot.context s fs u o.opened o.more in
@@ -641,7 +641,7 @@ module _ (g : Catalog) (l : Limits) where
       subst (λ y. Leaves g l y s (deliver (under g l) spot fs (bare p))) (sym whole)
       (deliver_stands spot s fs o.before (o.header ++ (came ++ b ∷ [])) (bare p) o.outer
       (plain_comes spot.context fs _ _ (is_scalar o.header (came ++ b ∷ []) t p (subst (λ n. Header (forms.Scalar t) n o.header) full o.head) is))
-      (e ∙ ap length whole) (omega arith) (ends_back l spot.start fs (forms.Scalar t) spot.used refl (subst (Ends l spot.start fs (forms.Scalar t)) here o.room)) o.admits.receives (named_struct fs (forms.Scalar t) refl o.admits.named)))
+      (e ∙ ap length whole) (omega arith) (ends_back l spot.start fs (forms.Scalar t) spot.used refl (subst (BodyMayEnd l spot.start fs (forms.Scalar t)) here o.room)) o.admits.receives (named_struct fs (forms.Scalar t) refl o.admits.named)))
   body_stands spot s fs u b t (suc n) came o e =
       let one = length-one came b in
       let sizes = o.sizes in
@@ -661,7 +661,7 @@ module _ (g : Catalog) (l : Limits) where
       let here : o.end ≡ spot.used = omega arith in
       subst (λ y. Leaves g l y s (proceed (under g l) spot fs)) (sym whole)
       (skip_stands spot s fs o.before (o.header ++ (came ++ b ∷ [])) o.outer o.accepts.0 o.accepts.1 (skipped o.header (came ++ b ∷ []) (subst (λ n. Header forms.Pad n o.header) full o.head))
-      (e ∙ ap length whole) (subst (Ends l spot.start fs forms.Pad) here o.room))
+      (e ∙ ap length whole) (subst (BodyMayEnd l spot.start fs forms.Pad) here o.room))
   pad_stands spot s fs u b (suc n) came o e =
       let one = length-one came b in
       let sizes = o.sizes in
@@ -676,7 +676,7 @@ module _ (g : Catalog) (l : Limits) where
       let j = o.long in
       record { before = o.before; came = o.came ++ b ∷ []; whole = ap (λ x. x ++ b ∷ []) o.whole ∙ append_assoc o.before o.came (b ∷ []); long = omega arith; fits = fit o.fits; front = o.front; top = o.top; octets = mc; first = af }
 
-  marked_stands : (to : ℕ) (c : List Slot) (s : List Value) (fs : List Frame) (u v : List ℕ) (start : ℕ) → fs ≡ [] → Front g l start c s u → v ≡ u ++ the_marker → to ≡ length v → Stands g l v s (at (anew to system_slots) fs Ready)
+  marked_stands : (to : ℕ) (c : List Slot) (s : List Value) (fs : List Frame) (u v : List ℕ) (start : ℕ) → fs ≡ [] → Front g l start c s u → v ≡ u ++ the_marker → to ≡ length v → MachineStands g l v s (at (anew to system_slots) fs Ready)
   marked_stands to c s fs u v start i (inl h) e k =
       let d : Pieces g l v s system_slots = subst₂ (λ x y. Pieces g l x y system_slots) (sym (e ∙ ap (λ x. x ++ the_marker) h.0)) (sym h.1) begins in
       rw i (record { used = k; standing = record { opened = (d, sym k); receives = tt; more = tt } })
@@ -744,29 +744,29 @@ module _ (g : Catalog) (l : Limits) where
   step_stands m s (InBody t n) u b e o = let i = length-one u b in body_stands (counted m).spot s m.frames u b t n m.body o (omega arith)
   step_stands m s (InPad n) u b e o = let i = length-one u b in pad_stands (counted m).spot s m.frames u b n o.0 o.1 (omega arith)
 
-  pub feed_stands : (m : Machine) (u : List ℕ) (s : List Value) (b : ℕ) → Stands g l u s m → Leaves g l (u ++ b ∷ []) s (feed (under g l) m b)
+  pub feed_stands : (m : Machine) (u : List ℕ) (s : List Value) (b : ℕ) → MachineStands g l u s m → Leaves g l (u ++ b ∷ []) s (feed (under g l) m b)
   feed_stands m u s b o = step_stands m s m.phase u b o.used o.standing
 
   -- what a run ends in stands for the octets and the values
   abbrev pub Ended : List ℕ → List Value → List (Value × ℕ) → Result Machine Refusal → Type 0
-  Ended u s given (Ok m) = Stands g l u (s ++ plain given) m
+  Ended u s given (Ok m) = MachineStands g l u (s ++ plain given) m
   Ended u s given (Err e) = Unit {0}
 
   ended_more : (u : List ℕ) (s : List Value) (v : Value) (to : ℕ) (given : List (Value × ℕ)) (now : Result Machine Refusal) → Ended u (s ++ v ∷ []) given now → Ended u s ((v, to) ∷ given) now
-  ended_more u s v to given (Ok m) h = subst (λ x. Stands g l u x m) (append_assoc s (v ∷ []) (plain given)) h
+  ended_more u s v to given (Ok m) h = subst (λ x. MachineStands g l u x m) (append_assoc s (v ∷ []) (plain given)) h
   ended_more u s v to given (Err e) h = tt
 
   -- on any octets
-  pub run_stands : (to : ℕ) (m : Machine) (u w : List ℕ) (s : List Value) → Stands g l u s m → Ended (u ++ w) s (run g l to m w).given (run g l to m w).now
-  run_stands to m u [] s o = subst₂ (λ x y. Stands g l x y m) (sym (append-nil u)) (sym (append-nil s)) o
+  pub run_stands : (to : ℕ) (m : Machine) (u w : List ℕ) (s : List Value) → MachineStands g l u s m → Ended (u ++ w) s (run g l to m w).given (run g l to m w).now
+  run_stands to m u [] s o = subst₂ (λ x y. MachineStands g l x y m) (sym (append-nil u)) (sym (append-nil s)) o
   run_stands to m u (b ∷ bs) s o = go (feed (under g l) m b) (feed_stands m u s b o) (λ n t p. run_stands (to + 1) n (u ++ b ∷ []) bs t p)
     where
-      go : (r : Outcome) → Leaves g l (u ++ b ∷ []) s r → ((n : Machine) (t : List Value) → Stands g l (u ++ b ∷ []) t n → Ended ((u ++ b ∷ []) ++ bs) t (run g l (to + 1) n bs).given (run g l (to + 1) n bs).now)
+      go : (r : Outcome) → Leaves g l (u ++ b ∷ []) s r → ((n : Machine) (t : List Value) → MachineStands g l (u ++ b ∷ []) t n → Ended ((u ++ b ∷ []) ++ bs) t (run g l (to + 1) n bs).given (run g l (to + 1) n bs).now)
           → Ended (u ++ b ∷ bs) s (run_on (to + 1) (λ n. run g l (to + 1) n bs) r).given (run_on (to + 1) (λ n. run g l (to + 1) n bs) r).now
       go (goes n) p f = subst (λ x. Ended x s (run g l (to + 1) n bs).given (run g l (to + 1) n bs).now) (append_assoc u (b ∷ []) bs) (f n s p)
       go (gives v n) p f = ended_more (u ++ b ∷ bs) s v (to + 1) (run g l (to + 1) n bs).given (run g l (to + 1) n bs).now (subst (λ x. Ended x (s ++ v ∷ []) (run g l (to + 1) n bs).given (run g l (to + 1) n bs).now) (append_assoc u (b ∷ []) bs) (f n (s ++ v ∷ []) p))
       go (refuses e) p f = tt
 
   -- before the first octet
-  pub initial_stands : Stands g l [] [] initial
+  pub initial_stands : MachineStands g l [] [] initial
   initial_stands = record { used = refl; standing = record { before = []; came = []; whole = refl; long = refl; fits = refl; front = inl (refl, refl, refl); top = refl; octets = (refl, refl); first = refl } }

@@ -6,7 +6,7 @@ use Rattle.ion_symtab.specs.declared.limits.Limits.{Limits}
 use Rattle.ion_symtab.specs.declared.catalog.Catalog.{Catalog}
 use Rattle.ion_symtab.specs.Slots.{Slot, resolve}
 use Rattle.ion_scalar.specs.declared.descriptor.Size.TheVariants.{Follows}
-use Rattle.ion_scalar.specs.binary.Fields.{positional, Digits, VarUInt}
+use Rattle.ion_scalar.specs.binary.Fields.{positional, Digits128, VarUInt}
 use Rattle.ion_binary.specs.declared.form.Form.{Form}
 use Rattle.ion_binary.specs.declared.form.Form.TheVariants as forms
 use Rattle.ion_binary.specs.declared.form.Opening.TheVariants.{Sized}
@@ -28,17 +28,17 @@ abbrev pub TopRoom : ℕ → ℕ → Form → ℕ → Type 0
 TopRoom item start form to = is_pad form ≡ false → to ≤ start + item
 
 -- what has a header may reach up to `to`
-abbrev pub Room : Limits → ℕ → List Frame → Form → ℕ → Type 0
-Room l start (f ∷ fs) form to = to ≤ end_of f
-Room l start [] form to = TopRoom l.item start form to
+abbrev pub HasRoom : Limits → ℕ → List Frame → Form → ℕ → Type 0
+HasRoom l start (f ∷ fs) form to = to ≤ end_of f
+HasRoom l start [] form to = TopRoom l.item start form to
 
 -- the body of a form may end at `to`: a wrapper's value ends with it
-abbrev pub Ends : Limits → ℕ → List Frame → Form → ℕ → Type 0
-Ends l start [] form to = TopRoom l.item start form to
-Ends l start (frames.Annotated end ss ∷ fs) form to = to ≡ end
-Ends l start (frames.Items end x vs ∷ fs) form to = to ≤ end
-Ends l start (frames.Fields end ms ∷ fs) form to = to ≤ end
-Ends l start (frames.Named end ms name ∷ fs) form to = to ≤ end
+abbrev pub BodyMayEnd : Limits → ℕ → List Frame → Form → ℕ → Type 0
+BodyMayEnd l start [] form to = TopRoom l.item start form to
+BodyMayEnd l start (frames.Annotated end ss ∷ fs) form to = to ≡ end
+BodyMayEnd l start (frames.Items end x vs ∷ fs) form to = to ≤ end
+BodyMayEnd l start (frames.Fields end ms ∷ fs) form to = to ≤ end
+BodyMayEnd l start (frames.Named end ms name ∷ fs) form to = to ≤ end
 
 -- a number in the innermost container may reach up to `to`
 abbrev pub InRoom : List Frame → ℕ → Type 0
@@ -47,7 +47,7 @@ InRoom (f ∷ fs) to = to ≤ end_of f
 
 -- a VarUInt may reach up to `to`
 abbrev pub NumberRoom : Limits → ℕ → List Frame → Purpose → ℕ → Type 0
-NumberRoom l start fs (purposes.Length form) to = Room l start fs form to
+NumberRoom l start fs (purposes.Length form) to = HasRoom l start fs form to
 NumberRoom l start fs purposes.FieldName to = InRoom fs to
 NumberRoom l start fs purposes.AnnotationsLength to = InRoom fs to
 NumberRoom l start fs (purposes.Annotation stop) to = to ≤ stop
@@ -77,23 +77,23 @@ pub record Box (l : Limits) (start : ℕ) (Outer : List ℕ → Type 0) (fs : Li
   pub outer : Outer before
   pub head : Header form n header
   pub ends : end ≡ length u + n
-  pub room : Ends l start fs form end
+  pub room : BodyMayEnd l start fs form end
   pub admits : Fitting fs form
 
 -- the form is that of a struct of n octets
-abbrev pub IsStruct : Form → ℕ → Type 0
-IsStruct forms.Struct n = Unit {0}
-IsStruct forms.OrderedStruct n = 0 < n
-IsStruct _ n = ⊥
+abbrev pub IsStructOf : Form → ℕ → Type 0
+IsStructOf forms.Struct n = Unit {0}
+IsStructOf forms.OrderedStruct n = 0 < n
+IsStructOf _ n = ⊥
 
 -- a struct's header, and fields
-pub record InStruct (l : Limits) (start : ℕ) (c : List Slot) (Outer : List ℕ → Type 0) (fs : List Frame) (end : ℕ) (ms : List Field) (u : List ℕ) : Type 0 where
+pub record InFields (l : Limits) (start : ℕ) (c : List Slot) (Outer : List ℕ → Type 0) (fs : List Frame) (end : ℕ) (ms : List Field) (u : List ℕ) : Type 0 where
   pub front : List ℕ
   pub body : List ℕ
   pub form : Form
   pub whole : u ≡ front ++ body
   pub box : Box l start Outer fs form end front
-  pub kind : IsStruct form box.n
+  pub kind : IsStructOf form box.n
   pub items : Fields c body ms
   pub deep : field_depths ms + suc (levels fs) ≤ l.depth
   pub within : length u ≤ end
@@ -116,14 +116,14 @@ Opened g l start c s (frames.Items end x vs ∷ fs) u =
       deep : depths vs + suc (levels fs) ≤ l.depth;
       within : length u ≤ end;
     }
-Opened g l start c s (frames.Fields end ms ∷ fs) u = InStruct l start c (Opened g l start c s fs) fs end ms u
+Opened g l start c s (frames.Fields end ms ∷ fs) u = InFields l start c (Opened g l start c s fs) fs end ms u
 Opened g l start c s (frames.Named end ms name ∷ fs) u =
     record {
       front : List ℕ;
       id : List ℕ;
       k : ℕ;
       whole : u ≡ front ++ id;
-      inside : InStruct l start c (Opened g l start c s fs) fs end ms front;
+      inside : InFields l start c (Opened g l start c s fs) fs end ms front;
       number : VarUInt id k;
       named : name ≡ resolve c k;
       within : length u < end;
@@ -149,7 +149,7 @@ Accepts forms.Wrapper fs = IsBare fs
 Accepts _ fs = Unit {0}
 
 -- where a descriptor comes next
-pub record Before (g : Catalog) (l : Limits) (start : ℕ) (c : List Slot) (s : List Value) (fs : List Frame) (u : List ℕ) : Type 0 where
+pub record AwaitsDescriptor (g : Catalog) (l : Limits) (start : ℕ) (c : List Slot) (s : List Value) (fs : List Frame) (u : List ℕ) : Type 0 where
   pub opened : Opened g l start c s fs u
   pub receives : Receives fs
   pub more : Inside fs (length u)
@@ -213,7 +213,7 @@ pub record LengthStands (g : Catalog) (l : Limits) (start : ℕ) (c : List Slot)
   pub admits : Fitting fs form
   pub more : Inside fs (length before)
   pub head : opening_of b ≡ Sized form Follows
-  pub small : Digits digits
+  pub small : Digits128 digits
   pub value : a ≡ positional 128 digits
   pub bound : a < 2 ^ 63
   pub going : Going l start fs form (length u)
@@ -223,8 +223,8 @@ pub record NameStands (g : Catalog) (l : Limits) (start : ℕ) (c : List Slot) (
   pub front : List ℕ
   pub digits : List ℕ
   pub whole : u ≡ front ++ digits
-  pub inside : InStruct l start c (Opened g l start c s fs) fs end ms front
-  pub small : Digits digits
+  pub inside : InFields l start c (Opened g l start c s fs) fs end ms front
+  pub small : Digits128 digits
   pub value : a ≡ positional 128 digits
   pub bound : a < 2 ^ 63
   pub going : length u < end
@@ -237,7 +237,7 @@ pub record CountStands (g : Catalog) (l : Limits) (start : ℕ) (c : List Slot) 
   pub box : Box l start (Opened g l start c s fs) fs forms.Wrapper end front
   pub bare : IsBare fs
   pub none_yet : ss ≡ []
-  pub small : Digits digits
+  pub small : Digits128 digits
   pub value : a ≡ positional 128 digits
   pub bound : a < 2 ^ 63
   pub going : length u < end
@@ -256,7 +256,7 @@ pub record AnnotationStands (g : Catalog) (l : Limits) (start : ℕ) (c : List S
   pub some : 0 < n
   pub stops : stop ≡ length front + length count + n
   pub symbols : Ids c ids ss
-  pub small : Digits digits
+  pub small : Digits128 digits
   pub value : a ≡ positional 128 digits
   pub bound : a < 2 ^ 63
   pub room : stop < end
@@ -282,16 +282,16 @@ pub record BodyStands (g : Catalog) (l : Limits) (start : ℕ) (c : List Slot) (
   pub end : ℕ
   pub ends : end ≡ length before + length header + size
   pub head : Header form size header
-  pub room : Ends l start fs form end
+  pub room : BodyMayEnd l start fs form end
 
 abbrev pub Standing : Catalog → Limits → ℕ → List Slot → List Value → List Frame → List ℕ → Phase → List ℕ → Type 0
 Standing g l start c s fs body (InMarker m good) u = MarkerStands g l start c s fs m good u
-Standing g l start c s fs body Ready u = Before g l start c s fs u
+Standing g l start c s fs body Ready u = AwaitsDescriptor g l start c s fs u
 Standing g l start c s fs body (InNumber p a) u = NumberStands g l start c s fs p a u
 Standing g l start c s fs body (InBody t n) u = BodyStands g l start c s fs (forms.Scalar t) n body u
 Standing g l start c s fs body (InPad n) u = (came : List ℕ) × BodyStands g l start c s fs forms.Pad n came u
 
 -- u gave s and led to m
-pub record Stands (g : Catalog) (l : Limits) (u : List ℕ) (s : List Value) (m : Machine) : Type 0 where
+pub record MachineStands (g : Catalog) (l : Limits) (u : List ℕ) (s : List Value) (m : Machine) : Type 0 where
   pub used : m.spot.used ≡ length u
   pub standing : Standing g l m.spot.start m.spot.context s m.frames m.body m.phase u

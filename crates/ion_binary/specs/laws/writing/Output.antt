@@ -10,7 +10,7 @@ use Rattle.ion_model.specs.declared.value.Payload.TheOpen.{Payload-F}
 use Rattle.ion_model.specs.declared.value.Payload.TheFolds.{fold_out-Payload, fold_out-Value, fold_out-Field, fold-Payload, fold-Field, map-Payload}
 use Rattle.ion_model.specs.Measures.{Layer}
 use Rattle.ion_scalar.specs.binary.Spellings.{uint_octets, decimal_octets}
-use Rattle.ion_binary.specs.Output.{Names, id_of, symbols_step, symbols_of, framed, null_octet, truth_octet, whole_octets, wrapped, named, octets_step, value_octets}
+use Rattle.ion_binary.specs.Output.{Names, id_of, symbols_step, symbols_of, framed, null_octet, truth_octet, whole_octets, wrapped, named_octets, octets_step, value_octets}
 use Rattle.ion_scalar.specs.binary.TimestampSpellings.{timestamp_octets}
 
 -- 1. Symbols.
@@ -55,19 +55,19 @@ symbols-out v =
 
 -- the id of a field's name, and the octets of its value
 abbrev pub field_octets : Names → Field → List ℕ
-field_octets names f = named names f.name (value_octets names f.value)
+field_octets names f = named_octets names f.name (value_octets names f.value)
 
 module _ (names : Names) where
   abbrev payload_fold : Payload → List ℕ
-  payload_fold = fold-Payload (List ℕ) (List ℕ) (List ℕ) (octets_step names) (λ f. named names f.name f.value) (λ v. wrapped names v.annotations v.payload)
+  payload_fold = fold-Payload (List ℕ) (List ℕ) (List ℕ) (octets_step names) (λ f. named_octets names f.name f.value) (λ v. wrapped names v.annotations v.payload)
 
   abbrev field_fold : Field → List ℕ
-  field_fold = fold-Field (List ℕ) (List ℕ) (List ℕ) (octets_step names) (λ f. named names f.name f.value) (λ v. wrapped names v.annotations v.payload)
+  field_fold = fold-Field (List ℕ) (List ℕ) (List ℕ) (octets_step names) (λ f. named_octets names f.name f.value) (λ v. wrapped names v.annotations v.payload)
 
   fields_octets : (fs : List Field) → map field_fold fs ≡ map (field_octets names) fs
   unfolding value_octets
   fields_octets [] = refl
-  fields_octets (f ∷ fs) = rw (fold_out-Field (List ℕ) (List ℕ) (List ℕ) (octets_step names) (λ f. named names f.name f.value) (λ v. wrapped names v.annotations v.payload) f, fields_octets fs)
+  fields_octets (f ∷ fs) = rw (fold_out-Field (List ℕ) (List ℕ) (List ℕ) (octets_step names) (λ f. named_octets names f.name f.value) (λ v. wrapped names v.annotations v.payload) f, fields_octets fs)
 
   -- the octets of one level
   abbrev pub layer_octets : Layer → List ℕ
@@ -94,5 +94,5 @@ module _ (names : Names) where
   pub octets-out : (v : Value) → value_octets names v ≡ wrapped names v.annotations (layer_octets (views.out-Payload v.payload))
   unfolding value_octets
   octets-out v =
-      fold_out-Value (List ℕ) (List ℕ) (List ℕ) (octets_step names) (λ f. named names f.name f.value) (λ v. wrapped names v.annotations v.payload) v
-      ∙ ap (wrapped names v.annotations) (fold_out-Payload (List ℕ) (List ℕ) (List ℕ) (octets_step names) (λ f. named names f.name f.value) (λ v. wrapped names v.annotations v.payload) v.payload ∙ octets_step-layer (views.out-Payload v.payload))
+      fold_out-Value (List ℕ) (List ℕ) (List ℕ) (octets_step names) (λ f. named_octets names f.name f.value) (λ v. wrapped names v.annotations v.payload) v
+      ∙ ap (wrapped names v.annotations) (fold_out-Payload (List ℕ) (List ℕ) (List ℕ) (octets_step names) (λ f. named_octets names f.name f.value) (λ v. wrapped names v.annotations v.payload) v.payload ∙ octets_step-layer (views.out-Payload v.payload))

@@ -15,7 +15,7 @@ use Rattle.ion_scalar.specs.binary.Shifted.{moved}
 use Rattle.ion_scalar.specs.binary.Spellings.{uint_octets}
 use Rattle.ion_scalar.specs.binary.TimestampSpellings.{timestamp_octets}
 use Rattle.ion_symtab.specs.Slots.{system_texts}
-use Rattle.ion_binary.specs.Output.{Names, system_names, id_of, with_names, symbols_of, value_octets, framed, wrapped, named, text_of, string_value, table_value, table_octets, opening, bin_from, bin_of}
+use Rattle.ion_binary.specs.Output.{Names, system_names, id_of, with_names, symbols_of, value_octets, framed, wrapped, named_octets, name_text, string_value, table_value, table_octets, opening, bin_from, bin_of}
 use Rattle.ion_binary.specs.laws.writing.Output.{layer_symbols, layer_octets, symbols-out, octets-out}
 
 -- 1. The values.
@@ -29,11 +29,11 @@ value_a = symbol_value (codes "a")
 abbrev value_b : Value
 value_b = symbol_value (codes "b")
 
-abbrev items : List Value
-items = value_a ∷ value_b ∷ value_a ∷ []
+abbrev worked_items : List Value
+worked_items = value_a ∷ value_b ∷ value_a ∷ []
 
-abbrev list_value : Value
-list_value = bare (payloads.List items)
+abbrev worked_list : Value
+worked_list = bare (payloads.List worked_items)
 
 -- the year 2007
 abbrev in_2007 : TimestampParts
@@ -65,7 +65,7 @@ worked =
           ∷ 0x71 ∷ 0x0A ∷ [],
     )
     ∷ (
-      list_value ∷ [],
+      worked_list ∷ [],
       0xE0 ∷ 0x01 ∷ 0x00 ∷ 0xEA
           ∷ 0xEC ∷ 0x81 ∷ 0x83 ∷ 0xD9 ∷ 0x86 ∷ 0x71 ∷ 0x03 ∷ 0x87 ∷ 0xB4 ∷ 0x81 ∷ 0x61 ∷ 0x81 ∷ 0x62
           ∷ 0xB6 ∷ 0x71 ∷ 0x0A ∷ 0x71 ∷ 0x0B ∷ 0x71 ∷ 0x0A ∷ [],
@@ -94,15 +94,15 @@ text_octets : (names : Names) (text : List ℕ) → value_octets names (symbol_v
 text_octets names text = octets_row names [] (payloads.Symbol (Some text)) _ (views.outs-Symbol (Some text))
 
 -- 4. A table by its names.
-strings_octets : (names more : Names) → flat_map (value_octets names) (map string_value more) ≡ flat_map (λ t. framed 8 (text_of t)) more
+strings_octets : (names more : Names) → flat_map (value_octets names) (map string_value more) ≡ flat_map (λ t. framed 8 (name_text t)) more
 strings_octets names [] = refl
-strings_octets names (t ∷ more) = rw (octets_row names [] (payloads.Str (text_of t)) _ (views.outs-Str (text_of t)), strings_octets names more)
+strings_octets names (t ∷ more) = rw (octets_row names [] (payloads.Str (name_text t)) _ (views.outs-Str (name_text t)), strings_octets names more)
 
 abbrev table_of : Names → Names → List ℕ
 table_of names more =
     wrapped names (Some (codes "$ion_symbol_table") ∷ []) (framed 13
-    (named names (Some (codes "imports")) (framed 7 (uint_octets (id_of names (Some (codes "$ion_symbol_table")))))
-    ++ (named names (Some (codes "symbols")) (framed 11 (flat_map (λ t. framed 8 (text_of t)) more)) ++ [])))
+    (named_octets names (Some (codes "imports")) (framed 7 (uint_octets (id_of names (Some (codes "$ion_symbol_table")))))
+    ++ (named_octets names (Some (codes "symbols")) (framed 11 (flat_map (λ t. framed 8 (name_text t)) more)) ++ [])))
 
 table_row : (names more : Names) → value_octets names (table_value more) ≡ table_of names more
 table_row names more =
@@ -152,7 +152,7 @@ second : bin_from (record { names = with_a; begun = true }) (value_b ∷ value_a
 unfolding system_names system_texts
 second = value_row with_a true value_b (value_a ∷ []) (Some (codes "b") ∷ []) _ (0x71 ∷ 0x0B ∷ []) (0x71 ∷ 0x0A ∷ []) (text_symbols (codes "b")) table_b (text_octets _ (codes "b")) third
 
-symbols_row_of : bin_of items ≡
+symbols_row_of : bin_of worked_items ≡
     0xE0 ∷ 0x01 ∷ 0x00 ∷ 0xEA
     ∷ 0xEA ∷ 0x81 ∷ 0x83 ∷ 0xD7 ∷ 0x86 ∷ 0x71 ∷ 0x03 ∷ 0x87 ∷ 0xB2 ∷ 0x81 ∷ 0x61 ∷ 0x71 ∷ 0x0A
     ∷ 0xEA ∷ 0x81 ∷ 0x83 ∷ 0xD7 ∷ 0x86 ∷ 0x71 ∷ 0x03 ∷ 0x87 ∷ 0xB2 ∷ 0x81 ∷ 0x62 ∷ 0x71 ∷ 0x0B
@@ -160,19 +160,19 @@ symbols_row_of : bin_of items ≡
 unfolding bin_of system_names system_texts
 symbols_row_of = value_row system_names false value_a (value_b ∷ value_a ∷ []) (Some (codes "a") ∷ []) _ (0x71 ∷ 0x0A ∷ []) _ (text_symbols (codes "a")) table_a (text_octets _ (codes "a")) second
 
-list_symbols : symbols_of list_value ≡ Some (codes "a") ∷ Some (codes "b") ∷ Some (codes "a") ∷ []
-list_symbols = symbols_row [] (payloads.List items) _ (views.outs-List items) ∙ rw (text_symbols (codes "a"), text_symbols (codes "b")) refl
+list_symbols : symbols_of worked_list ≡ Some (codes "a") ∷ Some (codes "b") ∷ Some (codes "a") ∷ []
+list_symbols = symbols_row [] (payloads.List worked_items) _ (views.outs-List worked_items) ∙ rw (text_symbols (codes "a"), text_symbols (codes "b")) refl
 
-list_octets : value_octets with_b list_value ≡ 0xB6 ∷ 0x71 ∷ 0x0A ∷ 0x71 ∷ 0x0B ∷ 0x71 ∷ 0x0A ∷ []
+list_octets : value_octets with_b worked_list ≡ 0xB6 ∷ 0x71 ∷ 0x0A ∷ 0x71 ∷ 0x0B ∷ 0x71 ∷ 0x0A ∷ []
 unfolding system_names system_texts
-list_octets = octets_row with_b [] (payloads.List items) _ (views.outs-List items) ∙ rw (text_octets with_b (codes "a"), text_octets with_b (codes "b")) refl
+list_octets = octets_row with_b [] (payloads.List worked_items) _ (views.outs-List worked_items) ∙ rw (text_octets with_b (codes "a"), text_octets with_b (codes "b")) refl
 
-list_row : bin_of (list_value ∷ []) ≡
+list_row : bin_of (worked_list ∷ []) ≡
     0xE0 ∷ 0x01 ∷ 0x00 ∷ 0xEA
     ∷ 0xEC ∷ 0x81 ∷ 0x83 ∷ 0xD9 ∷ 0x86 ∷ 0x71 ∷ 0x03 ∷ 0x87 ∷ 0xB4 ∷ 0x81 ∷ 0x61 ∷ 0x81 ∷ 0x62
     ∷ 0xB6 ∷ 0x71 ∷ 0x0A ∷ 0x71 ∷ 0x0B ∷ 0x71 ∷ 0x0A ∷ []
 unfolding bin_of system_names system_texts
-list_row = value_row system_names false list_value [] (Some (codes "a") ∷ Some (codes "b") ∷ Some (codes "a") ∷ []) _ _ [] list_symbols table_a_b list_octets refl
+list_row = value_row system_names false worked_list [] (Some (codes "a") ∷ Some (codes "b") ∷ Some (codes "a") ∷ []) _ _ [] list_symbols table_a_b list_octets refl
 
 year_row : bin_of (bare (payloads.Timestamp in_2007) ∷ []) ≡ 0xE0 ∷ 0x01 ∷ 0x00 ∷ 0xEA ∷ 0x63 ∷ 0xC0 ∷ 0x0F ∷ 0xD7 ∷ []
 unfolding bin_of system_names system_texts timestamp_octets moved

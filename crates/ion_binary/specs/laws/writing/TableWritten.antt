@@ -21,18 +21,19 @@ use Rattle.ion_symtab.specs.Slots.{Slot, system_slots, greatest_id}
 use Rattle.ion_symtab.specs.Fields.{symbol_of, layer_symbol, elements_in}
 use Rattle.ion_symtab.specs.Next.{and_then, joined, appends_in, imported, local_slot, local_slots, next_layer, next}
 use Rattle.ion_binary.specs.Grammar.{Pieces, turns}
-use Rattle.ion_binary.specs.Output.{Names, symbols_of, value_octets, text_of, string_value, table_value, table_octets}
+use Rattle.ion_binary.specs.Output.{Names, symbols_of, value_octets, name_text, string_value, table_value, table_octets}
 use Rattle.ion_binary.specs.laws.writing.Output.{layer_symbols, symbols-out}
 use Rattle.ion_binary.specs.laws.writing.Written.{Resolves, value_is}
 use Rattle.ion_binary.specs.writer.Names.{AreAmong, Starts, slots, AreKnown, names_resolve_still, slots_more}
 
-abbrev table_word : Option (List ℕ)
+-- the texts of its symbols
+abbrev pub table_word : Option (List ℕ)
 table_word = Some (codes "$ion_symbol_table")
 
-abbrev imports_word : Option (List ℕ)
+abbrev pub imports_word : Option (List ℕ)
 imports_word = Some (codes "imports")
 
-abbrev symbols_word : Option (List ℕ)
+abbrev pub symbols_word : Option (List ℕ)
 symbols_word = Some (codes "symbols")
 
 -- the symbols of each table that is written
@@ -45,7 +46,7 @@ imports_value = bare (payloads.Symbol table_word)
 abbrev symbols_value : Names → Value
 symbols_value more = bare (payloads.List (map string_value more))
 
-abbrev table_fields : Names → List Field
+abbrev pub table_fields : Names → List Field
 table_fields more = field_of imports_word imports_value ∷ field_of symbols_word (symbols_value more) ∷ []
 
 -- 1. The table is kept, is a table, and is two levels deep.
@@ -80,7 +81,7 @@ is_table_written more = ap (λ (d : Layer). is_table_of (table_word ∷ []) (lay
 no_depth : (more : Names) → greatest (map depth (map string_value more)) ≡ 0
 no_depth [] = refl
 no_depth (s ∷ more) =
-    let e : depth (string_value s) ≡ 0 = depth-out (string_value s) ∙ ap layer_depth (views.outs-Str (text_of s)) in
+    let e : depth (string_value s) ≡ 0 = depth-out (string_value s) ∙ ap layer_depth (views.outs-Str (name_text s)) in
     omega (arith, e, no_depth more)
 
 depth_table : (more : Names) → depth (table_value more) ≡ 2
@@ -93,7 +94,7 @@ depth_table more =
 -- 2. Its symbols are system symbols.
 
 string_symbols : (s : Option (List ℕ)) → symbols_of (string_value s) ≡ []
-string_symbols s = symbols-out (string_value s) ∙ ap layer_symbols (views.outs-Str (text_of s))
+string_symbols s = symbols-out (string_value s) ∙ ap layer_symbols (views.outs-Str (name_text s))
 
 no_symbols : (more : Names) → flat_map symbols_of (map string_value more) ≡ []
 no_symbols [] = refl

@@ -32,7 +32,7 @@ use Rattle.ion_binary.specs.declared.form.Form.TheVariants as forms
 use Rattle.ion_binary.specs.Opening.{opening_of}
 use Rattle.ion_binary.specs.Grammar.{IsScalar, is_int, is_negative, is_decimal, is_timestamp, is_symbol, is_string, is_clob, is_blob, Ids, no_ids, one_id, listed, Plain, is_null, is_truth, is_scalar, is_listing, is_struct, Binary, unannotated, wrapped, Sequence, nothing, one_more, Fields, one_field, padded_field}
 use Rattle.ion_binary.specs.laws.reading.Complete.{length_VarUInt, binary_some, plain_some, pad_some}
-use Rattle.ion_binary.specs.Output.{Names, id_of, symbols_of, framed, counted, null_octet, truth_octet, whole_octets, ids_octets, value_octets, header}
+use Rattle.ion_binary.specs.Output.{Names, id_of, symbols_of, framed, with_count, null_octet, truth_octet, whole_octets, ids_octets, value_octets, header}
 use Rattle.ion_binary.specs.Output as output
 use Rattle.ion_binary.specs.laws.writing.Output.{layer_symbols, layer_octets, field_symbols, field_octets, symbols-out, octets-out}
 use Rattle.ion_binary.specs.HeaderRows.{type_code, IsBodyLength}
@@ -156,8 +156,8 @@ module _ (c : List Slot) (names : Names) where
   wrapped_is (s ∷ ss) p w r b small =
       let ids = ids_octets names (s ∷ ss) in
       let count = var_uint_octets (length ids) in
-      let e : counted ids ++ w ≡ count ++ (ids ++ w) = append_assoc count ids w in
-      let l0 = framed_long 14 (counted ids ++ w) in
+      let e : with_count ids ++ w ≡ count ++ (ids ++ w) = append_assoc count ids w in
+      let l0 = framed_long 14 (with_count ids ++ w) in
       let l1 = ap length e in
       let l2 = length-append count (ids ++ w) in
       let l3 = length-append ids w in
@@ -173,8 +173,8 @@ module _ (c : List Slot) (names : Names) where
   wrapped_long : (ss : Names) (w : List ℕ) → length w ≤ length (output.wrapped names ss w)
   wrapped_long [] w = omega arith
   wrapped_long (s ∷ ss) w =
-      let k = framed_long 14 (counted (ids_octets names (s ∷ ss)) ++ w) in
-      let e = length-append (counted (ids_octets names (s ∷ ss))) w in
+      let k = framed_long 14 (with_count (ids_octets names (s ∷ ss)) ++ w) in
+      let e = length-append (with_count (ids_octets names (s ∷ ss))) w in
       omega arith
 
   -- what is known of one level is known of its payload

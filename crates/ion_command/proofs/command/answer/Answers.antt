@@ -19,8 +19,8 @@ returns-in-Ok-Different g c =
 
 pub returns-in-Ok-Refused : goal.returns-in-Ok-Refused
 returns-in-Ok-Refused g c =
-    owes_refused g.N.Input.Inlet (g.N.Sources.gives c.args.sources.now) (g.N.Sources.refuses c.args.sources.now) (Opens (g.N.Sources.opened c.args.sources.now) (g.N.Sources.opened c.carry_out.new.sources)) _ _ g.O.Outlet g.E.Outlet (told c.args.request.now) c.args.request.now.limits c.in-Ok-Refused.whose c.in-Ok-Refused.refusal
-    c.args.out.now c.carry_out.new.out c.args.err.now c.tell_refusal.new.err c.tell_refusal.result (refl, refl, c.requires.reads) (rw c.in-Ok-Refused.field-0-is at c.in-Ok-Refused.ensures.answered) c.in-Ok-Refused.ensures.passed_on
+    owes_refused g.N.Input.Inlet (g.N.Sources.gives c.args.sources.now) (g.N.Sources.refuses c.args.sources.now) (Opens (g.N.Sources.opened c.args.sources.now) (g.N.Sources.opened c.with_catalog.new.sources)) _ _ g.O.Outlet g.E.Outlet (told c.args.request.now) c.args.request.now.limits c.in-Ok-Refused.whose c.in-Ok-Refused.refusal
+    c.args.out.now c.with_catalog.new.out c.args.err.now c.tell_refusal.new.err c.tell_refusal.result (refl, refl, c.requires.reads) (rw c.in-Ok-Refused.field-0-is at c.in-Ok-Refused.ensures.answered) c.in-Ok-Refused.ensures.passed_on
     c.tell_refusal.ensures.status c.tell_refusal.ensures.refused c.tell_refusal.ensures.fault
 
 pub returns-in-Err : goal.returns-in-Err

@@ -15,7 +15,7 @@ use Rattle.ion_scalar.specs.declared.fields.Signed.{Signed}
 use Rattle.ion_scalar.specs.binary.Fields.{VarInt, short, long, var_int, int_negative, int_magnitude, signed_of}
 use Rattle.ion_atoms.specs.Decimals.{DecimalParts, IsDecimal}
 use Rattle.ion_scalar.specs.text.Decimals.{signed}
-use Rattle.ion_scalar.specs.binary.Decimal.{IsDecimalParts, IsDecimalField, exponent_fits, decimal_with, with_coefficient, with_power, decimal_of_body}
+use Rattle.ion_scalar.specs.binary.Decimal.{IsDecimalParts, IsDecimalField, exponent_fits, decimal_with, with_coefficient, with_exponent, decimal_of_body}
 use Rattle.ion_scalar.specs.binary.Reads.{ReachesInt, ReadsDecimalBody, BeginsWithInt, ReadsVarInt}
 use Rattle.ion_scalar.specs.binary.laws.VarInt.{var_int_read, var_int_reaches, var_int_goes_on, var_int_answers}
 
@@ -47,7 +47,7 @@ not_empty : (w rest : List ℕ) (s : Bool) (n : ℕ) → VarInt w s n → w ++ r
 not_empty _ rest _ _ (short octet high) e = absurd cc
 not_empty _ rest _ _ (long octet digits last low s bound) e = absurd cc
 
-begins_so : (body : List ℕ) → body ≢ [] → decimal_of_body body ≡ with_power body (var_int body)
+begins_so : (body : List ℕ) → body ≢ [] → decimal_of_body body ≡ with_exponent body (var_int body)
 unfolding decimal_of_body
 begins_so [] h = absurd (h refl)
 begins_so (octet ∷ rest) h = refl
@@ -61,8 +61,8 @@ parts_judged : (body : List ℕ) (d : DecimalParts) (is : IsDecimalParts body d)
 parts_judged body d is =
     let whole = begins_so (is.power ++ is.coefficient) (not_empty is.power is.coefficient is.below is.written is.is_power) in
     let power = var_int_read is.power is.coefficient is.below is.written is.is_power in
-    let judged : with_power (is.power ++ is.coefficient) (var_int (is.power ++ is.coefficient)) ≡ with_coefficient (signed_of is.below is.written) is.coefficient =
-    ap (with_power (is.power ++ is.coefficient)) power ∙ rw (drop-append_seam is.power is.coefficient) refl in
+    let judged : with_exponent (is.power ++ is.coefficient) (var_int (is.power ++ is.coefficient)) ≡ with_coefficient (signed_of is.below is.written) is.coefficient =
+    ap (with_exponent (is.power ++ is.coefficient)) power ∙ rw (drop-append_seam is.power is.coefficient) refl in
     ap decimal_of_body is.octets ∙ (whole ∙ judged)
 
 parts_read : (body : List ℕ) (negative : Bool) (m : ℕ) (e : ℤ) → IsDecimalField body (decimal_with negative m e) → IsDecimal (decimal_with negative m e) → decimal_of_body body ≡ Ok (decimal_with negative m e)
@@ -76,8 +76,8 @@ parts_read body negative m e (inr d) k =
     rw (d.sign, d.magnitude, d.exponent) (parts_judged body _ d ∙ read)
 
 -- a body that is a decimal which is kept is read as it
-pub decimal_read : (body : List ℕ) (d : DecimalParts) → IsDecimalField body d → IsDecimal d → decimal_of_body body ≡ Ok d
-decimal_read body d is k = parts_read body d.negative d.magnitude d.exponent is k
+pub decimal_body_read : (body : List ℕ) (d : DecimalParts) → IsDecimalField body d → IsDecimal d → decimal_of_body body ≡ Ok d
+decimal_body_read body d is k = parts_read body d.negative d.magnitude d.exponent is k
 
 module _ (body : List ℕ) (power : Signed) (used : ℕ) (b : BeginsWithInt body power used) where
   parts : IsDecimalField body (decimal_with (int_negative (drop used body)) (int_magnitude (drop used body)) (signed power.negative power.magnitude))
@@ -103,7 +103,7 @@ module _ (body : List ℕ) (power : Signed) (used : ℕ) (b : BeginsWithInt body
         | inr unfit ↦ rw unfit.0 (inl (_, parts, λ k. unfit.1 (k.1, k.2)))
       ]
 
-answers : (body : List ℕ) (r : Result (Signed × ℕ) Reason) → body ≢ [] → ReadsVarInt body r → ReadsDecimalBody body (with_power body r)
+answers : (body : List ℕ) (r : Result (Signed × ℕ) Reason) → body ≢ [] → ReadsVarInt body r → ReadsDecimalBody body (with_exponent body r)
 answers body (Ok read) some a = behind body read.0 read.1 a
 answers body (Err TooLarge) some a = inr a
 answers body (Err Incomplete) some a = (some, a)
@@ -129,13 +129,13 @@ decimal_large body d (inr is) unkept =
 
 endless : (body : List ℕ) → ReachesInt body → decimal_of_body body ≡ Err TooLarge
 endless [] r = absurd r
-endless (octet ∷ rest) r = begins_so (octet ∷ rest) (λ e. absurd cc) ∙ ap (with_power (octet ∷ rest)) (var_int_reaches (octet ∷ rest) r)
+endless (octet ∷ rest) r = begins_so (octet ∷ rest) (λ e. absurd cc) ∙ ap (with_exponent (octet ∷ rest)) (var_int_reaches (octet ∷ rest) r)
 
 pub decimal_only : (body : List ℕ) (answer : Result DecimalParts Reason) → ReadsDecimalBody body answer → decimal_of_body body ≡ answer
-decimal_only body (Ok d) (is, kept) = decimal_read body d is kept
+decimal_only body (Ok d) (is, kept) = decimal_body_read body d is kept
 decimal_only body (Err TooLarge) (inl (d, is, unkept)) = decimal_large body d is unkept
 decimal_only body (Err TooLarge) (inr r) = endless body r
-decimal_only body (Err Malformed) (some, open_exponent) = begins_so body some ∙ ap (with_power body) (var_int_goes_on body open_exponent)
+decimal_only body (Err Malformed) (some, open_exponent) = begins_so body some ∙ ap (with_exponent body) (var_int_goes_on body open_exponent)
 decimal_only body (Err _) a = absurd a
 
 -- the sign and the magnitude of an exponent
@@ -181,4 +181,4 @@ pub decimal_spelled : (d : DecimalParts) → InRange d.exponent → IsDecimalFie
 decimal_spelled d h = chosen (is_zero d.negative d.magnitude d.exponent) d.negative d.magnitude d.exponent (zero_is d.negative d.magnitude d.exponent) h
 
 pub decimal_again : (d : DecimalParts) → IsDecimal d → decimal_of_body (decimal_octets d) ≡ Ok d
-decimal_again d k = decimal_read (decimal_octets d) d (decimal_spelled d (k.1, k.2)) k
+decimal_again d k = decimal_body_read (decimal_octets d) d (decimal_spelled d (k.1, k.2)) k

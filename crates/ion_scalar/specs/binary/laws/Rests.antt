@@ -8,12 +8,12 @@ use Rattle.std.proofs.lemmas.List.Sums.{passes_at_first, fails_before_first}
 use Rattle.std.proofs.lemmas.List.{take_more, take_all, map-append, take-append-drop}
 use Rattle.ion_atoms.specs.declared.refusal.Reason.{Reason}
 use Rattle.ion_atoms.specs.declared.refusal.Reason.TheVariants.{TooLarge, Incomplete}
-use Rattle.ion_scalar.specs.binary.Fields.{positional, Digits, none, more, seven_bits, groups, is_last, up_to_last, var_rest}
+use Rattle.ion_scalar.specs.binary.Fields.{positional, Digits128, none, more, seven_bits, groups, is_last, up_to_last, var_rest}
 use Rattle.ion_scalar.specs.binary.Reads.{Reaches, GoesOn}
 use Rattle.ion_scalar.specs.Positional.{positional_one}
 use Rattle.ion_scalar.specs.binary.VarEnds.{GoOn, ends_at, too_large_at}
 
-pub digits_below : (ds : List ℕ) → Digits ds → GoOn ds (length ds)
+pub digits_below : (ds : List ℕ) → Digits128 ds → GoOn ds (length ds)
 digits_below _ none k h = absurd (omega arith)
 digits_below _ (more ds d s small) k h =
     elim (cases_lt k (length ds)) [
@@ -23,23 +23,23 @@ digits_below _ (more ds d s small) k h =
           rw (e, get_or-append_seam ds d [] 0) small
     ]
 
-pub digits_seven : (ds : List ℕ) → Digits ds → map seven_bits ds ≡ ds
+pub digits_seven : (ds : List ℕ) → Digits128 ds → map seven_bits ds ≡ ds
 digits_seven _ none = refl
 digits_seven _ (more ds d s small) =
     rw (map-append seven_bits ds (d ∷ []), digits_seven ds s, lt-leb 128 d small) refl
 
-pub digits_take : (os : List ℕ) (i : ℕ) → i ≤ length os → GoOn os i → Digits (take i os)
+pub digits_take : (os : List ℕ) (i : ℕ) → i ≤ length os → GoOn os i → Digits128 (take i os)
 digits_take os zero h on = none
 digits_take os (suc i) h on =
     let e : suc i ≡ i + 1 = omega arith in
     let before = digits_take os i (omega arith) (λ k l. on k (omega arith)) in
     rw (e, take_more os i 0 (omega arith)) (more (take i os) (get_or os i 0) before (on i (omega arith)))
 
-seven_bits_push : (ds : List ℕ) (octet : ℕ) → Digits ds → map seven_bits (ds ++ octet ∷ []) ≡ ds ++ seven_bits octet ∷ []
+seven_bits_push : (ds : List ℕ) (octet : ℕ) → Digits128 ds → map seven_bits (ds ++ octet ∷ []) ≡ ds ++ seven_bits octet ∷ []
 seven_bits_push ds octet s = rw (map-append seven_bits ds (octet ∷ []), digits_seven ds s) refl
 
 -- digits and an octet that ends are read back, whatever follows
-pub rest_read : (front used : ℕ) (digits : List ℕ) (last : ℕ) (rest : List ℕ) → Digits digits → positional 128 (front ∷ digits ++ last ∷ []) < 2 ^ 63 → var_rest front used (digits ++ (128 + last) ∷ rest) ≡ Ok (positional 128 (front ∷ digits ++ last ∷ []), used + length digits + 1)
+pub rest_read : (front used : ℕ) (digits : List ℕ) (last : ℕ) (rest : List ℕ) → Digits128 digits → positional 128 (front ∷ digits ++ last ∷ []) < 2 ^ 63 → var_rest front used (digits ++ (128 + last) ∷ rest) ≡ Ok (positional 128 (front ∷ digits ++ last ∷ []), used + length digits + 1)
 rest_read front used digits last rest s bound =
     let i = length digits in
     let os = digits ++ (128 + last) ∷ rest in
@@ -88,7 +88,7 @@ pub record Ended (front : ℕ) (os : List ℕ) (n count : ℕ) : Type 0 where
   pub last : ℕ
   pub within : count ≤ length os
   pub octets : take count os ≡ digits ++ (128 + last) ∷ []
-  pub small : Digits digits
+  pub small : Digits128 digits
   pub value : n ≡ positional 128 (front ∷ digits ++ last ∷ [])
   pub bound : n < 2 ^ 63
 
@@ -124,7 +124,7 @@ module _ (front : ℕ) (os : List ℕ) where
 
   -- where no octet ends
   module _ (none_ends : length os ≤ position_or_len is_last os) where
-    digits_all : Digits os
+    digits_all : Digits128 os
     digits_all =
         let on : GoOn os (length os) = λ k h. go_on os k (omega arith) in
         rw (take_all (length os) os (omega arith)) at (digits_take os (length os) (omega arith) on)

@@ -82,12 +82,12 @@ module _ (utc : Utc) (h : IsUtc utc) (offset : Option ℤ) (o : IfSome offset Is
   shown_within low high =
       rw (le-leb 1 (moved utc.minute by).date.year low, le-leb (moved utc.minute by).date.year 9999 high) refl
 
-  abbrev Shown : Type 0
-  Shown =
+  abbrev IsShownBody : Type 0
+  IsShownBody =
       ((1 ≤ (moved utc.minute by).date.year) × ((moved utc.minute by).date.year ≤ 9999))
       ⊎ (shown offset utc ≡ Err Malformed)
 
-  shown_cases : Shown
+  shown_cases : IsShownBody
   unfolding shown
   shown_cases =
       elim (cases_lt (moved utc.minute by).date.year 1) [

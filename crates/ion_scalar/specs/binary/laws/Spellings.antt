@@ -5,7 +5,7 @@ use Rattle.std.proofs.lemmas.Int.Digits.{all_below_base_digits_of, number_digits
 use Rattle.std.proofs.lemmas.List.{take_all}
 use Rattle.std.specs.Prelude.{nat_le}
 use Rattle.std.specs.Int.Digits.{digits_of, number_from_digits_after, AllBelowBase}
-use Rattle.ion_scalar.specs.binary.Fields.{positional, Digits, none, VarUInt, VarInt, short, long, seven_bits, six_bits, is_negative, is_last, int_negative, int_magnitude, var_uint, var_int, uint_field, int_field, signed_of}
+use Rattle.ion_scalar.specs.binary.Fields.{positional, Digits128, none, VarUInt, VarInt, short, long, seven_bits, six_bits, is_negative, is_last, int_negative, int_magnitude, var_uint, var_int, uint_field, int_field, signed_of}
 use Rattle.ion_scalar.specs.binary.Spellings.{var_uint_octets, var_int_octets, uint_octets, int_octets, sign_bit, signed_digits}
 use Rattle.ion_scalar.specs.Positional.{positional_push, positional_one, positional-append}
 use Rattle.ion_scalar.specs.binary.laws.Rests.{digits_below, digits_take}
@@ -33,7 +33,7 @@ below base [] all k h = absurd (omega arith)
 below base (d ∷ ds) all zero h = all.0
 below base (d ∷ ds) all (suc k) h = below base ds all.1 k (omega arith)
 
-digits_are : (n : ℕ) → Digits (digits_of 128 n)
+digits_are : (n : ℕ) → Digits128 (digits_of 128 n)
 digits_are n =
     let ds = digits_of 128 n in
     rw (take_all (length ds) ds (omega arith)) at (digits_take ds (length ds) (omega arith) (below 128 ds (all_below_base_digits_of 128 n (omega arith))))
@@ -118,11 +118,11 @@ var_first false d h =
     let low' = lt-leb 64 (0 + d) (omega arith) in
     (rw low low', rw (low, low') (omega arith))
 
-long_as : (octet : ℕ) (digits : List ℕ) (last : ℕ) (negative : Bool) (n : ℕ) → octet < 128 → Digits digits → is_negative octet ≡ negative → n ≡ positional 128 (six_bits octet ∷ digits ++ last ∷ []) → n < 2 ^ 63 → VarInt (octet ∷ digits ++ (128 + last) ∷ []) negative n
+long_as : (octet : ℕ) (digits : List ℕ) (last : ℕ) (negative : Bool) (n : ℕ) → octet < 128 → Digits128 digits → is_negative octet ≡ negative → n ≡ positional 128 (six_bits octet ∷ digits ++ last ∷ []) → n < 2 ^ 63 → VarInt (octet ∷ digits ++ (128 + last) ∷ []) negative n
 long_as octet digits last negative n low s sign value bound =
     rw (← sign, value) (long octet digits last low s (rw value at bound))
 
-digits_tail : (d : ℕ) (ds : List ℕ) → Digits (d ∷ ds) → Digits ds
+digits_tail : (d : ℕ) (ds : List ℕ) → Digits128 (d ∷ ds) → Digits128 ds
 digits_tail d ds s =
     let below = digits_below (d ∷ ds) s in
     rw (take_all (length ds) ds (omega arith)) at (digits_take ds (length ds) (omega arith) (λ k h. below (suc k) (omega arith)))
@@ -131,7 +131,7 @@ sign_small : (negative : Bool) → sign_bit 64 negative ≤ 64
 sign_small true = omega arith
 sign_small false = omega arith
 
-var_int_signed : (negative : Bool) (ds : List ℕ) (last n : ℕ) → Digits ds → n ≡ positional 128 (ds ++ last ∷ []) → n < 2 ^ 63 → VarInt (signed_digits 64 negative ds ++ (128 + last) ∷ []) negative n
+var_int_signed : (negative : Bool) (ds : List ℕ) (last n : ℕ) → Digits128 ds → n ≡ positional 128 (ds ++ last ∷ []) → n < 2 ^ 63 → VarInt (signed_digits 64 negative ds ++ (128 + last) ∷ []) negative n
 var_int_signed true [] last n s value bound = long_as 64 [] last true n (omega arith) none refl (value ∙ omega arith) bound
 var_int_signed false [] last n s value bound = long_as 0 [] last false n (omega arith) none refl (value ∙ omega arith) bound
 var_int_signed negative (d ∷ ds) last n s value bound =

@@ -41,10 +41,10 @@ module _ (m : Minute) (h : IsMinute m) (s : ℕ) (k : s ≤ 59) (f : ℕ) where
   abbrev utc : Precision → Utc
   utc p = time_known p m s f
 
-  abbrev Cut : Precision → Type 0
-  Cut p = IsCut p (local_in (time_known p m s f) m)
+  abbrev IsCutTo : Precision → Type 0
+  IsCutTo p = IsCut p (local_in (time_known p m s f) m)
 
-  fraction_spelled : (digits : ℕ) → Cut (precisions.Fraction digits) → IsBehindSecond m s (octets_behind_second (precisions.Fraction digits) (utc (precisions.Fraction digits))) (utc (precisions.Fraction digits))
+  fraction_spelled : (digits : ℕ) → IsCutTo (precisions.Fraction digits) → IsBehindSecond m s (octets_behind_second (precisions.Fraction digits) (utc (precisions.Fraction digits))) (utc (precisions.Fraction digits))
   fraction_spelled digits cut =
       let parts = int_parts false f in
       inr (record {
@@ -57,10 +57,10 @@ module _ (m : Minute) (h : IsMinute m) (s : ℕ) (k : s ≤ 59) (f : ℕ) where
         fraction = inl (refl, cut.0, cut.1, inl parts.0, rw parts.1 cut.2, λ i. time_known (precisions.Fraction digits) m s (sym parts.1 i));
       })
 
-  second_spelled : Cut precisions.Second → IsBehindSecond m s (octets_behind_second precisions.Second (utc precisions.Second)) (utc precisions.Second)
+  second_spelled : IsCutTo precisions.Second → IsBehindSecond m s (octets_behind_second precisions.Second (utc precisions.Second)) (utc precisions.Second)
   second_spelled cut = inl (refl, λ i. time_known precisions.Second m s (cut i))
 
-  minute_spelled : Cut precisions.Minute → IsBehindMinute m (octets_behind_minute precisions.Minute (utc precisions.Minute)) (utc precisions.Minute)
+  minute_spelled : IsCutTo precisions.Minute → IsBehindMinute m (octets_behind_minute precisions.Minute (utc precisions.Minute)) (utc precisions.Minute)
   minute_spelled cut = inl (refl, λ i. time_known precisions.Minute m (cut.0 i) (cut.1 i))
 
   -- a second behind a minute, an hour and a minute behind a day, and so on
@@ -86,7 +86,7 @@ module _ (m : Minute) (h : IsMinute m) (s : ℕ) (k : s ≤ 59) (f : ℕ) where
   known : Precision → ℕ → ℕ → ℕ → ℕ → ℕ → ℕ → Utc
   known p month day hour minute second fraction = time_known p (minute_of (day_of m.date.year month day) hour minute) second fraction
 
-  pub fields_spelled : (p : Precision) → Cut p → AreFields (fields_octets (utc p)) (utc p)
+  pub fields_spelled : (p : Precision) → IsCutTo p → AreFields (fields_octets (utc p)) (utc p)
   unfolding known
   fields_spelled precisions.Year cut =
       years _ _ (inl (refl, λ i. known precisions.Year (cut.0 i) (cut.1 i) (cut.2 i) (cut.3 i) (cut.4 i) (cut.5 i)))

@@ -9,9 +9,9 @@ use Rattle.ion_atoms.specs.declared.timestamp.Precision.TheVariants as precision
 use Rattle.ion_atoms.specs.Timestamps.{minutes_ahead}
 use Rattle.ion_scalar.specs.declared.timestamp_body.Utc.{Utc}
 use Rattle.ion_scalar.specs.binary.Fields.{positional, short, var_int, uint_field, int_field, int_magnitude, int_negative, is_last, is_negative, seven_bits, six_bits, signed_of}
-use Rattle.ion_scalar.specs.binary.Decimal.{with_power, with_coefficient, decimal_of_body}
+use Rattle.ion_scalar.specs.binary.Decimal.{with_exponent, with_coefficient, decimal_of_body}
 use Rattle.ion_scalar.specs.binary.Spellings.{AreBelow}
-use Rattle.ion_scalar.specs.binary.Timestamp.{time_known, kept_offset, with_power as fraction_with, read_behind_second, read_fraction, read_fields, read_offset, shown, shown_by, timestamp_of_body}
+use Rattle.ion_scalar.specs.binary.Timestamp.{time_known, kept_offset, with_power, read_behind_second, read_fraction, read_fields, read_offset, shown, shown_by, timestamp_of_body}
 use Rattle.ion_scalar.specs.binary.laws.Fewest.{positional_below, six_below}
 use Rattle.ion_scalar.specs.binary.laws.Shifted.{moved_stays}
 use Rattle.ion_scalar.specs.binary.laws.Timestamp.{fraction_read}
@@ -53,7 +53,7 @@ pub usual_decimal : (octets : List ℕ) → AreBelow 256 octets → 128 ≤ get_
 unfolding decimal_of_body
 usual_decimal [] all last few = refl
 usual_decimal (octet ∷ rest) all last few =
-    let read = ap (λ r. is_ok (with_power (octet ∷ rest) r)) (var_int_read (octet ∷ []) rest (is_negative octet) (six_bits octet) (short octet last)) in
+    let read = ap (λ r. is_ok (with_exponent (octet ∷ rest) r)) (var_int_read (octet ∷ []) rest (is_negative octet) (six_bits octet) (short octet last)) in
     let six : six_bits octet < 64 = six_below octet (seven_small octet last (all 0 (omega arith))) in
     let behind : int_magnitude rest < 2 ^ 127 = int_small rest (λ k h. all (suc k) (omega arith)) (omega arith) in
     read ∙ coefficient (is_negative octet) (six_bits octet) rest six behind
@@ -102,7 +102,7 @@ usual_fraction (octet ∷ rest) some few plus bound minute second =
     let below : is_negative octet ≡ true = rw seven (le-leb 64 (octet - 128) (omega arith)) in
     let six : six_bits octet ≡ power = rw (below, seven) (omega arith) in
     let utc : Utc = time_known (precisions.Fraction power) minute second (int_magnitude rest) in
-    let read = ap (fraction_with minute second (octet ∷ rest)) (var_int_read (octet ∷ []) rest (is_negative octet) (six_bits octet) (short octet (omega arith))) in
+    let read = ap (with_power minute second (octet ∷ rest)) (var_int_read (octet ∷ []) rest (is_negative octet) (six_bits octet) (short octet (omega arith))) in
     let is = fraction_read minute second rest utc true power (inl (refl, omega arith, omega arith, inl plus, bound, refl)) in
-    let whole : fraction_with minute second (octet ∷ rest) (var_int (octet ∷ rest)) ≡ Ok utc = read ∙ as_power minute second rest (Ok utc) (is_negative octet) (six_bits octet) power below six is in
+    let whole : with_power minute second (octet ∷ rest) (var_int (octet ∷ rest)) ≡ Ok utc = read ∙ as_power minute second rest (Ok utc) (is_negative octet) (six_bits octet) power below six is in
     subst (λ (r : Result Utc Reason). IsOkAnd r (λ u. u.minute ≡ minute)) (sym whole) refl

@@ -4,7 +4,7 @@ use Rattle.std.proofs.Math.Decide.{map_dec, ℕ_discrete, dec_lt}
 use Rattle.std.specs.Char.{digit_value}
 use Rattle.ion_scalar.specs.declared.number.Number.{Number}
 use Rattle.ion_scalar.specs.declared.number.Number.TheVariants as numbers
-use Rattle.ion_scalar.specs.text.Ints.{IsDigits, digits_in, number, IsWhole, IsRadix, IsMagnitude}
+use Rattle.ion_scalar.specs.text.Ints.{IsDigits, digits_in, number, IsWholePart, IsRadix, IsMagnitude}
 use Rattle.ion_scalar.specs.text.Decimals.{signed, IsPlain, IsSigned, IsLetter, IsExponent, IsEnd, IsFraction, IsTail, IsDecimalBody}
 use Rattle.ion_scalar.specs.text.Numbers.{IsBehind, IsFloatBody, IsNumeral, IsFloat}
 use Rattle.ion_scalar.specs.text.laws.Deciding.{both, either, not_so, is_empty, Cut, some_cut, some_behind}
@@ -21,7 +21,7 @@ one_zero [] = no (λ e. cc)
 one_zero (c ∷ []) = map_dec (λ e. ap (λ x. x ∷ []) e) (λ e. let h : c ≡ 48 = cc in h) (ℕ_discrete c 48)
 one_zero (c ∷ d ∷ os) = no (λ e. cc)
 
-whole : (os : List ℕ) → Dec (IsWhole os)
+whole : (os : List ℕ) → Dec (IsWholePart os)
 whole os = either (one_zero os) (both (digits 10 os) (not_so (ℕ_discrete (slice_index os 0) 48)))
 
 abbrev SomeRadix : ℕ → ℕ → ℕ → List ℕ → Type 0
@@ -91,15 +91,15 @@ end float os =
 abbrev SomeFraction : Bool → List ℕ → Type 0
 SomeFraction float os = (f : List ℕ) × (below : Bool) × (n : ℕ) × IsFraction os f float below n
 
-abbrev FractionCut : Bool → List ℕ → List ℕ → Type 0
-FractionCut float f rest = ((f ≡ []) ⊎ IsDigits 10 f) × SomeEnd float rest
+abbrev NumberFraction : Bool → List ℕ → List ℕ → Type 0
+NumberFraction float f rest = ((f ≡ []) ⊎ IsDigits 10 f) × SomeEnd float rest
 
 fraction : (float : Bool) (os : List ℕ) → Dec (SomeFraction float os)
 fraction float os =
     map_dec
     (λ c. (c.front, c.is.1.0, c.is.1.1, record { rest = c.rest; cut = c.octets; digits = c.is.0; exponent = c.is.1.2 }))
     (λ h. let p = h.3 in record { front = h.0; rest = p.rest; octets = p.cut; is = (p.digits, (h.1, h.2, p.exponent)) })
-    (some_cut (FractionCut float) (λ f rest. both (either (is_empty f) (digits 10 f)) (end float rest)) os)
+    (some_cut (NumberFraction float) (λ f rest. both (either (is_empty f) (digits 10 f)) (end float rest)) os)
 
 abbrev SomeTail : Bool → List ℕ → Type 0
 SomeTail float os = (f : List ℕ) × (below : Bool) × (n : ℕ) × IsTail os f float below n
@@ -120,7 +120,7 @@ pub record SomeDecimal (float : Bool) (body : List ℕ) : Type 0 where
   pub is : IsDecimalBody float body magnitude exponent
 
 abbrev DecimalCut : Bool → List ℕ → List ℕ → Type 0
-DecimalCut float front rest = IsWhole front × SomeTail float rest
+DecimalCut float front rest = IsWholePart front × SomeTail float rest
 
 cut_decimal : (float : Bool) (body : List ℕ) → Cut (DecimalCut float) body → SomeDecimal float body
 cut_decimal float body c =

@@ -63,16 +63,16 @@ is_minute os = both (minute_front os) (offset (drop 16 os))
 is_second : (os : List ℕ) → Dec (BeginsWithSecond os × IsOffsetToken (drop 19 os))
 is_second os = both (second_front os) (offset (drop 19 os))
 
-abbrev FractionCut : List ℕ → List ℕ → Type 0
-FractionCut digits rest = IsPlain digits × IsOffsetToken rest
+abbrev SecondFraction : List ℕ → List ℕ → Type 0
+SecondFraction digits rest = IsPlain digits × IsOffsetToken rest
 
-is_fraction : (os : List ℕ) → Dec (BeginsWithSecond os × IsAt os 19 46 × Cut FractionCut (drop 20 os))
-is_fraction os = three (second_front os) (octet_at os 19 46) (some_cut FractionCut (λ digits rest. both (plain digits) (offset rest)) (drop 20 os))
+is_fraction : (os : List ℕ) → Dec (BeginsWithSecond os × IsAt os 19 46 × Cut SecondFraction (drop 20 os))
+is_fraction os = three (second_front os) (octet_at os 19 46) (some_cut SecondFraction (λ digits rest. both (plain digits) (offset rest)) (drop 20 os))
 
 -- one of the six
 abbrev Form : List ℕ → Type 0
 Form os = IsYear os ⊎ (IsMonth os ⊎ (IsDay os ⊎ ((BeginsWithMinute os × IsOffsetToken (drop 16 os))
-    ⊎ ((BeginsWithSecond os × IsOffsetToken (drop 19 os)) ⊎ (BeginsWithSecond os × IsAt os 19 46 × Cut FractionCut (drop 20 os))))))
+    ⊎ ((BeginsWithSecond os × IsOffsetToken (drop 19 os)) ⊎ (BeginsWithSecond os × IsAt os 19 46 × Cut SecondFraction (drop 20 os))))))
 
 form : (os : List ℕ) → Dec (Form os)
 form os = either (is_year os) (either (is_month os) (either (is_day os) (either (is_minute os) (either (is_second os) (is_fraction os)))))

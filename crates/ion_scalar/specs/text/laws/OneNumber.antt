@@ -8,7 +8,7 @@ use Rattle.ion_atoms.specs.declared.refusal.Reason.{Reason}
 use Rattle.ion_atoms.specs.declared.refusal.Reason.TheVariants.{TooLarge, Malformed, Float}
 use Rattle.ion_scalar.specs.declared.number.Number.{Number}
 use Rattle.ion_scalar.specs.declared.number.Number.TheVariants as numbers
-use Rattle.ion_scalar.specs.text.Ints.{IsDigits, GoesNotOn, BeginsWithNone, digits_in, number, IsWhole, IsMagnitude, HasBase, minus, BeginsWithMinus}
+use Rattle.ion_scalar.specs.text.Ints.{IsDigits, GoesNotOn, BeginsWithNone, digits_in, number, IsWholePart, IsMagnitude, HasBase, minus, BeginsWithMinus}
 use Rattle.ion_scalar.specs.text.Decimals.{signed, IsPlain, IsSigned, IsLetter, IsExponent, IsEnd, IsFraction, IsTail, IsDecimalBody}
 use Rattle.ion_scalar.specs.text.Numbers.{IsBehind, IsFloatBody, IsNumeral, IsNumber, IsFloat, Fits, IsThere, ReadsNumber, ReadsNumeral, ReadsTimestamp}
 use Rattle.ion_scalar.specs.text.laws.OneRun.{first_digit, one_run}
@@ -174,7 +174,7 @@ module _ (a b c d e : ℕ) (rest : List ℕ) (da : digit_value a < 10) (db : dig
   four : IsDigits 10 (a ∷ b ∷ c ∷ d ∷ [])
   four = (da, inl (db, inl (dc, inl dd)))
 
-  front_whole : (w t : List ℕ) → a ∷ b ∷ c ∷ d ∷ e ∷ rest ≡ w ++ t → IsWhole w → GoesNotOn 10 t → w ≡ a ∷ b ∷ c ∷ d ∷ []
+  front_whole : (w t : List ℕ) → a ∷ b ∷ c ∷ d ∷ e ∷ rest ≡ w ++ t → IsWholePart w → GoesNotOn 10 t → w ≡ a ∷ b ∷ c ∷ d ∷ []
   front_whole w t cut h n = one_run 10 w (a ∷ b ∷ c ∷ d ∷ []) t (e ∷ rest) (omega arith) (whole_digits w h) four n (front_stops e rest stop) (sym cut)
 
   front_decimal : (float : Bool) (m : ℕ) (z : ℤ) → IsDecimalBody float (a ∷ b ∷ c ∷ d ∷ e ∷ rest) m z → ⊥

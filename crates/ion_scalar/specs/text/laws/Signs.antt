@@ -1,7 +1,7 @@
 -- What stands behind a sign begins with a digit, and has one magnitude.
 use Rattle.std.proofs.Common.{◌≡◌, ◌≢◌, ℕ, ◌⊎◌, inl, inr, List, [], ◌∷◌, sym, subst, ◌∙◌, arith}
 use Rattle.ion_scalar.specs.text.Ints.{IsDigits, number}
-use Rattle.ion_scalar.specs.text.Ints.{IsWhole, IsRadix, IsMagnitude}
+use Rattle.ion_scalar.specs.text.Ints.{IsWholePart, IsRadix, IsMagnitude}
 use Rattle.ion_scalar.specs.text.laws.OneRun.{first_digit}
 
 -- a magnitude begins with a digit
@@ -10,7 +10,7 @@ no_sign c os n (inl m) is = elim (m.0) [ inl one ↦ (let e : c ≡ 48 = cc in o
 no_sign c [] n (inr m) is = elim m [ inl r ↦ r | inr r ↦ r ]
 no_sign c (d ∷ os) n (inr m) is = elim m [ inl r ↦ (let e = r.0 in omega arith) | inr r ↦ (let e = r.0 in omega arith) ]
 
-not_both : (c x : ℕ) (os : List ℕ) (m n : ℕ) → IsWhole (c ∷ x ∷ os) × (m ≡ number 10 (c ∷ x ∷ os)) → IsRadix 16 120 88 (c ∷ x ∷ os) n ⊎ IsRadix 2 98 66 (c ∷ x ∷ os) n → ⊥
+not_both : (c x : ℕ) (os : List ℕ) (m n : ℕ) → IsWholePart (c ∷ x ∷ os) × (m ≡ number 10 (c ∷ x ∷ os)) → IsRadix 16 120 88 (c ∷ x ∷ os) n ⊎ IsRadix 2 98 66 (c ∷ x ∷ os) n → ⊥
 not_both c x os m n a b = (elim (a.0) [ inl one ↦ cc | inr some ↦ some.1 (elim b [ inl r ↦ r.0 | inr r ↦ r.0 ]) ])
 
 -- a body has one magnitude

@@ -10,12 +10,12 @@ use Rattle.std.proofs.lemmas.Bool.{cases_lt}
 use Rattle.std.proofs.lemmas.Fmt.{decimal_by_steps_wide, decimal_digit}
 use Rattle.std.proofs.lemmas.Str.{digit_value_digit}
 use Rattle.std.proofs.lemmas.List.{drop-set}
-use Rattle.ion_atoms.specs.Ranges.{IsWhole as IsKeptWhole}
+use Rattle.ion_atoms.specs.Ranges.{IsWhole}
 use Rattle.ion_atoms.specs.Decimals.{DecimalParts, IsDecimal}
 use Rattle.ion_scalar.specs.declared.number.Number.TheVariants as numbers
 use Rattle.ion_scalar.specs.binary.Fields.{positional}
 use Rattle.ion_scalar.specs.Positional.{positional_push}
-use Rattle.ion_scalar.specs.text.Ints.{IsDigits, digits_in, number, IsWhole, minus}
+use Rattle.ion_scalar.specs.text.Ints.{IsDigits, digits_in, number, IsWholePart, minus}
 use Rattle.ion_scalar.specs.text.Decimals.{signed, IsSigned, IsPower}
 use Rattle.ion_scalar.specs.text.Numbers.{IsNumber, ReadsNumber}
 use Rattle.ion_scalar.specs.text.Texts.{decimal_text, number_text}
@@ -66,7 +66,7 @@ one_more n ds h s =
 pub spells : (n : ℕ) → n < 10 ^ 64 → Spells n (decimal n)
 spells = decimal_by_steps_wide Spells one_digit one_more
 
-whole_text : (n : ℕ) → n < 10 ^ 64 → IsWhole (decimal n)
+whole_text : (n : ℕ) → n < 10 ^ 64 → IsWholePart (decimal n)
 whole_text n h =
     let s = spells n h in
     elim (cases_lt 0 n) [
@@ -74,7 +74,7 @@ whole_text n h =
       | inr le ↦ inl (let e : n ≡ 0 = omega arith in rw e (decimal_digit 0 (omega arith)))
     ]
 
-pub int_text : (z : ℤ) → IsKeptWhole z → IsNumber (signed_decimal z) (numbers.Int z)
+pub int_text : (z : ℤ) → IsWhole z → IsNumber (signed_decimal z) (numbers.Int z)
 int_text (pos n) h = let s = spells n (omega arith) in record { negative = false; body = decimal n; octets = refl; is = (n, inl (whole_text n (omega arith), sym s.value), refl) }
 int_text (negsuc n) h = let s = spells (suc n) (omega arith) in record { negative = true; body = decimal (suc n); octets = refl; is = (suc n, inl (whole_text (suc n) (omega arith), sym s.value), refl) }
 
@@ -83,7 +83,7 @@ plain_signed [] n s = absurd (omega (arith, s.some))
 plain_signed (c ∷ os) n s = inr (inr (refl, (s.digits, s.plain), sym s.value))
 
 -- a written exponent
-power_text : (e : ℤ) → IsKeptWhole e → (below : Bool) × (n : ℕ) × IsSigned (signed_decimal e) below n × (e ≡ signed below n)
+power_text : (e : ℤ) → IsWhole e → (below : Bool) × (n : ℕ) × IsSigned (signed_decimal e) below n × (e ≡ signed below n)
 power_text (pos n) h = let s = spells n (omega arith) in (false, n, plain_signed (decimal n) n s, refl)
 power_text (negsuc n) h = let s = spells (suc n) (omega arith) in (true, suc n, inl (refl, refl, (s.digits, s.plain), sym s.value), refl)
 
@@ -91,7 +91,7 @@ no_less : (z : ℤ) → z -ℤ pos 0 ≡ z
 no_less (pos n) = grind (arith, ints)
 no_less (negsuc n) = grind (arith, ints)
 
-pub decimal_is : (d : DecimalParts) → d.magnitude < 2 ^ 127 → IsKeptWhole d.exponent → IsNumber (decimal_text d) (numbers.Decimal d)
+pub decimal_is : (d : DecimalParts) → d.magnitude < 2 ^ 127 → IsWhole d.exponent → IsNumber (decimal_text d) (numbers.Decimal d)
 decimal_is d m e =
     let p = power_text d.exponent e in
     let s = spells d.magnitude (omega arith) in
@@ -126,7 +126,7 @@ pub signed_end : (octets : List ℕ) (r : ℕ) (sign digits rest text : List ℕ
 signed_end octets r sign digits rest text e nothing t = e ∙ (ap (λ (x : List ℕ). sign ++ (digits ++ x)) nothing ∙ (ap (λ (x : List ℕ). sign ++ x) (append-nil digits) ∙ sym t))
 
 -- a number that is kept comes back from its bits as it was
-pub back_kept : (z : ℤ) → IsKeptWhole z → to_z w128 (of_z w128 z) ≡ z
+pub back_kept : (z : ℤ) → IsWhole z → to_z w128 (of_z w128 z) ≡ z
 back_kept (pos n) h = to_z-of_z {w = w128} (record { sfits = h })
 back_kept (negsuc n) h = let small : n < 2 ^ 127 = omega arith in to_z-of_z {w = w128} (record { sfits = small })
 
@@ -134,7 +134,7 @@ back_kept (negsuc n) h = let small : n < 2 ^ 127 = omega arith in to_z-of_z {w =
 pub power_back : (z : ℤ) → mag z < 2 ^ 31 → to_z w32 (of_z w32 z) ≡ z
 power_back z h = to_z-of_z {w = w32} (record { sfits = h })
 
-pub power_kept : (z : ℤ) → mag z < 2 ^ 31 → IsKeptWhole z × IsPower z
+pub power_kept : (z : ℤ) → mag z < 2 ^ 31 → IsWhole z × IsPower z
 power_kept (pos n) h = (omega arith, grind (arith, ints))
 power_kept (negsuc n) h = (omega arith, grind (arith, ints))
 
@@ -150,11 +150,11 @@ pub decimal_end : (negative : Bool) (m r s : ℕ) (one two text : List ℕ) → 
 decimal_end negative m r s one two text some within e t = t ∙ ap (λ (x : List ℕ). minus negative ++ (decimal m ++ x)) (letter_text r one text some within e)
 
 -- the texts of an int and of a decimal that are kept are read as them
-pub int_reads : (z : ℤ) → IsKeptWhole z → ReadsNumber (number_text (numbers.Int z)) (Ok (numbers.Int z))
+pub int_reads : (z : ℤ) → IsWhole z → ReadsNumber (number_text (numbers.Int z)) (Ok (numbers.Int z))
 int_reads z h = (int_text z h, h, tt)
 
 -- an exponent that is kept is an int that is kept
-power_is : (e : ℤ) → IsPower e → IsKeptWhole e
+power_is : (e : ℤ) → IsPower e → IsWhole e
 power_is (pos n) h = omega (arith, ints, h.1)
 power_is (negsuc n) h = omega (arith, ints, h.0)
 

@@ -151,9 +151,9 @@ end_some os l used count value shown (Some s) d within many all v c h =
       h.1 ∙ (λ i. record { local = record l { fraction = number_of i }; precision = precisions.Fraction (capped i); offset = offset_read (drop used os) }),
     )
 
-pub shown_by : (os : List ℕ) (t : TimestampParts) (r : Option Stamp) (P : Type 0) → SomeIff r P (stamp t) → (P → IsTimestampToken os t) → IfSome r (Shown os)
-shown_by os t None P h is = tt
-shown_by os t (Some s) P h is = (t, is (h.0), h.1)
+pub shown_where : (os : List ℕ) (t : TimestampParts) (r : Option Stamp) (P : Type 0) → SomeIff r P (stamp t) → (P → IsTimestampToken os t) → IfSome r (Shown os)
+shown_where os t None P h is = tt
+shown_where os t (Some s) P h is = (t, is (h.0), h.1)
 
 -- a date is no longer than eleven octets
 abbrev IsLong : List ℕ → Type 0

@@ -7,7 +7,7 @@ use Rattle.ion_atoms.specs.declared.refusal.Reason.TheVariants.{TooLarge, Malfor
 use Rattle.ion_scalar.specs.declared.decimals.Tail.{Tail}
 use Rattle.ion_scalar.specs.declared.number.Number.{Number}
 use Rattle.ion_scalar.specs.declared.number.Number.TheVariants as numbers
-use Rattle.ion_scalar.specs.text.Ints.{IsDigits, GoesNotOn, number, continued, IsWhole, IsRadix, IsMagnitude, HasBase, minus, BeginsWithMinus}
+use Rattle.ion_scalar.specs.text.Ints.{IsDigits, GoesNotOn, number, continued, IsWholePart, IsRadix, IsMagnitude, HasBase, minus, BeginsWithMinus}
 use Rattle.ion_scalar.specs.text.Decimals.{signed, IsDecimalBody, IsTail, IsLetter, Shows}
 use Rattle.ion_scalar.specs.text.Numbers.{IsBehind, IsFloatBody, Fits, ReadsBehind, decimal_read, IsNumeral, IsFloat, ReadsNumeral}
 use Rattle.std.specs.Char.{digit_value}
@@ -28,7 +28,7 @@ tail_first : (c : ℕ) (os f : List ℕ) (float s : Bool) (n : ℕ) → IsTail (
 tail_first c os f float s n (inl p) = inl (p.0)
 tail_first c os f float s n (inr p) = inr (p.1.0)
 
-based_tail : (float : Bool) (base : ℕ) (body whole tail f : List ℕ) (s : Bool) (n : ℕ) → HasBase base body → body ≡ whole ++ tail → IsWhole whole → IsTail tail f float s n → ⊥
+based_tail : (float : Bool) (base : ℕ) (body whole tail f : List ℕ) (s : Bool) (n : ℕ) → HasBase base body → body ≡ whole ++ tail → IsWholePart whole → IsTail tail f float s n → ⊥
 based_tail float base [] whole tail f s n h cut w t = h
 based_tail float base (c ∷ []) whole tail f s n h cut w t = h
 based_tail float base (c ∷ x ∷ ds) [] tail f s n h cut (inl one) t = cc
@@ -65,7 +65,7 @@ one_base a b (c ∷ x ∷ ds) h k = elim (h.1) [
   | inr p ↦ elim (k.1) [ inr q ↦ omega (arith, p.0, q.0) | inl q ↦ absurd (elim (p.1) [ inl y ↦ elim (q.1) [ inl z ↦ omega arith | inr z ↦ omega arith ] | inr y ↦ elim (q.1) [ inl z ↦ omega arith | inr z ↦ omega arith ] ]) ]
 ]
 
-whole_no_base : (base : ℕ) (body : List ℕ) → HasBase base body → IsWhole body → ⊥
+whole_no_base : (base : ℕ) (body : List ℕ) → HasBase base body → IsWholePart body → ⊥
 whole_no_base base [] h w = h
 whole_no_base base (c ∷ []) h w = h
 whole_no_base base (c ∷ x ∷ ds) h (inl one) = cc
@@ -90,7 +90,7 @@ int_answer negative body n v (Err e) is cap ok err =
     let P : Reason → Type 0 = λ y. ReadsBehind negative body (Err y) in
     subst P (sym err.0) (numbers.Int (signed negative n), (n, is, refl), err.1 n cap)
 
-decimal_behind : (negative : Bool) (body : List ℕ) (used v : ℕ) (t : Tail) → IsWhole (take used body) → (s : Shows (IsTail (drop used body)) v t) → t.float ≡ false
+decimal_behind : (negative : Bool) (body : List ℕ) (used v : ℕ) (t : Tail) → IsWholePart (take used body) → (s : Shows (IsTail (drop used body)) v t) → t.float ≡ false
     → IsBehind negative body (decimal_read negative (number 10 (take used body ++ s.fraction)) t.below s.exponent t.count)
 decimal_behind negative body used v t w s decimal =
     let D : Bool → Type 0 = λ f. IsDecimalBody f body (number 10 (take used body ++ s.fraction)) (signed t.below s.exponent -ℤ pos t.count) in
@@ -101,20 +101,20 @@ no_based_number negative base body h none (numbers.Int z) is = none (based_magni
 no_based_number negative base body h none (numbers.Timestamp t) is = is
 no_based_number negative base body h none (numbers.Decimal d) is = based_decimal false base body d.magnitude d.exponent h is.1
 
-no_whole_decimal : (float : Bool) (body : List ℕ) (m : ℕ) (e : ℤ) → ((w t : List ℕ) → body ≡ w ++ t → IsWhole w → GoesNotOn 10 t → ⊥) → IsDecimalBody float body m e → ⊥
+no_whole_decimal : (float : Bool) (body : List ℕ) (m : ℕ) (e : ℤ) → ((w t : List ℕ) → body ≡ w ++ t → IsWholePart w → GoesNotOn 10 t → ⊥) → IsDecimalBody float body m e → ⊥
 no_whole_decimal float body m e none d = none d.whole d.tail d.octets d.is_whole (tail_stops d.tail d.fraction float d.below d.written d.is_tail)
 
 -- without a base, an int is a whole part
-plain_magnitude : (body : List ℕ) (n : ℕ) → ((base : ℕ) → HasBase base body → ⊥) → IsMagnitude body n → IsWhole body × (n ≡ number 10 body)
+plain_magnitude : (body : List ℕ) (n : ℕ) → ((base : ℕ) → HasBase base body → ⊥) → IsMagnitude body n → IsWholePart body × (n ≡ number 10 body)
 plain_magnitude body n no_base (inl m) = m
 plain_magnitude body n no_base (inr r) = let b = radix_base body n r in absurd (no_base b.0 b.1)
 
-no_plain_number : (negative : Bool) (body : List ℕ) → ((base : ℕ) → HasBase base body → ⊥) → ((w t : List ℕ) → body ≡ w ++ t → IsWhole w → GoesNotOn 10 t → ⊥) → (x : Number) → IsBehind negative body x → ⊥
+no_plain_number : (negative : Bool) (body : List ℕ) → ((base : ℕ) → HasBase base body → ⊥) → ((w t : List ℕ) → body ≡ w ++ t → IsWholePart w → GoesNotOn 10 t → ⊥) → (x : Number) → IsBehind negative body x → ⊥
 no_plain_number negative body no_base none (numbers.Int z) is = none body [] (sym (append-nil body)) (plain_magnitude body is.0 no_base is.1).0 tt
 no_plain_number negative body no_base none (numbers.Timestamp t) is = is
 no_plain_number negative body no_base none (numbers.Decimal d) is = no_whole_decimal false body d.magnitude d.exponent none is.1
 
-no_tail_number : (negative : Bool) (body : List ℕ) (used : ℕ) → ((base : ℕ) → HasBase base body → ⊥) → used < length body → ((w t : List ℕ) → body ≡ w ++ t → IsWhole w → GoesNotOn 10 t → w ≡ take used body)
+no_tail_number : (negative : Bool) (body : List ℕ) (used : ℕ) → ((base : ℕ) → HasBase base body → ⊥) → used < length body → ((w t : List ℕ) → body ≡ w ++ t → IsWholePart w → GoesNotOn 10 t → w ≡ take used body)
     → ((f : List ℕ) (float s : Bool) (n : ℕ) → IsTail (drop used body) f float s n → ⊥) → (x : Number) → IsBehind negative body x → ⊥
 no_tail_number negative body used no_base more only none (numbers.Int z) is =
     let e = only body [] (sym (append-nil body)) (plain_magnitude body is.0 no_base is.1).0 tt in
@@ -123,7 +123,7 @@ no_tail_number negative body used no_base more only none (numbers.Timestamp t) i
 no_tail_number negative body used no_base more only none (numbers.Decimal d) is = no_body false body used d.magnitude d.exponent only none is.1
 
 -- the answer on a decimal
-pub decimal_answer : (negative : Bool) (body : List ℕ) (used v : ℕ) (t : Tail) (r : Result Number Reason) → IsWhole (take used body) → v ≡ min (number 10 (take used body)) (2 ^ 127) → Shows (IsTail (drop used body)) v t → t.float ≡ false
+pub decimal_answer : (negative : Bool) (body : List ℕ) (used v : ℕ) (t : Tail) (r : Result Number Reason) → IsWholePart (take used body) → v ≡ min (number 10 (take used body)) (2 ^ 127) → Shows (IsTail (drop used body)) v t → t.float ≡ false
     → IfOk r (λ x. (m n : ℕ) → t.value ≡ min m (2 ^ 127) → t.written ≡ min n (2 ^ 127) → (x ≡ decimal_read negative m t.below n t.count) × Fits x)
     → IfErr r (λ e. (e ≡ TooLarge) × ((m n : ℕ) → t.value ≡ min m (2 ^ 127) → t.written ≡ min n (2 ^ 127) → Fits (decimal_read negative m t.below n t.count) → ⊥)) → ReadsBehind negative body r
 decimal_answer negative body used v t (Ok x) w value s plain ok err =
@@ -141,39 +141,39 @@ pub no_based : (negative : Bool) (base : ℕ) (body : List ℕ) → HasBase base
 no_based negative base body h none = (no_based_number negative base body h none, λ f. based_decimal true base body f.magnitude f.exponent h f.is)
 
 -- no whole part
-pub no_plain : (negative : Bool) (body : List ℕ) → ((base : ℕ) → HasBase base body → ⊥) → ((w t : List ℕ) → body ≡ w ++ t → IsWhole w → GoesNotOn 10 t → ⊥) → ((x : Number) → IsBehind negative body x → ⊥) × (IsFloatBody body → ⊥)
+pub no_plain : (negative : Bool) (body : List ℕ) → ((base : ℕ) → HasBase base body → ⊥) → ((w t : List ℕ) → body ≡ w ++ t → IsWholePart w → GoesNotOn 10 t → ⊥) → ((x : Number) → IsBehind negative body x → ⊥) × (IsFloatBody body → ⊥)
 no_plain negative body no_base none = (no_plain_number negative body no_base none, λ f. no_whole_decimal true body f.magnitude f.exponent none f.is)
 
 -- no tail
-pub no_plain_tail : (negative : Bool) (body : List ℕ) (used : ℕ) → ((base : ℕ) → HasBase base body → ⊥) → used < length body → ((w t : List ℕ) → body ≡ w ++ t → IsWhole w → GoesNotOn 10 t → w ≡ take used body)
+pub no_plain_tail : (negative : Bool) (body : List ℕ) (used : ℕ) → ((base : ℕ) → HasBase base body → ⊥) → used < length body → ((w t : List ℕ) → body ≡ w ++ t → IsWholePart w → GoesNotOn 10 t → w ≡ take used body)
     → ((f : List ℕ) (float s : Bool) (n : ℕ) → IsTail (drop used body) f float s n → ⊥) → ((x : Number) → IsBehind negative body x → ⊥) × (IsFloatBody body → ⊥)
 no_plain_tail negative body used no_base more only none = (no_tail_number negative body used no_base more only none, λ f. no_body true body used f.magnitude f.exponent only none f.is)
 
-pub float_body : (body : List ℕ) (used v : ℕ) (t : Tail) → IsWhole (take used body) → Shows (IsTail (drop used body)) v t → t.float ≡ true → IsFloatBody body
+pub float_body : (body : List ℕ) (used v : ℕ) (t : Tail) → IsWholePart (take used body) → Shows (IsTail (drop used body)) v t → t.float ≡ true → IsFloatBody body
 float_body body used v t w s float =
     let m = number 10 (take used body ++ s.fraction) in
     let D : Bool → Type 0 = λ f. IsDecimalBody f body m (signed t.below s.exponent -ℤ pos t.count) in
     record { magnitude = m; exponent = signed t.below s.exponent -ℤ pos t.count; is = subst D float (body_is body used v t w s) }
 
 -- the whole part is all
-pub whole_magnitude : (body : List ℕ) (used v : ℕ) → used ≡ length body → IsWhole (take used body) → v ≡ min (number 10 (take used body)) (2 ^ 127) → IsMagnitude body (number 10 body) × (v ≡ min (number 10 body) (2 ^ 127))
+pub whole_magnitude : (body : List ℕ) (used v : ℕ) → used ≡ length body → IsWholePart (take used body) → v ≡ min (number 10 (take used body)) (2 ^ 127) → IsMagnitude body (number 10 body) × (v ≡ min (number 10 body) (2 ^ 127))
 whole_magnitude body used v all w value =
     let e : take used body ≡ body = take_all used body (omega arith) in
-    let P : List ℕ → Type 0 = λ x. IsWhole x × (v ≡ min (number 10 x) (2 ^ 127)) in
+    let P : List ℕ → Type 0 = λ x. IsWholePart x × (v ≡ min (number 10 x) (2 ^ 127)) in
     let k = subst P e (w, value) in
     (inl (k.0, refl), k.1)
 
 pub base_magnitude : (base : ℕ) (body : List ℕ) → HasBase base body → IsDigits base (drop 2 body) → IsMagnitude body (number base (drop 2 body))
 base_magnitude base body h d = inr (base_radix base body h d)
 
-none_whole : IsWhole [] → ⊥
+none_whole : IsWholePart [] → ⊥
 none_whole (inl one) = cc
 none_whole (inr some) = some.0
 
 pub continued_none : (base : ℕ) (os : List ℕ) → continued base 0 os ≡ number base os
 continued_none base os = omega arith
 
-whole_first : (c : ℕ) (os whole tail : List ℕ) → c ∷ os ≡ whole ++ tail → IsWhole whole → c ≢ 45
+whole_first : (c : ℕ) (os whole tail : List ℕ) → c ∷ os ≡ whole ++ tail → IsWholePart whole → c ≢ 45
 whole_first c os [] tail cut w is = none_whole w
 whole_first c os (a ∷ w) tail cut h is =
     let e : a ≡ 45 = cc in

@@ -34,12 +34,12 @@ use Rattle.ion_text.specs.machine.Run.{State, begun, run, is_top, is_fresh, toke
 use Rattle.ion_text.specs.machine.Passed.{said_body, said_passes}
 use Rattle.ion_text.specs.laws.reading.Admits.{at_end_fine}
 use Rattle.ion_text.specs.laws.reading.Going.{mark_kind, top_place}
-use Rattle.ion_text.specs.laws.reading.Held.{Behind, Open, Reads, Scans, token_read}
+use Rattle.ion_text.specs.laws.reading.Held.{Behind, NoLongText, Reads, Scans, token_read}
 use Rattle.ion_text.specs.laws.reading.Meets.{end_spans}
 use Rattle.ion_text.specs.laws.reading.Quotes.{left_none}
 use Rattle.ion_text.specs.laws.reading.Segments.{never}
 use Rattle.ion_text.specs.laws.reading.Sound.{NowStands, PendingFor}
-use Rattle.ion_text.specs.laws.reading.Steps.{Ran, run_ran, begun_stood}
+use Rattle.ion_text.specs.laws.reading.Steps.{StoodBehind, run_ran, begun_stood}
 use Rattle.ion_text.specs.laws.reading.Stops.{stood_used}
 use Rattle.ion_text.specs.laws.showing.Cuts.{lexed_front}
 use Rattle.ion_text.specs.laws.showing.Froms.{EndsWaiting, Waits, run_waits}
@@ -137,11 +137,11 @@ module _ (g : Catalog) (l : Limits) (u : List ℕ) where
   waiting_rows used (Err y) (late e r) h = late_rows used e h
 
   -- what a token that the end ended leads to
-  abbrev Settles : Turn → Type 0
-  Settles (goes r) = TurnDecided g l (by_end u) (settle g l r)
-  Settles _ = Unit {0}
+  abbrev SettlesToRow : Turn → Type 0
+  SettlesToRow (goes r) = TurnDecided g l (by_end u) (settle g l r)
+  SettlesToRow _ = Unit {0}
 
-  turned_rows : (used : ℕ) (t : Turn) → TurnDecided g l (by_end u) t → Settles t → EndRows (end_turned g l used t)
+  turned_rows : (used : ℕ) (t : Turn) → TurnDecided g l (by_end u) t → SettlesToRow t → EndRows (end_turned g l used t)
   turned_rows used (goes r) h k = settled_rows used (settle g l r) k
   turned_rows used (gives v r) h k = tt
   turned_rows used (refuses e) h k = h
@@ -167,7 +167,7 @@ module _ (g : Catalog) (l : Limits) (u : List ℕ) where
       go (nows.LongName w) = λ i. absurd i
       go (nows.Keyed s) = λ i. absurd i
 
-  module _ (vs : List Value) (s : Known) (r : Reading) (b : Behind g l Scanned u vs s r [] (Open s.mode)) (used' : s.used ≡ length u) (wait : Waits g l s r.now) where
+  module _ (vs : List Value) (s : Known) (r : Reading) (b : Behind g l Scanned u vs s r [] (NoLongText s.mode)) (used' : s.used ≡ length u) (wait : Waits g l s r.now) where
     abbrev ts : List Placed
     ts = b.front ++ b.item
 
@@ -228,7 +228,7 @@ module _ (g : Catalog) (l : Limits) (u : List ℕ) where
           go _ f = tt
 
       -- behind it `::` may yet follow, where nothing else does
-      settles : (t : Turn) → Reads g l AllAre u vs s [] (λ n. Unit {0}) t → Settles t
+      settles : (t : Turn) → Reads g l AllAre u vs s [] (λ n. Unit {0}) t → SettlesToRow t
       settles (goes m) h = settled_decided g l (by_end u) m.context h.front vs h.pieces m.start h.item m.frames m.notes m.now h.first h.stands (λ y end f top. record { rest = []; are = h.scanned; before = (codes "::", ([], [], blank_none, refl)); after = λ i. none_then i.0 i.1 i.3 })
       settles (gives v m) h = tt
       settles (refuses z) h = tt
@@ -237,7 +237,7 @@ module _ (g : Catalog) (l : Limits) (u : List ℕ) where
       read : Reads g l AllAre u vs s [] (λ n. Unit {0}) (turn g l r (token_of x c))
       read =
           let fine = at_end_fine (place r) s x e in
-          token_read g l Scanned u vs s r [] (Open s.mode) b x (λ a. (fine.0, λ t. left_none x.kind x.start x.end (fine.1 a.1))) AllAre u s [] (λ n. Unit {0}) c k (λ q. here) b.sane b.fine
+          token_read g l Scanned u vs s r [] (NoLongText s.mode) b x (λ a. (fine.0, λ t. left_none x.kind x.start x.end (fine.1 a.1))) AllAre u s [] (λ n. Unit {0}) c k (λ q. here) b.sane b.fine
 
       token_rows : (used : ℕ) → EndRows (end_turned g l used (turn g l r (token_of x c)))
       token_rows used = go (opens_struct c) refl
@@ -271,7 +271,7 @@ module _ (g : Catalog) (l : Limits) (u : List ℕ) where
     now_rows used nows.Name = ready_rows used (at_end (place r) s) refl
     now_rows used (nows.Keyed k) = ready_rows used (at_end (place r) s) refl
 
-  end_rows : (given : List (Value × ℕ)) (now : Result State Refusal) → Ran g l u [] (record { given = given; now = now }) → EndsWaiting g l now → refused_of now ≡ None → EndRows (ends_of g l now)
+  end_rows : (given : List (Value × ℕ)) (now : Result State Refusal) → StoodBehind g l u [] (record { given = given; now = now }) → EndsWaiting g l now → refused_of now ≡ None → EndRows (ends_of g l now)
   end_rows given (Ok m) b wait h = now_rows (plain given) m.scan m.reading b (stood_used g l u (plain given) m b) wait m.scan.used m.reading.now
   end_rows given (Err q) b wait h = absurd cc
 

@@ -15,7 +15,7 @@ use Rattle.ion_text.specs.declared.state.Now.TheVariants as nows
 use Rattle.ion_text.specs.Grammar.{Says, IsName, Annotations, ends_long, begins_as_long}
 use Rattle.ion_text.specs.Deciding.{Container, InList, InSexp, InStruct, InField, place_of, TakesValue, Open, none_open, list_open, sexp_open, struct_open, named, Comes}
 use Rattle.ion_text.specs.machine.EachToken.{Symbols, at, fresh}
-use Rattle.ion_text.specs.machine.TokenLists.{adds, reads}
+use Rattle.ion_text.specs.machine.TokenLists.{adds_values, reads}
 use Rattle.ion_text.specs.laws.reading.Complete.{Begins, notes_begin, starts}
 use Rattle.ion_text.specs.laws.reading.Depths.{Deep}
 use Rattle.ion_text.specs.laws.reading.MarkerWords.{both_not}
@@ -151,7 +151,7 @@ module _ (l : Limits) (c : List Slot) where
       named_frames ks ts ns s colon n k f.held f.same f.opened f.deep
 
 -- What a token says that neither is a quoted symbol or a segment nor `::`: a long string before it doesn't go on with it, nor does a word.
-pub record Apart (d : Content) : Type 0 where
+pub record JoinsNothing (d : Content) : Type 0 where
   pub long : (w : List ℕ) → d ≡ Long w → ⊥
   pub quoted : (w : List ℕ) → d ≡ Quoted w → ⊥
   pub colons : d ≡ Mark' marks.Colons → ⊥
@@ -173,7 +173,7 @@ module _ (g : Catalog) (l : Limits) where
   opened_begins c (frames.Named ss ms s ∷ fs) ts us o b = item_begins c fs ts us o.front o.notes (o.body ++ (o.name ++ o.colon ∷ [])) ss o.open' (Mark' marks.FieldsOpen) o.whole o.noted o.opens (λ e. cc) (λ x d. opened_begins c fs o.front x o.outer d)
 
   -- behind a long string none that isn't open stands
-  stays_apart : (front item : List Placed) (t : Placed) (d : Content) (more : List Placed) (p : Place) → (ends_long front && begins_as_long item) ≡ false → Says p t d → Apart d → (ends_long front && begins_as_long (item ++ t ∷ more)) ≡ false
+  stays_apart : (front item : List Placed) (t : Placed) (d : Content) (more : List Placed) (p : Place) → (ends_long front && begins_as_long item) ≡ false → Says p t d → JoinsNothing d → (ends_long front && begins_as_long (item ++ t ∷ more)) ≡ false
   stays_apart front [] t d more p h says a = both_not (ends_long front) (begins_as_long (t ∷ more)) (neither true t.lexeme.start t.lexeme.end t.lexeme.kind t.lexeme.octets d a.long a.quoted says.body)
   stays_apart front (x ∷ item) t d more p h says a = h
 
@@ -208,7 +208,7 @@ module _ (g : Catalog) (l : Limits) where
       settles = ready_settles g l c h.front h.values f.held h.symbols item h.pieces f.deep ready h.apart
 
       -- A token that comes there is read there.
-      pub go_on : (t : Placed) (d : Content) (more : List Placed) → Says (place_of ks) t d → Apart d → (s : ℕ) × (reads g l (origin g l) (before ++ t ∷ more) ≡ adds h.values (reads g l (at s c f.held h.symbols nows.Ready) (t ∷ more)))
+      pub go_on : (t : Placed) (d : Content) (more : List Placed) → Says (place_of ks) t d → JoinsNothing d → (s : ℕ) × (reads g l (origin g l) (before ++ t ∷ more) ≡ adds_values h.values (reads g l (at s c f.held h.symbols nows.Ready) (t ∷ more)))
       unfolding ready
       go_on t d more says a =
           let says' = says_so l c ks f.held t d f.same says in
@@ -217,7 +217,7 @@ module _ (g : Catalog) (l : Limits) where
             starts g l (starts g l 0 [] h.item) f.held h.notes,
             ap (reads g l (origin g l)) (append_assoc h.front item (t ∷ more))
                 ∙ (more_read g l h.front (item ++ t ∷ more) h.values c (pieces_read g l h.front h.values c h.pieces) (subst (Begins g l places.Top) join first) (stays_apart h.front item t d more (place_of ks) h.apart says a)
-                ∙ ap (adds h.values)
+                ∙ ap (adds_values h.values)
                 (ap (reads g l (fresh c)) (sym join)
                 ∙ token_behind g l c f.held h.item f.opened (ready_outer g l c f.held h.symbols item f.deep ready) h.notes h.symbols noted t d more says' a.colons a.long)),
           )
@@ -259,12 +259,12 @@ module _ (g : Catalog) (l : Limits) where
     pub settles_name : (s : ℕ) × SettlesTo g l up_to (at s c (frames.Fields struct.notes struct.fields ∷ struct.outer) [] nows.Name)
     settles_name = struct_settles g l c h.front h.values struct.notes struct.fields struct.outer h.item true h.pieces struct.deep struct.opened apart
 
-    pub go_on_name : (t : Placed) (d : Content) → Says places.Name t d → Apart d → (s : ℕ) × (reads g l (origin g l) (up_to ++ t ∷ []) ≡ adds h.values (reads g l (at s c (frames.Fields struct.notes struct.fields ∷ struct.outer) [] nows.Name) (t ∷ [])))
+    pub go_on_name : (t : Placed) (d : Content) → Says places.Name t d → JoinsNothing d → (s : ℕ) × (reads g l (origin g l) (up_to ++ t ∷ []) ≡ adds_values h.values (reads g l (at s c (frames.Fields struct.notes struct.fields ∷ struct.outer) [] nows.Name) (t ∷ [])))
     go_on_name t d says a =
         let b : Begins g l places.Name (t ∷ []) = record { first = t; later = []; said = d; cut = refl; says = says; no_colons = a.colons } in
         let first = opened_begins c (frames.Fields struct.notes struct.fields ∷ struct.outer) h.item (t ∷ []) struct.opened b in (
           starts g l 0 [] h.item,
           ap (reads g l (origin g l)) (append_assoc h.front h.item (t ∷ []))
               ∙ (more_read g l h.front (h.item ++ t ∷ []) h.values c (pieces_read g l h.front h.values c h.pieces) first (stays_apart h.front h.item t d [] places.Name apart says a)
-              ∙ ap (adds h.values) (name_there g l c struct.notes struct.fields struct.outer h.item struct.deep struct.opened [] (t ∷ []) b)),
+              ∙ ap (adds_values h.values) (name_there g l c struct.notes struct.fields struct.outer h.item struct.deep struct.opened [] (t ∷ []) b)),
         )

@@ -22,7 +22,7 @@ use Rattle.ion_text.specs.laws.reading.Pieces.{ReadSoFar, pieces_read, walked_no
 use Rattle.ion_text.specs.laws.showing.Compare.{lexes_once, placed_same}
 use Rattle.ion_text.specs.laws.showing.Cuts.{Parted, parted, Is, one_found, begins_once}
 use Rattle.ion_text.specs.laws.showing.Once.{begins_lexed}
-use Rattle.ion_text.specs.laws.showing.Walks.{Met, walking_said, behind_read, meet}
+use Rattle.ion_text.specs.laws.showing.Walks.{OneIsFront, walking_said, behind_read, meet}
 use Rattle.ion_text.specs.laws.deciding.Fronts.{origin, Any}
 use Rattle.ion_text.specs.laws.deciding.Tokens.{Stops}
 use Rattle.ion_text.specs.laws.deciding.Waiting.{Pends, pend, settling_stops, colons_shown, colons_next}
@@ -74,7 +74,7 @@ module _ (g : Catalog) (l : Limits) (u : List ℕ) (s : List Value) (d : Documen
       d.tokens (begins_completes d.tokens false 0 u [] u initial (begins_lexed d.tokens false 0 u theirs.colon theirs.end theirs.rest theirs.lexes) refl (λ p. refl))
       (lexes_operators (λ colon before octets. IsLastBlank octets) d.tokens false 0 u d.lexed) (origin g l) s (record { vs = vs; n = n; read = read }) going)
     where
-      by : Met ts d.tokens → (more : List Placed) × (d.tokens ≡ ts ++ more)
+      by : OneIsFront ts d.tokens → (more : List Placed) × (d.tokens ≡ ts ++ more)
       by (inl h) = h
       by (inr (more, e, h)) = go more e
         where

@@ -24,7 +24,7 @@ use Rattle.ion_text.specs.Grammar.{Pieces, ends_long, begins_as_long}
 use Rattle.ion_text.specs.machine.EachToken.{Reading, goes, Symbols, at, fresh, place, place_in, settle}
 use Rattle.ion_text.specs.machine.Run.{State, is_fresh}
 use Rattle.ion_text.specs.machine.Passed.{said_body}
-use Rattle.ion_text.specs.machine.TokenLists.{Walk, walked, stopped, adds, done, on_turn, then_walk, reads, reads-append}
+use Rattle.ion_text.specs.machine.TokenLists.{Walk, walked, stopped, adds_values, done, on_turn, then_walk, reads, reads-append}
 use Rattle.ion_text.specs.laws.reading.Admits.{fresh_empty}
 use Rattle.ion_text.specs.laws.reading.Complete.{Begins, starts}
 use Rattle.ion_text.specs.laws.reading.Depths.{Deep}
@@ -195,7 +195,7 @@ module _ (g : Catalog) (l : Limits) where
   -- and those of pieces before it
   pub item_read : (c : List Slot) (front : List Placed) (vs : List Value) (fs : List Frame) (ss : Symbols) (now : Now) (x : Placed) (xs : List Placed) → Pieces g l front vs c → NowStands c fs ss (x ∷ xs) now → (ends_long front && begins_as_long (x ∷ xs)) ≡ false
       → (a : Arrived g l c fs ss now (x ∷ xs)) → reads g l origin (front ++ x ∷ xs) ≡ walked (vs ++ []) a.r
-  item_read c front vs fs ss now x xs pieces d apart a = more_read g l front (x ∷ xs) vs c (pieces_read g l front vs c pieces) first apart ∙ ap (adds vs) a.read
+  item_read c front vs fs ss now x xs pieces d apart a = more_read g l front (x ∷ xs) vs c (pieces_read g l front vs c pieces) first apart ∙ ap (adds_values vs) a.read
     where
       first : Begins g l places.Top (x ∷ xs)
       first =

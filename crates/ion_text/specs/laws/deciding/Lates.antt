@@ -38,7 +38,7 @@ use Rattle.ion_text.specs.machine.EachToken.{Setting, Spot, under, spot_at, Read
 use Rattle.ion_text.specs.machine.Run.{State, Effect, uses, fails, takes, unsettled, noticed, shut, reaches, on_scan, on_settled, on_said, behind_given, behind_left, with_scan, token_of}
 use Rattle.ion_text.specs.machine.Passed.{said_body}
 use Rattle.ion_text.specs.laws.reading.Accepts.{mark_said}
-use Rattle.ion_text.specs.laws.reading.Fuel.{Once}
+use Rattle.ion_text.specs.laws.reading.Fuel.{UsedHere}
 use Rattle.ion_text.specs.laws.reading.Meets.{IdleLeft, idle_left}
 use Rattle.ion_text.specs.laws.deciding.Shows.{BareSaid}
 
@@ -103,22 +103,22 @@ said_rowless k octets e h = body_rowless k octets e (subst (IsBody k octets) h (
 -- 2. Effects.
 
 -- a refusal is for no such reason
-abbrev pub Quiet : Effect → Type 0
-Quiet (fails e) = HasRow e → ⊥
-Quiet _ = Unit {0}
+abbrev pub NotLate : Effect → Type 0
+NotLate (fails e) = HasRow e → ⊥
+NotLate _ = Unit {0}
 
-pub noticed_quiet : (l : Limits) (r : Reading) (s : Known) → Quiet (noticed l r s)
+pub noticed_quiet : (l : Limits) (r : Reading) (s : Known) → NotLate (noticed l r s)
 noticed_quiet l r s = go (shut r.now && not (is_idle s.mode)) (nat_le (reaches r.frames r s) l.item)
   where
-    go : (a b : Bool) → Quiet (if a then fails reasons.Unexpected else (if b then uses (record { scan = s; reading = r }) else fails reasons.ItemTooLong))
+    go : (a b : Bool) → NotLate (if a then fails reasons.Unexpected else (if b then uses (record { scan = s; reading = r }) else fails reasons.ItemTooLong))
     go true b = λ i. i
     go false true = tt
     go false false = λ i. i
 
-pub said_quiet : (k : TokenKind) (octets : List ℕ) (f : Content → Effect) → ((c : Content) → said k octets ≡ Ok c → Quiet (f c)) → Quiet (on_said (said k octets) f)
+pub said_quiet : (k : TokenKind) (octets : List ℕ) (f : Content → Effect) → ((c : Content) → said k octets ≡ Ok c → NotLate (f c)) → NotLate (on_said (said k octets) f)
 said_quiet k octets f h = go (said k octets) refl
   where
-    go : (c : Result Content Reason) → said k octets ≡ c → Quiet (on_said c f)
+    go : (c : Result Content Reason) → said k octets ≡ c → NotLate (on_said c f)
     go (Ok c) e = h c e
     go (Err y) e = said_rowless k octets y e
 
@@ -294,48 +294,48 @@ module _ (g : Catalog) (l : Limits) where
   -- 4. What comes of the octet there.
 
   -- an octet that is used at the scanner
-  used_quiet : (again : State → Effect) (p : Place) (s : Known) (o : ℕ) (r : Reading) → ((y : Lexeme) (t : Known) → feed p s o ≡ Given y t → (c : Content) → said y.kind y.octets ≡ Ok c → Quiet (behind_given l t (turn g l r (token_of y c))))
-      → (x : Outcome) → feed p s o ≡ x → IsUsed x → Quiet (on_scan g l again r x)
+  used_quiet : (again : State → Effect) (p : Place) (s : Known) (o : ℕ) (r : Reading) → ((y : Lexeme) (t : Known) → feed p s o ≡ Given y t → (c : Content) → said y.kind y.octets ≡ Ok c → NotLate (behind_given l t (turn g l r (token_of y c))))
+      → (x : Outcome) → feed p s o ≡ x → IsUsed x → NotLate (on_scan g l again r x)
   used_quiet again p s o r f (Next t) e u = noticed_quiet l r t
   used_quiet again p s o r f (Given y t) e u = said_quiet y.kind y.octets (λ c. behind_given l t (turn g l r (token_of y c))) (f y t e)
   used_quiet again p s o r f (Left y t) e u = absurd u
   used_quiet again p s o r f (Refused n y) e u = feed_rowless p s o n y e
 
   -- where nothing waits
-  still_quiet : (again : State → Effect) (m : State) (x : Outcome) → settle g l m.reading ≡ goes m.reading → Quiet (on_scan g l again m.reading x)
-      → Quiet (if unsettled m.scan m.reading x then on_scan g l again m.reading x else on_settled g l again m.scan x (settle g l m.reading))
+  still_quiet : (again : State → Effect) (m : State) (x : Outcome) → settle g l m.reading ≡ goes m.reading → NotLate (on_scan g l again m.reading x)
+      → NotLate (if unsettled m.scan m.reading x then on_scan g l again m.reading x else on_settled g l again m.scan x (settle g l m.reading))
   still_quiet again m x e h = go (unsettled m.scan m.reading x)
     where
-      go : (b : Bool) → Quiet (if b then on_scan g l again m.reading x else on_settled g l again m.scan x (settle g l m.reading))
+      go : (b : Bool) → NotLate (if b then on_scan g l again m.reading x else on_settled g l again m.scan x (settle g l m.reading))
       go true = h
-      go false = subst (λ t. Quiet (on_settled g l again m.scan x t)) (sym e) h
+      go false = subst (λ t. NotLate (on_settled g l again m.scan x t)) (sym e) h
 
-  named_quiet : (t : Known) (start : ℕ) (c : List Slot) (fs : List Frame) (s : Option (List ℕ)) → Quiet (behind_given l t (named start c fs s))
+  named_quiet : (t : Known) (start : ℕ) (c : List Slot) (fs : List Frame) (s : Option (List ℕ)) → NotLate (behind_given l t (named start c fs s))
   named_quiet t start c (frames.Fields ss ms ∷ fs) s = noticed_quiet l (at start c (frames.Named ss ms s ∷ fs) [] nows.Ready) t
   named_quiet t start c (frames.List ss vs ∷ fs) s = λ i. i
   named_quiet t start c (frames.Sexp ss vs ∷ fs) s = λ i. i
   named_quiet t start c (frames.Named ss ms y ∷ fs) s = λ i. i
   named_quiet t start c [] s = λ i. i
 
-  keyed_given : (t : Known) (start : ℕ) (c : List Slot) (fs : List Frame) (s : Option (List ℕ)) (x : Content) → Quiet (behind_given l t (on_keyed start c fs s x))
+  keyed_given : (t : Known) (start : ℕ) (c : List Slot) (fs : List Frame) (s : Option (List ℕ)) (x : Content) → NotLate (behind_given l t (on_keyed start c fs s x))
   keyed_given t start c fs s (Mark' marks.Colon) = named_quiet t start c fs s
   keyed_given t start c fs s _ = λ i. i
 
   -- behind a name
-  name_quiet : (n : ℕ) (s : Known) (o start : ℕ) (c : List Slot) (fs : List Frame) (ss : Symbols) (k : Option (List ℕ)) → Once s o → Quiet (takes g l n (with_scan s (at start c fs ss (nows.Keyed k))) o)
+  name_quiet : (n : ℕ) (s : Known) (o start : ℕ) (c : List Slot) (fs : List Frame) (ss : Symbols) (k : Option (List ℕ)) → UsedHere s o → NotLate (takes g l n (with_scan s (at start c fs ss (nows.Keyed k))) o)
   name_quiet zero s o start c fs ss k once = λ i. i
   name_quiet (suc n) s o start c fs ss k once =
       let r = at start c fs ss (nows.Keyed k) in
       still_quiet (λ m. takes g l n m o) (with_scan s r) (feed (place r) s o) refl
       (used_quiet (λ m. takes g l n m o) (place r) s o r (λ y t e x f. keyed_given t start c fs k x) (feed (place r) s o) refl (once (place r)))
 
-  closed_quiet : (t : Known) (spot : Spot) (f : Frame) (fs : List Frame) (v : Value) → Quiet (behind_given l t (ended (under g l) spot (f ∷ fs) v))
+  closed_quiet : (t : Known) (spot : Spot) (f : Frame) (fs : List Frame) (v : Value) → NotLate (behind_given l t (ended (under g l) spot (f ∷ fs) v))
   closed_quiet t spot (frames.List ss vs) fs v = noticed_quiet l (at spot.start spot.context (frames.List ss (vs ++ v ∷ []) ∷ fs) [] nows.After) t
   closed_quiet t spot (frames.Sexp ss vs) fs v = noticed_quiet l (at spot.start spot.context (frames.Sexp ss (vs ++ v ∷ []) ∷ fs) [] nows.Ready) t
   closed_quiet t spot (frames.Named ss ms s) fs v = noticed_quiet l (at spot.start spot.context (frames.Fields ss (ms ++ field_of s v ∷ []) ∷ fs) [] nows.After) t
   closed_quiet t spot (frames.Fields ss ms) fs v = λ i. i
 
-  struct_given : (t : Known) (spot : Spot) (rs : Symbols) (f : Frame) (fs : List Frame) (x : Content) → (BareSaid x → ⊥) → Quiet (behind_given l t (on_name (under g l) spot (frames.Fields rs [] ∷ f ∷ fs) x))
+  struct_given : (t : Known) (spot : Spot) (rs : Symbols) (f : Frame) (fs : List Frame) (x : Content) → (BareSaid x → ⊥) → NotLate (behind_given l t (on_name (under g l) spot (frames.Fields rs [] ∷ f ∷ fs) x))
   struct_given t spot rs f fs (Word w) n = absurd (n tt)
   struct_given t spot rs f fs (Id id) n = absurd (n tt)
   struct_given t spot rs f fs (TypedNull k) n = absurd (n tt)
@@ -350,7 +350,7 @@ module _ (g : Catalog) (l : Limits) where
   GivesNoBare p s o = (y : Lexeme) (t : Known) → feed p s o ≡ Given y t → (c : Content) → said y.kind y.octets ≡ Ok c → BareSaid c → ⊥
 
   -- behind the brace of a struct
-  struct_quiet : (n : ℕ) (s : Known) (o start : ℕ) (c : List Slot) (rs : Symbols) (f : Frame) (fs : List Frame) → Once s o → GivesNoBare places.Name s o → Quiet (takes g l n (with_scan s (at start c (frames.Fields rs [] ∷ f ∷ fs) [] nows.Name)) o)
+  struct_quiet : (n : ℕ) (s : Known) (o start : ℕ) (c : List Slot) (rs : Symbols) (f : Frame) (fs : List Frame) → UsedHere s o → GivesNoBare places.Name s o → NotLate (takes g l n (with_scan s (at start c (frames.Fields rs [] ∷ f ∷ fs) [] nows.Name)) o)
   struct_quiet zero s o start c rs f fs once bare = λ i. i
   struct_quiet (suc n) s o start c rs f fs once bare =
       let r = at start c (frames.Fields rs [] ∷ f ∷ fs) [] nows.Name in
@@ -358,21 +358,21 @@ module _ (g : Catalog) (l : Limits) where
       (used_quiet (λ m. takes g l n m o) (place r) s o r (λ y t e x i. struct_given t (spot_at y.end start c) rs f fs x (bare y t e x i)) (feed (place r) s o) refl (once (place r)))
 
   -- Where a token that was left is late, no reason of rows comes of the octet.
-  pub late_quiet : (n : ℕ) (s : Known) (o : ℕ) (x : Content) (r : Reading) → LateAs x r → (x ≡ Mark' marks.Colons → ⊥) → (BareSaid x → Once s o) → GivesNoBare places.Name s o → Quiet (takes g l n (with_scan s r) o)
+  pub late_quiet : (n : ℕ) (s : Known) (o : ℕ) (x : Content) (r : Reading) → LateAs x r → (x ≡ Mark' marks.Colons → ⊥) → (BareSaid x → UsedHere s o) → GivesNoBare places.Name s o → NotLate (takes g l n (with_scan s r) o)
   late_quiet n s o x _ (behind_name b start c fs ss k) colons once bare = name_quiet n s o start c fs ss k (once b)
   late_quiet n s o x _ (in_struct b start c rs f fs) colons once bare = struct_quiet n s o start c rs f fs (once b) bare
   late_quiet n s o x r (behind_colons _ e) colons once bare = absurd (colons e)
 
   -- 5. Behind the marker of another version.
 
-  fresh_ended : (t : Known) (start end : ℕ) (c : List Slot) (q : Payload) → Quiet (behind_given l t (ended (under g l) (spot_at end start c) [] (annotated [] q)))
+  fresh_ended : (t : Known) (start end : ℕ) (c : List Slot) (q : Payload) → NotLate (behind_given l t (ended (under g l) (spot_at end start c) [] (annotated [] q)))
   fresh_ended t start end c q = go (nat_le end (start + l.item))
     where
-      go : (b : Bool) → Quiet (behind_given l t (if b then gives (annotated [] q) (fresh c) else refuses reasons.ItemTooLong))
+      go : (b : Bool) → NotLate (behind_given l t (if b then gives (annotated [] q) (fresh c) else refuses reasons.ItemTooLong))
       go true = tt
       go false = λ i. i
 
-  fresh_given : (t : Known) (start end : ℕ) (c : List Slot) (x : Content) → (BareSaid x → ⊥) → Quiet (behind_given l t (on_ready (under g l) (spot_at end start c) [] [] x))
+  fresh_given : (t : Known) (start end : ℕ) (c : List Slot) (x : Content) → (BareSaid x → ⊥) → NotLate (behind_given l t (on_ready (under g l) (spot_at end start c) [] [] x))
   fresh_given t start end c (Word w) n = absurd (n tt)
   fresh_given t start end c (Id id) n = absurd (n tt)
   fresh_given t start end c (TypedNull k) n = absurd (n tt)
@@ -384,19 +384,19 @@ module _ (g : Catalog) (l : Limits) where
   fresh_given t start end c (Clob w) n = fresh_ended t start end c (payloads.Clob w)
   fresh_given t start end c (Blob w) n = fresh_ended t start end c (payloads.Blob w)
   fresh_given t start end c (Mark' marks.ListOpen) n =
-      subst (λ b. Quiet (behind_given l t (if b then goes (at start c (frames.List [] [] ∷ []) [] nows.Ready) else refuses reasons.Depth))) (sym some_level) (noticed_quiet l (at start c (frames.List [] [] ∷ []) [] nows.Ready) t)
+      subst (λ b. NotLate (behind_given l t (if b then goes (at start c (frames.List [] [] ∷ []) [] nows.Ready) else refuses reasons.Depth))) (sym some_level) (noticed_quiet l (at start c (frames.List [] [] ∷ []) [] nows.Ready) t)
   fresh_given t start end c (Mark' marks.SexpOpen) n =
-      subst (λ b. Quiet (behind_given l t (if b then goes (at start c (frames.Sexp [] [] ∷ []) [] nows.Ready) else refuses reasons.Depth))) (sym some_level) (noticed_quiet l (at start c (frames.Sexp [] [] ∷ []) [] nows.Ready) t)
+      subst (λ b. NotLate (behind_given l t (if b then goes (at start c (frames.Sexp [] [] ∷ []) [] nows.Ready) else refuses reasons.Depth))) (sym some_level) (noticed_quiet l (at start c (frames.Sexp [] [] ∷ []) [] nows.Ready) t)
   fresh_given t start end c (Mark' marks.FieldsOpen) n = absurd (n tt)
   fresh_given t start end c (Mark' _) n = λ i. i
 
   -- Behind such a marker no reason of rows comes of the octet that shows that it is no annotation.
-  pub version_quiet : (again : State → Effect) (s : Known) (o : ℕ) (c : List Slot) → is_idle s.mode ≡ true → GivesNoBare places.Top s o → (x : Outcome) → feed places.Top s o ≡ x → Quiet (on_scan g l again (fresh c) x)
+  pub version_quiet : (again : State → Effect) (s : Known) (o : ℕ) (c : List Slot) → is_idle s.mode ≡ true → GivesNoBare places.Top s o → (x : Outcome) → feed places.Top s o ≡ x → NotLate (on_scan g l again (fresh c) x)
   version_quiet again s o c idle bare (Next t) e = noticed_quiet l (fresh c) t
   version_quiet again s o c idle bare (Given y t) e = said_quiet y.kind y.octets (λ x. behind_given l t (turn g l (fresh c) (token_of y x))) (λ x i. fresh_given t y.start y.end c x (bare y t e x i))
   version_quiet again s o c idle bare (Left y t) e = said_quiet y.kind y.octets (λ x. behind_left again t (turn g l (fresh c) (token_of y x))) (λ x i. by x i (subst (IdleLeft places.Top s.used) e (idle_left places.Top s o idle)))
     where
-      by : (x : Content) → said y.kind y.octets ≡ Ok x → IdleLeft places.Top s.used (Left y t) → Quiet (behind_left again t (turn g l (fresh c) (token_of y x)))
-      by x i (inl k) = subst (λ z. Quiet (behind_left again t (turn g l (fresh c) (token_of y z)))) (sym (mark_said y.kind y.octets marks.Colon x k.0 (said_body y.kind y.octets x i))) (λ j. j)
+      by : (x : Content) → said y.kind y.octets ≡ Ok x → IdleLeft places.Top s.used (Left y t) → NotLate (behind_left again t (turn g l (fresh c) (token_of y x)))
+      by x i (inl k) = subst (λ z. NotLate (behind_left again t (turn g l (fresh c) (token_of y z)))) (sym (mark_said y.kind y.octets marks.Colon x k.0 (said_body y.kind y.octets x i))) (λ j. j)
       by x i (inr k) = absurd (let n : false ≡ true = k.1 in cc)
   version_quiet again s o c idle bare (Refused n y) e = feed_rowless places.Top s o n y e

@@ -32,7 +32,7 @@ use Rattle.ion_text.specs.machine.EachToken.{under, spot_at, Reading, Turn, goes
 use Rattle.ion_text.specs.machine.Run.{State, Effect, uses, tells, leaves, fails, begun, eats, takes, waits, waits_now, in_segment, unsettled, noticed, shut, reaches, or_worse, on_octet, on_scan, on_settled, on_said, behind_given, behind_left, with_scan, token_of, is_top, is_fresh, Run, run, run_on, once_more, trace}
 use Rattle.ion_text.specs.machine.Passed.{said_body, said_passes}
 use Rattle.ion_text.specs.machine.Pieces.{on_now}
-use Rattle.ion_text.specs.laws.reading.Fuel.{Once, Leaving, feed_leaves}
+use Rattle.ion_text.specs.laws.reading.Fuel.{UsedHere, Leaving, feed_leaves}
 use Rattle.ion_text.specs.laws.reading.Going.{mark_kind, top_place}
 use Rattle.ion_text.specs.laws.reading.Held.{Behind, Reads, ApartAt, or_parts, settled_read}
 use Rattle.ion_text.specs.laws.reading.Meets.{finely_as}
@@ -40,13 +40,13 @@ use Rattle.ion_text.specs.laws.reading.Places.{Leading, settle_same}
 use Rattle.ion_text.specs.laws.reading.Quotes.{Finely}
 use Rattle.ion_text.specs.laws.reading.Segments.{never}
 use Rattle.ion_text.specs.laws.reading.Sound.{NowStands, PendingFor}
-use Rattle.ion_text.specs.laws.reading.Steps.{Stood, Ran, After, eats_after, left_reads, open_at, run_ran, begun_stood}
+use Rattle.ion_text.specs.laws.reading.Steps.{Stood, StoodBehind, After, eats_after, left_reads, open_at, run_ran, begun_stood}
 use Rattle.ion_text.specs.laws.reading.Stops.{behind_run, refused_run, stop_of, stop_taken}
 use Rattle.ion_text.specs.laws.reading.Tokens.{left_colons}
 use Rattle.ion_text.specs.laws.showing.Froms.{EndsWaiting, IsFree, Waits, fresh_parts, idle_waits, run_waits, settle_free}
 use Rattle.ion_text.specs.laws.showing.Halts.{left_idle}
 use Rattle.ion_text.specs.laws.showing.Opened.{symbol_colon}
-use Rattle.ion_text.specs.laws.deciding.Lates.{GivesNoBare, LateAs, Quiet, TurnLate, ended_late, feed_rowless, late_quiet, noticed_quiet, said_rowless, turn_late, version_quiet, within_late}
+use Rattle.ion_text.specs.laws.deciding.Lates.{GivesNoBare, LateAs, NotLate, TurnLate, ended_late, feed_rowless, late_quiet, noticed_quiet, said_rowless, turn_late, version_quiet, within_late}
 use Rattle.ion_text.specs.laws.deciding.Shows.{BareSaid, IsBare, Shown, flag, given_bare, given_shown, left_shown, no_colons, said_bare}
 use Rattle.ion_text.specs.laws.deciding.Turns.{Decided, TurnDecided, settled_decided, token_decided}
 
@@ -119,7 +119,7 @@ module _ (g : Catalog) (l : Limits) where
         go false false = λ i. absurd i
 
     -- refused late, or for a smaller reason that no row has
-    worse_rows : (e : Reason) (x : Effect) → Decided g l (by_octet w) e → Quiet x → Rows (or_worse e x)
+    worse_rows : (e : Reason) (x : Effect) → Decided g l (by_octet w) e → NotLate x → Rows (or_worse e x)
     worse_rows e (fails f) h q = go (nat_lt (reason_number f) (reason_number e))
       where
         go : (b : Bool) → Decided g l (by_octet w) (if b then f else e)
@@ -133,13 +133,13 @@ module _ (g : Catalog) (l : Limits) where
       abbrev Here : Known → Reading → List ℕ → Type 0
       Here s r ahead = Behind g l Scanned u vs s r ahead (ApartAt o s r)
 
-      abbrev Waiting : Known → Reading → Type 0
-      Waiting s r = is_top r.frames ≡ true → Waits g l s r.now
+      abbrev WaitsAtTop : Known → Reading → Type 0
+      WaitsAtTop s r = is_top r.frames ≡ true → Waits g l s r.now
 
-      abbrev Again : ℕ → Type 0
-      Again n = (s : Known) (r : Reading) (ahead : List ℕ) → Continues (o ∷ []) ahead → Here s r ahead → Waiting s r → Rows (takes g l n (with_scan s r) o)
+      abbrev RowsAgain : ℕ → Type 0
+      RowsAgain n = (s : Known) (r : Reading) (ahead : List ℕ) → Continues (o ∷ []) ahead → Here s r ahead → WaitsAtTop s r → Rows (takes g l n (with_scan s r) o)
 
-      module _ (n : ℕ) (again : Again n) (s : Known) (r : Reading) (ahead : List ℕ) (next : Continues (o ∷ []) ahead) (b : Here s r ahead) where
+      module _ (n : ℕ) (again : RowsAgain n) (s : Known) (r : Reading) (ahead : List ℕ) (next : Continues (o ∷ []) ahead) (b : Here s r ahead) where
         abbrev ts : List Placed
         ts = b.front ++ b.item
 
@@ -172,10 +172,10 @@ module _ (g : Catalog) (l : Limits) where
           no_colons_left : c ≡ Mark' marks.Colons → ⊥
           no_colons_left f = never (is_colons x.kind) (left_colons (place r) s s' o x b.sane e) (ap is_colons (mark_kind x.kind x.octets marks.Colons (subst (λ y. IsBody x.kind x.octets (Ok y)) f body)))
 
-          once : BareSaid c → Once s' o
+          once : BareSaid c → UsedHere s' o
           once h = go (subst (Leaving o) e (feed_leaves (place r) s o b.fine)).0
             where
-              go : Once s' o ⊎ (x.kind ≡ kinds.Operator) → Once s' o
+              go : UsedHere s' o ⊎ (x.kind ≡ kinds.Operator) → UsedHere s' o
               go (inl i) = i
               go (inr i) = absurd (subst IsBare i (said_bare x.kind x.octets c body h))
 
@@ -209,7 +209,7 @@ module _ (g : Catalog) (l : Limits) where
         scan_rows (Refused i y) e = λ j. absurd (feed_rowless (place r) s o i y e j)
 
       -- where it was settled before the octet
-      module _ (n : ℕ) (again : Again n) (s : Known) (r : Reading) (ahead : List ℕ) (next : Continues (o ∷ []) ahead) (b : Here s r ahead) (wait : Waiting s r) (open' : unsettled s r (feed (place r) s o) ≡ false) where
+      module _ (n : ℕ) (again : RowsAgain n) (s : Known) (r : Reading) (ahead : List ℕ) (next : Continues (o ∷ []) ahead) (b : Here s r ahead) (wait : WaitsAtTop s r) (open' : unsettled s r (feed (place r) s o) ≡ false) where
         not_waiting : waits r (feed (place r) s o) ≡ false
         not_waiting = (or_parts (waits r (feed (place r) s o)) (in_segment r.now s) open').0
 
@@ -226,9 +226,9 @@ module _ (g : Catalog) (l : Limits) where
             subst (λ p. GivesNoBare g l p s o) (top_place r.frames r.now (ap is_top top))
             (λ y t f d j h. given_bare (place r) s u (b.front ++ b.item) ahead b.scanned o next y t (said_passes y.kind y.octets d j) f (said_bare y.kind y.octets d (said_body y.kind y.octets d j) h))
 
-        quiet : (m : Reading) → LateVersion r.context r.frames r.now m → Quiet (on_scan g l (λ k. takes g l n k o) m (feed (place r) s o))
+        quiet : (m : Reading) → LateVersion r.context r.frames r.now m → NotLate (on_scan g l (λ k. takes g l n k o) m (feed (place r) s o))
         quiet m (top, is, pending) =
-            subst (λ k. Quiet (on_scan g l (λ k. takes g l n k o) k (feed (place r) s o))) (sym is)
+            subst (λ k. NotLate (on_scan g l (λ k. takes g l n k o) k (feed (place r) s o))) (sym is)
             (version_quiet g l (λ k. takes g l n k o) s o r.context (pending_idle s r.now pending (wait (ap is_top top))) (bare top) (feed (place r) s o) (ap (λ p. feed p s o) (sym (top_place r.frames r.now (ap is_top top)))))
 
         by : (t : Turn) → TurnDecided g l (by_octet w) t → Reads g l Scanned u vs s ahead (λ m. ApartAt o s m) t → Leading g l (λ m. (place m ≡ place r) × (is_top m.frames ≡ is_top r.frames)) t → Leading g l (λ m. IsFree g l m.now) t → TurnLate (LateVersion r.context r.frames r.now) t
@@ -244,14 +244,14 @@ module _ (g : Catalog) (l : Limits) where
             (settled_read g l Scanned u vs s ahead o r.start r.context r.frames r.notes r.now b not_waiting) (settle_same g l r.start r.context r.frames r.notes r.now)
             (settle_free g l r.start r.context r.frames r.notes r.now) (settled_late r.start r.context r.frames r.notes r.now)
 
-      octet_rows : (n : ℕ) → Again n → (s : Known) (r : Reading) (ahead : List ℕ) → Continues (o ∷ []) ahead → Here s r ahead → Waiting s r → Rows (on_octet g l (λ k. takes g l n k o) (with_scan s r) (feed (place r) s o))
+      octet_rows : (n : ℕ) → RowsAgain n → (s : Known) (r : Reading) (ahead : List ℕ) → Continues (o ∷ []) ahead → Here s r ahead → WaitsAtTop s r → Rows (on_octet g l (λ k. takes g l n k o) (with_scan s r) (feed (place r) s o))
       octet_rows n again s r ahead next b wait = go (unsettled s r (feed (place r) s o)) refl
         where
           go : (y : Bool) → unsettled s r (feed (place r) s o) ≡ y → Rows (if y then on_scan g l (λ k. takes g l n k o) r (feed (place r) s o) else on_settled g l (λ k. takes g l n k o) s (feed (place r) s o) (settle g l r))
           go true e = scan_rows n again s r ahead next b (feed (place r) s o) refl
           go false e = settled_rows n again s r ahead next b wait e
 
-      takes_rows : (n : ℕ) → Again n
+      takes_rows : (n : ℕ) → RowsAgain n
       takes_rows zero s r ahead next b wait = λ i. absurd i
       takes_rows (suc n) s r ahead next b wait = octet_rows n (takes_rows n) s r ahead next b wait
 
@@ -284,7 +284,7 @@ module _ (g : Catalog) (l : Limits) where
         by (fails y) h a e i = named_so y (ap (reason_in y) e) h i
         by (leaves v m) h a e i = again (eats g l m o) (takes_rows u o (vs ++ v ∷ []) 3 m.scan m.reading a.0 a.1 a.2 (λ top. h)) e i
 
-  ran_rows : (u : List ℕ) (o : ℕ) (r : Refusal) (given : List (Value × ℕ)) (now : Result State Refusal) (n : State) → Ran g l u [] (record { given = given; now = now }) → EndsWaiting g l now → now ≡ Ok n
+  ran_rows : (u : List ℕ) (o : ℕ) (r : Refusal) (given : List (Value × ℕ)) (now : Result State Refusal) (n : State) → StoodBehind g l u [] (record { given = given; now = now }) → EndsWaiting g l now → now ≡ Ok n
       → (run_on (length u) (λ n. eats g l n o) (λ n. run g l (length u + 1) n []) (eats g l n o)).now ≡ Err r → HasRow r.reason → Decides g l (u ++ o ∷ []) r.reason
   ran_rows u o r given (Ok m) n b wait e = subst (λ k. (run_on (length u) (λ n. eats g l n o) (λ n. run g l (length u + 1) n []) (eats g l k o)).now ≡ Err r → HasRow r.reason → Decides g l (u ++ o ∷ []) r.reason) (let same : m ≡ n = cc in same) (last_rows u o (length u) r (plain given) m b wait)
   ran_rows u o r given (Err q) n b wait e = absurd cc

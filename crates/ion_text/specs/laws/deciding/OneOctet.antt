@@ -34,13 +34,13 @@ use Rattle.ion_text.specs.laws.deciding.Waiting.{Pends, pend, settling_stops, co
 -- 1. What octets show, where a row stands.
 
 -- how many octets behind a token show it
-abbrev pub behind : TokenKind → ℕ
-behind kinds.Word = 1
-behind kinds.KindName = 1
-behind (kinds.Mark marks.FieldsOpen) = 1
-behind _ = 0
+abbrev pub behind_kind : TokenKind → ℕ
+behind_kind kinds.Word = 1
+behind_kind kinds.KindName = 1
+behind_kind (kinds.Mark marks.FieldsOpen) = 1
+behind_kind _ = 0
 
-pub bare_behind : (k : TokenKind) → IsBare k → behind k ≡ 1
+pub bare_behind : (k : TokenKind) → IsBare k → behind_kind k ≡ 1
 bare_behind kinds.Word h = refl
 bare_behind kinds.KindName h = refl
 bare_behind (kinds.Mark marks.FieldsOpen) h = refl
@@ -48,7 +48,7 @@ bare_behind _ h = absurd h
 
 -- the last token is refused, or it waits for `::`, which doesn't follow
 pub data Seen (g : Catalog) (l : Limits) (u : List ℕ) (e : Reason) : Type 0 where
-  refused : (ts : List Placed) (t : Placed) (rest : List ℕ) → (s : Stops g l ts t e) → Are u (s.front ++ t ∷ []) rest → HasEnded g l u t → length rest ≡ behind t.lexeme.kind → Seen g l u e
+  refused : (ts : List Placed) (t : Placed) (rest : List ℕ) → (s : Stops g l ts t e) → Are u (s.front ++ t ∷ []) rest → HasEnded g l u t → length rest ≡ behind_kind t.lexeme.kind → Seen g l u e
   unfollowed : (ts : List Placed) → Pends g l ts e → NoColons u ts → Seen g l u e
 
 pub keyword_bare : (said : Content) → IsKeyword said → BareSaid said
@@ -57,7 +57,7 @@ keyword_bare (TypedNull k) i = tt
 keyword_bare _ k = absurd k
 
 module _ (g : Catalog) (l : Limits) (u : List ℕ) where
-  token_seen : (ts : List Placed) (t : Placed) (e : Reason) (rest : List ℕ) → Are u ts rest → Stops g l ts t e → ((front : List Placed) → Are u (front ++ t ∷ []) rest → HasEnded g l u t) → length rest ≡ behind t.lexeme.kind → Seen g l u e
+  token_seen : (ts : List Placed) (t : Placed) (e : Reason) (rest : List ℕ) → Are u ts rest → Stops g l ts t e → ((front : List Placed) → Are u (front ++ t ∷ []) rest → HasEnded g l u t) → length rest ≡ behind_kind t.lexeme.kind → Seen g l u e
   token_seen ts t e rest are s ended size =
       let all = subst (λ y. Are u y rest) s.is are in
       refused ts t rest s all (ended s.front all) size
@@ -69,9 +69,9 @@ module _ (g : Catalog) (l : Limits) (u : List ℕ) where
       (sym (bare_behind h.token.lexeme.kind (said_bare h.token.lexeme.kind h.token.lexeme.octets said h.says.body bare)))
 
   -- a mark
-  mark_seen : (ts : List Placed) (t : Placed) (p : Place) (x : Mark) (e : Reason) → Are u ts [] → Says p t (Mark' x) → is_closing (kinds.Mark x) ≡ true → (x ≡ marks.Colon → ⊥) → behind (kinds.Mark x) ≡ 0 → Stops g l ts t e → Seen g l u e
+  mark_seen : (ts : List Placed) (t : Placed) (p : Place) (x : Mark) (e : Reason) → Are u ts [] → Says p t (Mark' x) → is_closing (kinds.Mark x) ≡ true → (x ≡ marks.Colon → ⊥) → behind_kind (kinds.Mark x) ≡ 0 → Stops g l ts t e → Seen g l u e
   mark_seen ts t p x e are says closing n none s =
-      token_seen ts t e [] are s (λ front all. mark_ended g l u p t x says closing n) (sym (ap behind (mark_kind t.lexeme.kind t.lexeme.octets x says.body) ∙ none))
+      token_seen ts t e [] are s (λ front all. mark_ended g l u p t x says closing n) (sym (ap behind_kind (mark_kind t.lexeme.kind t.lexeme.octets x says.body) ∙ none))
 
   pub seen : (e : Reason) → Decides g l u e → Seen g l u e
   seen _ (no_symbol ts c ks id e shown h fails) = bare_seen ts c ks (Id id) e shown h tt (id_stops g l ts c ks id e h fails)
@@ -156,8 +156,8 @@ module _ (g : Catalog) (l : Limits) where
         none.after [] (subst (BlankThen (codes "::")) same (colons_on y.left v (colons_shown u ts x xs y.flag d y.mid f y.left left y.first lexes k)))
 
     -- the same octets, for one reason
-    abbrev Once : Reason → Reason → Type 0
-    Once e f = (length v ≡ 0) × (e ≡ f)
+    abbrev AtOneOctet : Reason → Reason → Type 0
+    AtOneOctet e f = (length v ≡ 0) × (e ≡ f)
 
     -- one octet shows that `::` doesn't follow
     shown_once : (ts : List Placed) (e : Reason) → Pends g l ts e → NoColons u ts → NoColons (u ++ v) ts → length v ≡ 0
@@ -186,14 +186,14 @@ module _ (g : Catalog) (l : Limits) where
         go (inr some) = absurd (by some (parts_meet b.rest (b.o ∷ []) (a.rest ++ a.o ∷ []) v (sym same)))
 
     -- the same tokens, of which the last one is refused
-    refused_once : (front back : List Placed) (t w : Placed) (e f : Reason) (rest left : List ℕ) → Are u (front ++ t ∷ []) rest → Are (u ++ v) (back ++ w ∷ []) left → length rest ≡ behind t.lexeme.kind → length left ≡ behind w.lexeme.kind
-        → Came g l front t.place → Why g l front t e → Why g l back w f → front ++ t ∷ [] ≡ back ++ w ∷ [] → Once e f
+    refused_once : (front back : List Placed) (t w : Placed) (e f : Reason) (rest left : List ℕ) → Are u (front ++ t ∷ []) rest → Are (u ++ v) (back ++ w ∷ []) left → length rest ≡ behind_kind t.lexeme.kind → length left ≡ behind_kind w.lexeme.kind
+        → Came g l front t.place → Why g l front t e → Why g l back w f → front ++ t ∷ [] ≡ back ++ w ∷ [] → AtOneOctet e f
     refused_once front back t w e f rest left (c, i, a) (d, j, b) m n came why why' same = by (split front t back w [] same)
       where
         longer : (more : List Placed) → front ≡ back ++ w ∷ more → ⊥
         longer more h = omega (arith, ap length same, ap length h, length-append front (t ∷ []), length-append back (w ∷ []), length-append back (w ∷ more))
 
-        by : ((front ≡ back) × (t ≡ w)) ⊎ ((more : List Placed) × (front ≡ back ++ w ∷ more)) → Once e f
+        by : ((front ≡ back) × (t ≡ w)) ⊎ ((more : List Placed) × (front ≡ back ++ w ∷ more)) → AtOneOctet e f
         by (inl (h, k)) =
             let x = lexed_front (front ++ t ∷ []) false 0 u c i rest a in
             let y = lexed_front (back ++ w ∷ []) false 0 (u ++ v) d j left b in (
@@ -206,7 +206,7 @@ module _ (g : Catalog) (l : Limits) where
                 m,
                 n,
                 ap (λ (z : Placed). z.lexeme.end) k,
-                ap (λ (z : Placed). behind z.lexeme.kind) k,
+                ap (λ (z : Placed). behind_kind z.lexeme.kind) k,
                 ap length x.1,
                 ap length y.1,
                 length-append x.0 rest,
@@ -232,14 +232,14 @@ module _ (g : Catalog) (l : Limits) where
     waited_ended : (ts : List Placed) (e : Reason) (p : Pends g l ts e) → NoColons u ts → HasEnded g l u p.token
     waited_ended ts e p n = ended_by_rest g l u p.front p.token n.o n.rest p.plain (subst (λ z. Are u z (n.rest ++ n.o ∷ [])) p.is n.are)
 
-    pub met : (e f : Reason) → Seen g l u e → Seen g l (u ++ v) f → Once e f
+    pub met : (e f : Reason) → Seen g l u e → Seen g l (u ++ v) f → AtOneOctet e f
     met e f (refused ts t rest s are ended size) (refused ws w left s' are' ended' size') =
         by (agreed g l u v s.front s'.front t w ended s.came s'.came (lexes_front (s.front ++ t ∷ []) u rest are) (lexes_front (s'.front ++ w ∷ []) (u ++ v) left are'))
       where
-        same : s.front ++ t ∷ [] ≡ s'.front ++ w ∷ [] → Once e f
+        same : s.front ++ t ∷ [] ≡ s'.front ++ w ∷ [] → AtOneOctet e f
         same = refused_once s.front s'.front t w e f rest left are are' size size' s.came s.why s'.why
 
-        by : Either g l (s.front ++ t ∷ []) (s'.front ++ w ∷ []) → Once e f
+        by : Either g l (s.front ++ t ∷ []) (s'.front ++ w ∷ []) → AtOneOctet e f
         by (inl ([], i)) = same (sym (i ∙ append-nil (s.front ++ t ∷ [])))
         by (inl (x ∷ xs, i)) = absurd (stops_beyond (s.front ++ t ∷ []) (stops_so ts t e s) s'.front w x xs s'.came i)
         by (inr ([], i)) = same (i ∙ append-nil (s'.front ++ w ∷ []))
@@ -267,7 +267,7 @@ module _ (g : Catalog) (l : Limits) where
     met e f (unfollowed ts p none) (unfollowed ws q none') =
         by (agreed g l u v p.front q.front p.token q.token (waited_ended ts e p none) p.came q.came (subst (BeginsLexed false 0 u) p.is (lexes_front ts u (none.rest ++ none.o ∷ []) none.are)) (subst (BeginsLexed false 0 (u ++ v)) q.is (lexes_front ws (u ++ v) (none'.rest ++ none'.o ∷ []) none'.are)))
       where
-        same : ts ≡ ws → Once e f
+        same : ts ≡ ws → AtOneOctet e f
         same i = (shown_once ts e p none (subst (NoColons (u ++ v)) (sym i) none'), pends_once ts ws e f p q i)
 
         later : (x : Placed) (xs : List Placed) → ws ≡ ts ++ x ∷ xs → ⊥
@@ -280,7 +280,7 @@ module _ (g : Catalog) (l : Limits) where
             none_before ws f q none' x xs none.are.0 none.are.1 (none.rest ++ none.o ∷ []) (subst (λ z. LexesTo false 0 u z none.are.0 none.are.1 (none.rest ++ none.o ∷ [])) i none.are.2)
             (colons_next g l ws f q x xs p.values (pend g l ts e p) (ap (reads g l (origin g l)) (sym i) ∙ p.read))
 
-        by : Either g l (p.front ++ p.token ∷ []) (q.front ++ q.token ∷ []) → Once e f
+        by : Either g l (p.front ++ p.token ∷ []) (q.front ++ q.token ∷ []) → AtOneOctet e f
         by (inl ([], i)) = same (p.is ∙ (sym (i ∙ append-nil (p.front ++ p.token ∷ [])) ∙ sym q.is))
         by (inl (x ∷ xs, i)) = absurd (later x xs (q.is ∙ (i ∙ ap (λ z. z ++ x ∷ xs) (sym p.is))))
         by (inr ([], i)) = same (p.is ∙ (i ∙ append-nil (q.front ++ q.token ∷ []) ∙ sym q.is))

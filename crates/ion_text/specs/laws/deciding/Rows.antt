@@ -19,7 +19,7 @@ use Rattle.ion_text.specs.machine.Run.{State, begun, Run, run, trace, refused_of
 use Rattle.ion_text.specs.machine.Pieces.{on_now}
 use Rattle.ion_text.specs.laws.reading.Accepts.{accepts}
 use Rattle.ion_text.specs.laws.reading.Admits.{admits}
-use Rattle.ion_text.specs.laws.reading.Steps.{Stood, Ran, run_ran, begun_stood}
+use Rattle.ion_text.specs.laws.reading.Steps.{Stood, StoodBehind, run_ran, begun_stood}
 use Rattle.ion_text.specs.laws.reading.Stops.{behind_run, stop_of, stop_within, unfinished}
 use Rattle.ion_text.specs.laws.showing.Froms.{Waits, EndsWaiting, run_waits}
 use Rattle.ion_text.specs.laws.deciding.AtEnd.{end_deciding}
@@ -50,7 +50,7 @@ refuses g l u k e within d = go x.given x.now refl (run_ran g l (take k u) [] []
     here : (r : Refusal) → (trace g l u).refused ≡ Some r → r.offset ≤ k → HasRow r.reason → (r.offset ≡ k) × (r.reason ≡ e)
     here r stops early row = one_octet g l u r.offset k r.reason e (omega (arith, early, within)) within (deciding g l u r stops row) d
 
-    go : (given : List (Value × ℕ)) (now : Result State Refusal) → x.now ≡ now → Ran g l (take k u) [] (record { given = given; now = now }) → EndsWaiting g l now → (r : Refusal) × ((trace g l u).refused ≡ Some r) × (r.offset ≤ k) × (HasRow r.reason → (r.offset ≡ k) × (r.reason ≡ e))
+    go : (given : List (Value × ℕ)) (now : Result State Refusal) → x.now ≡ now → StoodBehind g l (take k u) [] (record { given = given; now = now }) → EndsWaiting g l now → (r : Refusal) × ((trace g l u).refused ≡ Some r) × (r.offset ≤ k) × (HasRow r.reason → (r.offset ≡ k) × (r.reason ≡ e))
     go given (Ok m) same b wait = absurd (row_refused g l (take k u) (plain given) m b wait e (seen g l (take k u) e d))
     go given (Err r) same b wait =
         let front : run g l 0 begun u ≡ on_now x.given x.now (λ n. run g l (length (take k u)) n (drop k u)) = ap (run g l 0 begun) (sym (take-append-drop k u)) ∙ behind_run g l (take k u) (drop k u) in

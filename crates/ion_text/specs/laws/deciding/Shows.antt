@@ -27,7 +27,7 @@ use Rattle.ion_text.specs.laws.reading.Meets.{IdleLeft, end_spans, follows_as, i
 use Rattle.ion_text.specs.laws.reading.Segments.{never}
 use Rattle.ion_text.specs.laws.showing.Ahead.{octet_colons}
 use Rattle.ion_text.specs.laws.showing.Closing.{colons_close}
-use Rattle.ion_text.specs.laws.showing.Cuts.{Behind, Is, behind_tokens, one_found}
+use Rattle.ion_text.specs.laws.showing.Cuts.{OpenBehind, Is, behind_tokens, one_found}
 use Rattle.ion_text.specs.laws.showing.Halts.{symbol_colons}
 
 -- one token more
@@ -102,7 +102,7 @@ colons_told p k since s idle ran (w, more, is, e) = by (subst (Is p x) ran (one_
     by (inr e) = let n : x.kind ≡ kinds.Operator = e.1 in cc
 
 module _ (p : Place) (s : Known) (u : List ℕ) (ts : List Placed) (ahead : List ℕ) (h : Scanned p s u ts ahead) (o : ℕ) (next : Continues (o ∷ []) ahead) where
-  abbrev pub k : Behind p s u ts ahead
+  abbrev pub k : OpenBehind p s u ts ahead
   k = behind_tokens p s u ts ahead h
 
   all : LexesTo false 0 (u ++ o ∷ []) ts k.colon k.end (k.since ++ o ∷ [])

@@ -54,7 +54,7 @@ use Rattle.ion_text.specs.laws.showing.Walks.{walking_said, settled_reads, behin
 use Rattle.ion_text.specs.laws.deciding.Openings.{containers, begins_so}
 use Rattle.ion_text.specs.laws.deciding.Shows.{BareSaid, said_bare, awaits_colons, flag, k}
 use Rattle.ion_text.specs.laws.deciding.Fronts.{origin, InPlace, Came, last_in_place, stood_read, item_arrived, item_read, all_told}
-use Rattle.ion_text.specs.laws.deciding.Comings.{Apart, before, cut, came, f}
+use Rattle.ion_text.specs.laws.deciding.Comings.{JoinsNothing, before, cut, came, f}
 use Rattle.ion_text.specs.laws.deciding.Tokens.{Refusing, refusing_stops, refusing_is, bare_plain, ended_by_rest, word_apart, null_apart, read_to}
 
 -- a word of the form of a marker is held as one
@@ -198,7 +198,7 @@ module _ (g : Catalog) (l : Limits) (u : List ℕ) (vs : List Value) (m : State)
 
 module _ (g : Catalog) (l : Limits) where
   -- a token that is held
-  module _ (c : List Slot) (said : Content) (ts : List Placed) (h : Comes g l c [] said ts) (bare : BareSaid said) (symbol : symbol_said said ≡ true) (apart : Apart said) (word : Held)
+  module _ (c : List Slot) (said : Content) (ts : List Placed) (h : Comes g l c [] said ts) (bare : BareSaid said) (symbol : symbol_said said ≡ true) (apart : JoinsNothing said) (word : Held)
       (waits : (start end : ℕ) → on_ready (under g l) (spot_at end start c) (f g l c [] said ts h).held h.symbols said ≡ goes (at start c (f g l c [] said ts h).held h.symbols (nows.Pending word end)))
       (reason : Reason) (refused : (start end : ℕ) → Refusing reason (settle g l (at start c [] h.symbols (nows.Pending word end)))) where
     held_pends : Pends g l ts reason

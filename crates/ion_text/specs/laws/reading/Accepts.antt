@@ -38,11 +38,11 @@ use Rattle.ion_text.specs.laws.reading.Quotes.{Fine, Finely, given_far}
 use Rattle.ion_text.specs.laws.reading.Exact.{Exact, Exactly, feed_exact}
 use Rattle.ion_text.specs.machine.Passed.{said_body}
 use Rattle.ion_text.specs.laws.reading.Sound.{start_now}
-use Rattle.ion_text.specs.laws.reading.Spans.{Closes, Spans, IsTopNow, turn_spans}
+use Rattle.ion_text.specs.laws.reading.Spans.{IsClose, Spans, IsTopNow, turn_spans}
 use Rattle.ion_text.specs.laws.reading.Meets.{Meets, at_blank, at_token, in_blank, goes_on, is_given, is_left, finely_as, follows_as, IdleLeft, idle_left, end_spans}
 use Rattle.ion_text.specs.laws.reading.Going.{Operators, Going, TurnGoes, TurnEnds, TopOk, Direct, going_said, going_turn, going_settle, going_ends, inside_end, inside_token, InsideNext, stays, closed, top_place, no_operator, closes_kind, gives_top}
 use Rattle.ion_text.specs.laws.reading.Quiet.{CalmNow, Calm, EndedIn, ended_more, ended_at, calm_ok, blank_idle, quiet, calm_now}
-use Rattle.ion_text.specs.laws.reading.Fuel.{Once, Leaving, feed_leaves, twice_fuel, eats_stays, more_same}
+use Rattle.ion_text.specs.laws.reading.Fuel.{UsedHere, Leaving, feed_leaves, twice_fuel, eats_stays, more_same}
 use Rattle.ion_model.specs.Measures.{bare}
 use Rattle.ion_model.specs.declared.value.Payload.TheVariants as payloads
 use Rattle.ion_symtab.specs.Next.{next as next_slots}
@@ -87,33 +87,33 @@ mark_said k octets m c e h = let b : Ok c ≡ Ok (Mark' m) = subst (λ x. IsBody
 
 module _ (g : Catalog) (l : Limits) where
   -- a reading at the top level where something may come with any octet
-  abbrev pub Settled : Turn → Type 0
-  Settled t = Leading g l (λ k. (m : Mode) → is_top k.frames ≡ true → CalmNow k.now m) t
+  abbrev pub SettledCalm : Turn → Type 0
+  SettledCalm t = Leading g l (λ k. (m : Mode) → is_top k.frames ≡ true → CalmNow k.now m) t
 
-  within_settled : (item start end : ℕ) (t : Turn) → Settled t → Settled (within item start end t)
+  within_settled : (item start end : ℕ) (t : Turn) → SettledCalm t → SettledCalm (within item start end t)
   within_settled item start end t h = go (nat_le end (start + item))
     where
-      go : (b : Bool) → Settled (if b then t else refuses reasons.ItemTooLong)
+      go : (b : Bool) → SettledCalm (if b then t else refuses reasons.ItemTooLong)
       go true = h
       go false = tt
 
-  top_settled : (item start end : ℕ) (c : List Slot) (v : Value) (d : Result (List Slot) Reason) (b : Bool) → Settled (if b then turned item start end d else within item start end (gives v (fresh c)))
+  top_settled : (item start end : ℕ) (c : List Slot) (v : Value) (d : Result (List Slot) Reason) (b : Bool) → SettledCalm (if b then turned item start end d else within item start end (gives v (fresh c)))
   top_settled item start end c v (Ok d) true = within_settled item start end (goes (fresh d)) (λ m h. tt)
   top_settled item start end c v (Err e) true = tt
   top_settled item start end c v d false = within_settled item start end (gives v (fresh c)) (λ m h. tt)
 
-  ended_settled : (spot : Spot) (fs : List Frame) (v : Value) → Settled (ended (under g l) spot fs v)
+  ended_settled : (spot : Spot) (fs : List Frame) (v : Value) → SettledCalm (ended (under g l) spot fs v)
   ended_settled spot [] v = top_settled l.item spot.start spot.end spot.context v (next_slots spot.context v g) (is_table v)
   ended_settled spot (frames.List ss vs ∷ fs) v = λ m h. absurd cc
   ended_settled spot (frames.Sexp ss vs ∷ fs) v = λ m h. absurd cc
   ended_settled spot (frames.Named ss ms s ∷ fs) v = λ m h. absurd cc
   ended_settled spot (frames.Fields ss ms ∷ fs) v = tt
 
-  paid_settled : (spot : Spot) (fs : List Frame) (ss : Symbols) (q : Result Payload Reason) → Settled (paid (under g l) spot fs ss q)
+  paid_settled : (spot : Spot) (fs : List Frame) (ss : Symbols) (q : Result Payload Reason) → SettledCalm (paid (under g l) spot fs ss q)
   paid_settled spot fs ss (Ok q) = ended_settled spot fs _
   paid_settled spot fs ss (Err e) = tt
 
-  released_settled : (spot : Spot) (fs : List Frame) (ss : Symbols) (h : Held) → Settled (released (under g l) spot fs ss h)
+  released_settled : (spot : Spot) (fs : List Frame) (ss : Symbols) (h : Held) → SettledCalm (released (under g l) spot fs ss h)
   released_settled spot [] [] (helds.Version true s) = within_settled l.item spot.start spot.end (goes (fresh system_slots)) (λ m h. tt)
   released_settled spot [] [] (helds.Version false s) = tt
   released_settled spot [] [] (helds.Symbol s) = paid_settled spot [] [] (held_payload (helds.Symbol s))
@@ -123,7 +123,7 @@ module _ (g : Catalog) (l : Limits) where
   released_settled spot [] (s ∷ ss) h = paid_settled spot [] (s ∷ ss) (held_payload h)
   released_settled spot (f ∷ fs) ss h = paid_settled spot (f ∷ fs) ss (held_payload h)
 
-  pub settle_settled : (start : ℕ) (c : List Slot) (fs : List Frame) (ss : Symbols) (now : Now) → (is_top fs ≡ true → IsTopNow now) → Settled (settle g l (at start c fs ss now))
+  pub settle_settled : (start : ℕ) (c : List Slot) (fs : List Frame) (ss : Symbols) (now : Now) → (is_top fs ≡ true → IsTopNow now) → SettledCalm (settle g l (at start c fs ss now))
   settle_settled start c fs ss (nows.Pending h end) k = released_settled (spot_at end start c) fs ss h
   settle_settled start c fs ss (nows.Long w end) k = ended_settled (spot_at end start c) fs _
   settle_settled start c fs ss (nows.LongName w) k = λ m h. k h
@@ -133,7 +133,7 @@ module _ (g : Catalog) (l : Limits) where
   settle_settled start c fs ss (nows.Keyed s) k = λ m h. k h
 
   still_calm : (r : Reading) (m : Mode) → TopOk g l r → settle g l r ≡ goes r → is_top r.frames ≡ true → CalmNow r.now m
-  still_calm r m k e = subst Settled e (settle_settled r.start r.context r.frames r.notes r.now k) m
+  still_calm r m k e = subst SettledCalm e (settle_settled r.start r.context r.frames r.notes r.now k) m
 
   -- what is calm in each mode isn't waiting
   always_calm : (n : Now) → ((m : Mode) → CalmNow n m) → n ≡ nows.Ready
@@ -208,7 +208,7 @@ module _ (g : Catalog) (l : Limits) where
         direct : (k : Reading) (all : List Value) → place k ≡ place r → TopOk g l k → EndedBy s k → Going g l k ts all → DirectAt k x → Went (eats g l (with_scan s k) o) rest all
         direct k all p ok ended d w = subst (λ y. Went y rest all) (sym (eats_direct k x (ap (λ q. feed q s o) p ∙ e) w)) (went k all p ok ended d w)
 
-        by : (t : Turn) → settle g l r ≡ t → waits r x ≡ false → Leading g l (λ n. (place n ≡ place r) × (is_top n.frames ≡ is_top r.frames)) t → Leading g l (λ n. settle g l n ≡ goes n) t → Settled t → TurnGoes g l t ts all → Streamed (run_on to (λ n. eats g l n o) rest (eats g l (with_scan s r) o)) all
+        by : (t : Turn) → settle g l r ≡ t → waits r x ≡ false → Leading g l (λ n. (place n ≡ place r) × (is_top n.frames ≡ is_top r.frames)) t → Leading g l (λ n. settle g l n ≡ goes n) t → SettledCalm t → TurnGoes g l t ts all → Streamed (run_on to (λ n. eats g l n o) rest (eats g l (with_scan s r) o)) all
         by (goes k) f w a b c i =
             let scan : eats g l (with_scan s r) o ≡ eats g l (with_scan s k) o = eats_settled r x (goes k) e told w f ∙ sym (eats_direct k x (ap (λ q. feed q s o) a.0 ∙ e) (inr b)) in
             subst (λ y. Streamed (run_on to (λ n. eats g l n o) rest y) all) (sym scan)
@@ -291,7 +291,7 @@ module _ (g : Catalog) (l : Limits) where
   settled_colon : (r : Reading) (t : Placed) (ts : List Placed) (all : List Value) → is_top r.frames ≡ true → TopOk g l r → TurnGoes g l (settle g l r) (t ∷ ts) all → t.lexeme.kind ≡ kinds.Mark marks.Colon → ⊥
   settled_colon r t ts all top ok d i = by (settle g l r) (settle_same g l r.start r.context r.frames r.notes r.now) (settle_settled r.start r.context r.frames r.notes r.now ok) d
     where
-      by : (x : Turn) → Leading g l (λ n. (place n ≡ place r) × (is_top n.frames ≡ is_top r.frames)) x → Settled x → TurnGoes g l x (t ∷ ts) all → ⊥
+      by : (x : Turn) → Leading g l (λ n. (place n ≡ place r) × (is_top n.frames ≡ is_top r.frames)) x → SettledCalm x → TurnGoes g l x (t ∷ ts) all → ⊥
       by (goes k) a b e = no_colon k t ts all (always_calm k.now (λ m. b m (a.1 ∙ top))) e i
       by (gives v k) a b e = no_colon k t ts e.0 (always_calm k.now (λ m. b m (a.1 ∙ top))) e.2 i
       by (refuses y) a b e = e
@@ -343,7 +343,7 @@ module _ (g : Catalog) (l : Limits) where
         leaving : Leaving o (Left t.lexeme s')
         leaving = subst (Leaving o) e (feed_leaves (place r) s o fine)
 
-        no_close : (c : Content) → said t.lexeme.kind t.lexeme.octets ≡ Ok c → Closes false c → ⊥
+        no_close : (c : Content) → said t.lexeme.kind t.lexeme.octets ≡ Ok c → IsClose false c → ⊥
         no_close c i k = let n : true ≡ false = sym (closes_kind t.lexeme.kind t.lexeme.octets c k (said_body t.lexeme.kind t.lexeme.octets c i)) ∙ f.5 in cc
 
         -- behind what was settled
@@ -362,7 +362,7 @@ module _ (g : Catalog) (l : Limits) where
             top_of n h i true j = refl
             top_of n (inl (inl h, from, to)) i false j = absurd (let x : true ≡ false = sym i ∙ h in cc)
             top_of n (inl (inr (h, new, ok), from, to)) i false j = absurd (let x : true ≡ false = sym h ∙ j in cc)
-            top_of n (inr h) i false j = absurd (no_close q.1 q.2 (subst (λ b. Closes b q.1) j h.1))
+            top_of n (inr h) i false j = absurd (no_close q.1 q.2 (subst (λ b. IsClose b q.1) j h.1))
 
             idle : (is_top k.frames ≡ true) → is_idle s'.mode ≡ true
             idle h = elim f.4 [
@@ -375,7 +375,7 @@ module _ (g : Catalog) (l : Limits) where
                 let o = turn_ok k q.1 l.item start t.lexeme.end (goes n) h i in
                 (idle_calm n.now s'.mode o.0 (idle (top_of n h i (is_top k.frames) refl)), ended_more n.now t.lexeme.end s'.used f.6 o.1)
 
-            used : (n : Reading) → Spans (is_top k.frames) q.1 l.item start t.lexeme.end (gives (bare (payloads.Truth true)) n) → Once s' o
+            used : (n : Reading) → Spans (is_top k.frames) q.1 l.item start t.lexeme.end (gives (bare (payloads.Truth true)) n) → UsedHere s' o
             used n h = elim leaving.0 [
               | inl i ↦ i
               | inr i ↦ absurd (by' (is_top k.frames) refl i)
@@ -383,7 +383,7 @@ module _ (g : Catalog) (l : Limits) where
               where
                 by' : (b : Bool) → is_top k.frames ≡ b → t.lexeme.kind ≡ kinds.Operator → ⊥
                 by' true j i = no_operator g l k t j q.0 ops.0 i
-                by' false j i = no_close q.1 q.2 (subst (λ b. Closes b q.1) j h.1)
+                by' false j i = no_close q.1 q.2 (subst (λ b. IsClose b q.1) j h.1)
 
             by : (y : Turn) → Spans (is_top k.frames) q.1 l.item start t.lexeme.end y → TurnGoes g l y ts rest → Streamed (run_on to (λ n. eats g l n o) next (behind_left (λ k. takes g l 2 k o) s' y)) rest
             by (goes n) h i = subst (λ z. Streamed (run_on to (λ n. eats g l n o) next z) rest) (sym (twice_fuel g l (with_scan s' n) o leaving.1)) (more n rest (calm' n h) i)
@@ -420,7 +420,7 @@ module _ (g : Catalog) (l : Limits) where
         never_gives (nows.LongName v) x top w y c z = c
         never_gives (nows.Keyed v) x top w y c z = c
 
-        settled : (x : Turn) → settle g l r ≡ x → waits r (Left t.lexeme s') ≡ false → Leading g l (λ n. (place n ≡ place r) × (is_top n.frames ≡ is_top r.frames)) x → Leading g l (λ n. settle g l n ≡ goes n) x → Settled x → TurnGoes g l x (t ∷ ts) all → Streamed (run g l to (with_scan s r) (o ∷ os)) all
+        settled : (x : Turn) → settle g l r ≡ x → waits r (Left t.lexeme s') ≡ false → Leading g l (λ n. (place n ≡ place r) × (is_top n.frames ≡ is_top r.frames)) x → Leading g l (λ n. settle g l n ≡ goes n) x → SettledCalm x → TurnGoes g l x (t ∷ ts) all → Streamed (run g l to (with_scan s r) (o ∷ os)) all
         settled (goes k) i w a b c y =
             behind k all a.0 (λ h. calm_now k.now modes.Blank (c modes.Blank h)) b y (eats g l (with_scan s r) o) (eats_settled s o r (Left t.lexeme s') (goes k) e tt w i)
         settled (gives v k) i w a b c y = absurd (never r.now refl)

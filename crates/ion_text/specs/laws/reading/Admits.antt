@@ -40,8 +40,8 @@ use Rattle.ion_text.specs.laws.reading.Quotes.{is_close, left_none}
 use Rattle.ion_tokens.proofs.Scans.{placed}
 use Rattle.ion_text.specs.machine.Passed.{said_passes}
 use Rattle.ion_text.specs.laws.reading.Sound.{NowStands}
-use Rattle.ion_text.specs.laws.reading.Held.{Scans, Behind, Reads, Open, token_read, settled_end, none_noted}
-use Rattle.ion_text.specs.laws.reading.Steps.{Stood, Ran, run_ran, begun_stood}
+use Rattle.ion_text.specs.laws.reading.Held.{Scans, Behind, Reads, NoLongText, token_read, settled_end, none_noted}
+use Rattle.ion_text.specs.laws.reading.Steps.{Stood, StoodBehind, run_ran, begun_stood}
 
 -- the octets up to the end of the input are the tokens
 abbrev pub Ended : Scans
@@ -158,9 +158,9 @@ module _ (g : Catalog) (l : Limits) where
     turned_accepted used (refuses e) last b h = absurd cc
     turned_accepted used (late e r) last b h = absurd (late_never used e last h)
 
-    module _ (r : Reading) (b : Behind g l Scanned u vs s r [] (Open s.mode)) where
+    module _ (r : Reading) (b : Behind g l Scanned u vs s r [] (NoLongText s.mode)) where
       -- the tokens, where the end ends none
-      ended_behind : at_end (place r) s ≡ Ok None → Behind g l Ended u vs s r [] (Open s.mode)
+      ended_behind : at_end (place r) s ≡ Ok None → Behind g l Ended u vs s r [] (NoLongText s.mode)
       ended_behind e =
           let k = all_since (place r) s u (b.front ++ b.item) b.scanned in
           record {
@@ -179,7 +179,7 @@ module _ (g : Catalog) (l : Limits) where
           }
 
       waiting_accepted : (used : ℕ) (x : Result (Option Lexeme) Reason) (t : Turn) (last : Option Value) → at_end (place r) s ≡ x → settle g l r ≡ t → end_waiting g l used x t ≡ Ok last → Accepted last
-      waiting_accepted used (Ok None) t last e f h = settled_accepted used t last (subst (Reads g l Ended u vs s [] (λ n. Unit {0})) f (settled_end g l Ended u vs s [] (Open s.mode) r (ended_behind e))) h
+      waiting_accepted used (Ok None) t last e f h = settled_accepted used t last (subst (Reads g l Ended u vs s [] (λ n. Unit {0})) f (settled_end g l Ended u vs s [] (NoLongText s.mode) r (ended_behind e))) h
       waiting_accepted used (Ok (Some x)) (goes n) last e f h = absurd cc
       waiting_accepted used (Ok (Some x)) (gives v n) last e f h = absurd cc
       waiting_accepted used (Ok (Some x)) (refuses y) last e f h = absurd cc
@@ -195,13 +195,13 @@ module _ (g : Catalog) (l : Limits) where
           let k = all_since (place r) s u (b.front ++ b.item) b.scanned in
           let fine = at_end_fine (place r) s x e in
           turned_accepted used (turn g l r (token_of x c)) last
-          (token_read g l Scanned u vs s r [] (Open s.mode) b x (λ a. (fine.0, λ t. left_none x.kind x.start x.end (fine.1 a.1))) Ended u s [] (λ n. Unit {0}) c f
+          (token_read g l Scanned u vs s r [] (NoLongText s.mode) b x (λ a. (fine.0, λ t. left_none x.kind x.start x.end (fine.1 a.1))) Ended u s [] (λ n. Unit {0}) c f
           (λ q. subst (λ y. Lexes false 0 y ((b.front ++ b.item) ++ placed (place r) x ∷ [])) (sym b.scanned.cut)
           (ends_in_token b.scanned.behind s b.scanned.front (b.front ++ b.item) b.scanned.left b.scanned.since k.0 (place r) x b.scanned.told b.scanned.pass k.1 b.scanned.ran e
           (said_passes x.kind x.octets c f))) b.sane b.fine) h
 
       ready_accepted : (used : ℕ) (x : Result (Option Lexeme) Reason) (last : Option Value) → at_end (place r) s ≡ x → end_ready g l used r x ≡ Ok last → Accepted last
-      ready_accepted used (Ok None) last e h = fresh_accepted used r last (Open s.mode) (ended_behind e) (is_fresh r) refl h
+      ready_accepted used (Ok None) last e h = fresh_accepted used r last (NoLongText s.mode) (ended_behind e) (is_fresh r) refl h
       ready_accepted used (Ok (Some x)) last e h = token_accepted used x (said x.kind x.octets) last e refl h
       ready_accepted used (Err y) last e h = absurd cc
 
@@ -218,7 +218,7 @@ module _ (g : Catalog) (l : Limits) where
   pub stood_accepted : (u : List ℕ) (vs : List Value) (m : State) (last : Option Value) → Stood g l u vs m → ends g l m ≡ Ok last → Document g l u (vs ++ option_to_list last)
   stood_accepted u vs m last b h = now_accepted u vs m.scan m.reading b m.scan.used m.reading.now last h
 
-  run_accepted : (u : List ℕ) (given : List (Value × ℕ)) (now : Result State Refusal) (last : Option Value) → Ran g l u [] (record { given = given; now = now }) → ends_of g l now ≡ Ok last → Document g l u (plain given ++ option_to_list last)
+  run_accepted : (u : List ℕ) (given : List (Value × ℕ)) (now : Result State Refusal) (last : Option Value) → StoodBehind g l u [] (record { given = given; now = now }) → ends_of g l now ≡ Ok last → Document g l u (plain given ++ option_to_list last)
   run_accepted u given (Ok m) last b h = stood_accepted u (plain given) m last b h
   run_accepted u given (Err e) last b h = absurd cc
 

@@ -42,9 +42,9 @@ use Rattle.ion_text.specs.laws.reading.Quiet.{CalmNow}
 use Rattle.ion_text.specs.laws.reading.Quotes.{Fine, Finely, feed_fine}
 use Rattle.ion_text.specs.machine.Run.{State, Effect, uses, tells, leaves, fails, begun, run, takes, unsettled, noticed, on_octet, on_scan, on_settled, on_said, behind_given, behind_left, or_worse, with_scan, token_of, shut, is_top, reaches, longest_top, is_long_begun, Run}
 use Rattle.ion_text.specs.laws.reading.Sound.{NowStands}
-use Rattle.ion_text.specs.laws.reading.Steps.{Stood, run_ran, begun_stood, Ran as RanSo}
+use Rattle.ion_text.specs.laws.reading.Steps.{Stood, run_ran, begun_stood, StoodBehind}
 use Rattle.ion_text.specs.machine.Views.{state_of}
-use Rattle.ion_text.specs.laws.showing.Cuts.{Behind, behind_tokens}
+use Rattle.ion_text.specs.laws.showing.Cuts.{OpenBehind, behind_tokens}
 use Rattle.ion_text.specs.laws.showing.OpenRests.{start_before}
 use Rattle.ion_text.specs.laws.showing.Within.{Within, EndsWithin, begun_within}
 
@@ -76,7 +76,7 @@ module _ (g : Catalog) (l : Limits) (u : List ℕ) (vs : List Value) (m : State)
   abbrev ts : List Placed
   ts = b.front ++ b.item
 
-  k : Behind p s u ts []
+  k : OpenBehind p s u ts []
   k = behind_tokens p s u ts [] b.scanned
 
   module _ (open' : is_idle s.mode ≡ false) where
@@ -200,19 +200,19 @@ module _ (g : Catalog) (l : Limits) where
   settled_top start c fs ss (nows.Keyed x) = tt
 
   -- in a container it stays open, and gives nothing
-  abbrev Inside : Turn → Type 0
-  Inside (goes n) = is_top n.frames ≡ false
-  Inside (gives v n) = ⊥
-  Inside _ = Unit {0}
+  abbrev StaysInside : Turn → Type 0
+  StaysInside (goes n) = is_top n.frames ≡ false
+  StaysInside (gives v n) = ⊥
+  StaysInside _ = Unit {0}
 
-  ended_inside : (spot : Spot) (fs : List Frame) (v : Value) → is_top fs ≡ false → Inside (ended (under g l) spot fs v)
+  ended_inside : (spot : Spot) (fs : List Frame) (v : Value) → is_top fs ≡ false → StaysInside (ended (under g l) spot fs v)
   ended_inside spot [] v h = absurd cc
   ended_inside spot (frames.List ss vs ∷ fs) v h = refl
   ended_inside spot (frames.Sexp ss vs ∷ fs) v h = refl
   ended_inside spot (frames.Named ss ms x ∷ fs) v h = refl
   ended_inside spot (frames.Fields ss ms ∷ fs) v h = tt
 
-  operator_inside : (begin end start : ℕ) (c : List Slot) (fs : List Frame) (ss : Symbols) (w : List ℕ) (now : Now) → is_top fs ≡ false → Inside (turn_now (under g l) (at start c fs ss now) (token_at begin end (Operator w)) now)
+  operator_inside : (begin end start : ℕ) (c : List Slot) (fs : List Frame) (ss : Symbols) (w : List ℕ) (now : Now) → is_top fs ≡ false → StaysInside (turn_now (under g l) (at start c fs ss now) (token_at begin end (Operator w)) now)
   operator_inside begin end start c fs ss w nows.Ready h = ended_inside _ fs _ h
   operator_inside begin end start c fs ss w (nows.Pending x n) h = tt
   operator_inside begin end start c fs ss w (nows.Long v n) h = tt
@@ -222,14 +222,14 @@ module _ (g : Catalog) (l : Limits) where
   operator_inside begin end start c fs ss w (nows.Keyed x) h = tt
 
   module _ (first : Known) where
-    abbrev Kept : Known → Type 0
-    Kept s = (held_in s ≡ 0) ⊎ (s ≡ first)
+    abbrev NoneOrFirst : Known → Type 0
+    NoneOrFirst s = (held_in s ≡ 0) ⊎ (s ≡ first)
 
     abbrev KeptTop : Known → Reading → Type 0
-    KeptTop s r = is_top r.frames ≡ true → Kept s
+    KeptTop s r = is_top r.frames ≡ true → NoneOrFirst s
 
     abbrev KeptBehind : Effect → Type 0
-    KeptBehind (leaves v m) = Kept m.scan
+    KeptBehind (leaves v m) = NoneOrFirst m.scan
     KeptBehind _ = Unit {0}
 
     noticed_kept : (r : Reading) (s : Known) → KeptBehind (noticed l r s)
@@ -256,24 +256,24 @@ module _ (g : Catalog) (l : Limits) where
     said_kept (Ok c) f h = h c refl
     said_kept (Err e) f h = tt
 
-    abbrev Again : (State → Effect) → Type 0
-    Again again = (k : State) → is_sane k.scan.mode ≡ true → Fine k.scan → KeptTop k.scan k.reading → KeptBehind (again k)
+    abbrev AgainKept : (State → Effect) → Type 0
+    AgainKept again = (k : State) → is_sane k.scan.mode ≡ true → Fine k.scan → KeptTop k.scan k.reading → KeptBehind (again k)
 
     -- behind a token that was left none is open
-    left_idle : (again : State → Effect) (s : Known) (t : Turn) → Again again → is_sane s.mode ≡ true → Fine s → held_in s ≡ 0 → KeptBehind (behind_left again s t)
+    left_idle : (again : State → Effect) (s : Known) (t : Turn) → AgainKept again → is_sane s.mode ≡ true → Fine s → held_in s ≡ 0 → KeptBehind (behind_left again s t)
     left_idle again s (goes r) f sane fine h = f (with_scan s r) sane fine (λ _. inl h)
     left_idle again s (gives v r) f sane fine h = inl h
     left_idle again s (refuses e) f sane fine h = tt
     left_idle again s (late e r) f sane fine h = worse_kept e (again (with_scan s r))
 
     -- or it is an operator in an s-expression
-    left_inside : (again : State → Effect) (s : Known) (t : Turn) → Again again → is_sane s.mode ≡ true → Fine s → Inside t → KeptBehind (behind_left again s t)
+    left_inside : (again : State → Effect) (s : Known) (t : Turn) → AgainKept again → is_sane s.mode ≡ true → Fine s → StaysInside t → KeptBehind (behind_left again s t)
     left_inside again s (goes r) f sane fine h = f (with_scan s r) sane fine (λ e. absurd (let n : true ≡ false = sym e ∙ h in cc))
     left_inside again s (gives v r) f sane fine h = absurd h
     left_inside again s (refuses e) f sane fine h = tt
     left_inside again s (late e r) f sane fine h = worse_kept e (again (with_scan s r))
 
-    module _ (r : Reading) (p : Place) (inside : is_sexp p ≡ true → is_top r.frames ≡ false) (again : State → Effect) (f : Again again) where
+    module _ (r : Reading) (p : Place) (inside : is_sexp p ≡ true → is_top r.frames ≡ false) (again : State → Effect) (f : AgainKept again) where
       left_kept : (m : Mode) (x : Lexeme) (s : Known) → Follows p m (Left x s) → Finely m (Left x s) → (c : Content) → said x.kind x.octets ≡ Ok c → KeptBehind (behind_left again s (turn g l r (token_of x c)))
       left_kept m x s fo fi c e = by fi.4 (is_sexp p) refl
         where
@@ -285,7 +285,7 @@ module _ (g : Catalog) (l : Limits) where
           by (inr k) false q = idle (fo.0 q)
           by (inr k) true q =
               left_inside again s (turn g l r (token_of x c)) f fi.3 fi.0
-              (subst (λ y. Inside (turn g l r (token_of x y))) (sym (operator_says x c k e)) (operator_inside x.start x.end r.start r.context r.frames r.notes x.octets r.now (inside q)))
+              (subst (λ y. StaysInside (turn g l r (token_of x y))) (sym (operator_says x c k e)) (operator_inside x.start x.end r.start r.context r.frames r.notes x.octets r.now (inside q)))
 
       scan_kept : (m : Mode) (x : Outcome) → Follows p m x → Finely m x → KeptBehind (on_scan g l again r x)
       scan_kept m (Next s) fo fi = noticed_kept r s
@@ -293,7 +293,7 @@ module _ (g : Catalog) (l : Limits) where
       scan_kept m (Left x s) fo fi = said_kept (said x.kind x.octets) (λ c. behind_left again s (turn g l r (token_of x c))) (left_kept m x s fo fi)
       scan_kept m (Refused n e) fo fi = tt
 
-    module _ (s : Known) (r : Reading) (kept : KeptTop s r) (again : State → Effect) (f : Again again) where
+    module _ (s : Known) (r : Reading) (kept : KeptTop s r) (again : State → Effect) (f : AgainKept again) where
       turned_kept : (x : Outcome) → Follows (place r) s.mode x → Finely s.mode x → (t : Turn) → Leading g l (λ n. is_top n.frames ≡ is_top r.frames) t → TopGives r.frames t → KeptBehind (on_settled g l again s x t)
       turned_kept x fo fi (goes n) same top = scan_kept n (place r) (λ h. same ∙ sexp_open r.frames r.now h) again f s.mode x fo fi
       turned_kept x fo fi (gives v n) same top = kept top
@@ -324,7 +324,7 @@ module _ (g : Catalog) (l : Limits) where
 
   -- behind octets of which none is refused
   led_stood : (u : List ℕ) (s : List (Value × ℕ)) (m : State) → run g l 0 begun u ≡ record { given = s; now = Ok m } → Stood g l u (plain s) m
-  led_stood u s m h = subst (RanSo g l u []) h (run_ran g l u [] [] 0 begun (begun_stood g l))
+  led_stood u s m h = subst (StoodBehind g l u []) h (run_ran g l u [] [] 0 begun (begun_stood g l))
 
   led_within : (u : List ℕ) (s : List (Value × ℕ)) (m : State) → run g l 0 begun u ≡ record { given = s; now = Ok m } → Within g l m
   led_within u s m h = subst (λ (x : Run). EndsWithin g l x.now) h (begun_within g l u)
@@ -339,7 +339,7 @@ module _ (g : Catalog) (l : Limits) where
       b : Stood g l u (plain h.given) h.before
       b = led_stood u h.given h.before h.ran
 
-      left : Kept h.before.scan m.scan
+      left : NoneOrFirst h.before.scan m.scan
       left = subst (KeptBehind h.before.scan) h.left (takes_kept h.before.scan 3 h.before o b.sane b.fine (λ e. inr refl))
 
       by : (held_in m.scan ≡ 0) ⊎ (m.scan ≡ h.before.scan) → held_in m.scan ≤ l.item

@@ -141,13 +141,13 @@ version_word : (p : Place) (t : Placed) (w : List ℕ) → Says p t (Word w) →
 version_word p t w h = let e = word_token t.lexeme.kind t.lexeme.octets w h.body in ap (λ k. is_version_word (record { place = t.place; lexeme = record { start = t.lexeme.start; end = t.lexeme.end; kind = k; octets = t.lexeme.octets } } ∷ [])) e.0 ∙ ap is_version e.1
 
 -- a word that is no keyword is held as its symbol
-abbrev IsHeld : Held → Option (List ℕ) → Type 0
-IsHeld h s = (held_symbol h ≡ Ok s) × (held_payload h ≡ Ok (payloads.Symbol s))
+abbrev IsHeldAs : Held → Option (List ℕ) → Type 0
+IsHeldAs h s = (held_symbol h ≡ Ok s) × (held_payload h ≡ Ok (payloads.Symbol s))
 
-word_held : (w : List ℕ) → is_keyword w ≡ false → IsHeld (held_word w) (Some w)
+word_held : (w : List ℕ) → is_keyword w ≡ false → IsHeldAs (held_word w) (Some w)
 word_held w h = go (bytes_eq w (codes "null")) (bytes_eq w (codes "true")) (bytes_eq w (codes "false")) (bytes_eq w (codes "nan")) (is_version w) h
   where
-    go : (a b c d e : Bool) → ((a || b) || (c || d)) ≡ false → IsHeld (if a then helds.Null values.Null else (if b then helds.Truth true else (if c then helds.Truth false else (if d then helds.Nan else (if e then helds.Version (bytes_eq w the_marker) (Some w) else helds.Symbol (Some w)))))) (Some w)
+    go : (a b c d e : Bool) → ((a || b) || (c || d)) ≡ false → IsHeldAs (if a then helds.Null values.Null else (if b then helds.Truth true else (if c then helds.Truth false else (if d then helds.Nan else (if e then helds.Version (bytes_eq w the_marker) (Some w) else helds.Symbol (Some w)))))) (Some w)
     go true b c d e h = absurd cc
     go false true c d e h = absurd cc
     go false false true d e h = absurd cc
@@ -164,7 +164,7 @@ module _ (g : Catalog) (l : Limits) where
   record Holds (end start : ℕ) (c : List Slot) (fs : List Frame) (ss : Symbols) (said : Content) (s : Option (List ℕ)) : Type 0 where
     held : Held
     waits : on_ready (under g l) (spot_at end start c) fs ss said ≡ goes (at start c fs ss (nows.Pending held end))
-    is : IsHeld held s
+    is : IsHeldAs held s
 
   symbol_held : (end start : ℕ) (c : List Slot) (fs : List Frame) (ss : Symbols) (said : Content) (s : Option (List ℕ)) → IsSymbol c said s → Holds end start c fs ss said s
   symbol_held end start c fs ss _ _ (is_word w h) = record { held = held_word w; waits = refl; is = word_held w h }
@@ -206,10 +206,10 @@ module _ (g : Catalog) (l : Limits) where
       ∙ ap (λ x. done (at x c fs (ss ++ s ∷ []) nows.Ready)) (begun_behind c p start fs ts ss t (colons ∷ []) d)))))))
 
   -- The tokens lead to this turn: with the last of them, or once it is known that nothing of what waits goes on.
-  pub data Leads (c : List Slot) (fs : List Frame) (r : Reading) (ts : List Placed) (t : Turn) : Type 0 where
-    at_once : reads g l r ts ≡ on_turn t done → Leads c fs r ts t
-    by_held : (start : ℕ) (ss : Symbols) (h : Held) (end : ℕ) → reads g l r ts ≡ done (at start c fs ss (nows.Pending h end)) → released (under g l) (spot_at end start c) fs ss h ≡ t → Leads c fs r ts t
-    by_long' : (start : ℕ) (ss : Symbols) (w : List ℕ) (end : ℕ) → reads g l r ts ≡ done (at start c fs ss (nows.Long w end)) → ended (under g l) (spot_at end start c) fs (annotated ss (payloads.Str w)) ≡ t → ends_long ts ≡ true → Leads c fs r ts t
+  pub data LeadsToTurn (c : List Slot) (fs : List Frame) (r : Reading) (ts : List Placed) (t : Turn) : Type 0 where
+    at_once : reads g l r ts ≡ on_turn t done → LeadsToTurn c fs r ts t
+    by_held : (start : ℕ) (ss : Symbols) (h : Held) (end : ℕ) → reads g l r ts ≡ done (at start c fs ss (nows.Pending h end)) → released (under g l) (spot_at end start c) fs ss h ≡ t → LeadsToTurn c fs r ts t
+    by_long' : (start : ℕ) (ss : Symbols) (w : List ℕ) (end : ℕ) → reads g l r ts ≡ done (at start c fs ss (nows.Long w end)) → ended (under g l) (spot_at end start c) fs (annotated ss (payloads.Str w)) ≡ t → ends_long ts ≡ true → LeadsToTurn c fs r ts t
 
   -- Segments of a long string are read.
   pub segments_read : (c : List Slot) (p : Place) (start : ℕ) (fs : List Frame) (ss : Symbols) (ts : List Placed) (w : List ℕ) → p ≡ place_in fs nows.Ready → Segments p ts w
@@ -245,7 +245,7 @@ module _ (g : Catalog) (l : Limits) where
   held_leads : (c : List Slot) (p : Place) (start : ℕ) (fs : List Frame) (ss : Symbols) (t : Placed) (said : Content) (h : Held) (q : Payload) → p ≡ place_in fs nows.Ready → Says p t said
       → on_ready (under g l) (spot_at t.lexeme.end (begun_at start t.lexeme.start fs ss) c) fs ss said ≡ goes (at (begun_at start t.lexeme.start fs ss) c fs ss (nows.Pending h t.lexeme.end))
       → held_payload h ≡ Ok q → (fs ≡ [] → ss ≡ [] → not_version h ≡ true)
-      → Leads c fs (at start c fs ss nows.Ready) (t ∷ []) (ended (under g l) (spot_at t.lexeme.end (begun_at start t.lexeme.start fs ss) c) fs (annotated ss q))
+      → LeadsToTurn c fs (at start c fs ss nows.Ready) (t ∷ []) (ended (under g l) (spot_at t.lexeme.end (begun_at start t.lexeme.start fs ss) c) fs (annotated ss q))
   held_leads c p start fs ss t said h q here i w e n =
       by_held (begun_at start t.lexeme.start fs ss) ss h t.lexeme.end
       (first_token g l p (at start c fs ss nows.Ready) t said [] i here (inr refl) ∙ ap (λ x. on_turn x done) w)
@@ -260,7 +260,7 @@ module _ (g : Catalog) (l : Limits) where
 
   -- One token that is a value is read.
   pub scalar_read : (c : List Slot) (p : Place) (start : ℕ) (fs : List Frame) (ss : Symbols) (t : Placed) (said : Content) (q : Payload) → p ≡ place_in fs nows.Ready → Says p t said → IsScalar c said q → (fs ≡ [] → ss ≡ [] → is_version_word (t ∷ []) ≡ false)
-      → Leads c fs (at start c fs ss nows.Ready) (t ∷ []) (ended (under g l) (spot_at t.lexeme.end (begun_at start t.lexeme.start fs ss) c) fs (annotated ss q))
+      → LeadsToTurn c fs (at start c fs ss nows.Ready) (t ∷ []) (ended (under g l) (spot_at t.lexeme.end (begun_at start t.lexeme.start fs ss) c) fs (annotated ss q))
   scalar_read c p start fs ss t _ _ here h is_null v = held_leads c p start fs ss t _ (helds.Null values.Null) _ here h refl refl (λ i j. refl)
   scalar_read c p start fs ss t _ _ here h (is_typed_null k) v = held_leads c p start fs ss t _ (helds.Null k) _ here h refl refl (λ i j. refl)
   scalar_read c p start fs ss t _ _ here h is_true v = held_leads c p start fs ss t _ (helds.Truth true) _ here h refl refl (λ i j. refl)
@@ -289,7 +289,7 @@ module _ (g : Catalog) (l : Limits) where
   read_behind r n ts us e = reads-append g l ts us r ∙ (ap (λ x. then_walk x (λ k. reads g l k us)) e ∙ adds_none g l (reads g l n us))
 
   -- behind tokens that led somewhere
-  leads_behind : (c : List Slot) (fs : List Frame) (r n : Reading) (ts us : List Placed) (t : Turn) → reads g l r ts ≡ done n → Leads c fs n us t → Leads c fs r (ts ++ us) t
+  leads_behind : (c : List Slot) (fs : List Frame) (r n : Reading) (ts us : List Placed) (t : Turn) → reads g l r ts ≡ done n → LeadsToTurn c fs n us t → LeadsToTurn c fs r (ts ++ us) t
   leads_behind c fs r n ts us t e (at_once h) = at_once (read_behind r n ts us e ∙ h)
   leads_behind c fs r n ts us t e (by_held start ss h end i j) = by_held start ss h end (read_behind r n ts us e ∙ i) j
   leads_behind c fs r n ts us t e (by_long' start ss w end i j k) = by_long' start ss w end (read_behind r n ts us e ∙ i) j (ends_behind ts us k)
@@ -342,7 +342,7 @@ module _ (g : Catalog) (l : Limits) where
       go (Clob w) e = absurd cc
       go (Blob w) e = absurd cc
 
-  reached : (c : List Slot) (f : Frame) (fs : List Frame) (r n : Reading) (ts : List Placed) → settle g l n ≡ goes n → ((t : Token) → continues n t ≡ false) → Leads c (f ∷ fs) r ts (goes n) → Reached c r ts n
+  reached : (c : List Slot) (f : Frame) (fs : List Frame) (r n : Reading) (ts : List Placed) → settle g l n ≡ goes n → ((t : Token) → continues n t ≡ false) → LeadsToTurn c (f ∷ fs) r ts (goes n) → Reached c r ts n
   reached c f fs r n ts s k (at_once h) = record { now = n; read = h; settles = s; shuts = λ t e. absurd (let i : true ≡ false = sym e ∙ k t in cc) }
   reached c f fs r n ts s k (by_held start ss h end i j) = record { now = at start c (f ∷ fs) ss (nows.Pending h end); read = i; settles = j; shuts = λ t e. inl (pending_goes start c (f ∷ fs) ss h end t e) }
   reached c f fs r n ts s k (by_long' start ss w end i j m) = record { now = at start c (f ∷ fs) ss (nows.Long w end); read = i; settles = j; shuts = λ t e. let x = long_goes start c f fs ss w end t e in inr (m, x.0, x.1) }
@@ -453,7 +453,7 @@ module _ (g : Catalog) (l : Limits) where
       ∙ (sym (first_token g l p n b.first b.said b.later b.says here (inr s))
       ∙ sym (ap (reads g l n) b.cut))))
 
-  leads_as : (c : List Slot) (fs : List Frame) (r n : Reading) (ts us : List Placed) (t : Turn) → reads g l r (ts ++ us) ≡ reads g l n us → Leads c fs n us t → Leads c fs r (ts ++ us) t
+  leads_as : (c : List Slot) (fs : List Frame) (r n : Reading) (ts us : List Placed) (t : Turn) → reads g l r (ts ++ us) ≡ reads g l n us → LeadsToTurn c fs n us t → LeadsToTurn c fs r (ts ++ us) t
   leads_as c fs r n ts us t e (at_once h) = at_once (e ∙ h)
   leads_as c fs r n ts us t e (by_held start ss h end i j) = by_held start ss h end (e ∙ i) j
   leads_as c fs r n ts us t e (by_long' start ss w end i j k) = by_long' start ss w end (e ∙ i) j (ends_behind ts us k)
@@ -475,11 +475,11 @@ module _ (g : Catalog) (l : Limits) where
 
   -- notes and a payload behind them
   noted_leads : (c : List Slot) (p : Place) (start : ℕ) (fs : List Frame) (notes : List Placed) (t : Placed) (us : List Placed) (ss : Symbols) (q : Payload) → p ≡ place_in fs nows.Ready → Annotations c p notes ss
-      → Leads c fs (at (starts start fs notes) c fs ss nows.Ready) (t ∷ us) (ended (under g l) (spot_at (end_of 0 (t ∷ us)) (begun_at (starts start fs notes) t.lexeme.start fs ss) c) fs (annotated ss q))
-      → Leads c fs (at start c fs [] nows.Ready) (notes ++ t ∷ us) (ended (under g l) (spot_at (end_of 0 (notes ++ t ∷ us)) (starts start fs (notes ++ t ∷ us)) c) fs (annotated ss q))
+      → LeadsToTurn c fs (at (starts start fs notes) c fs ss nows.Ready) (t ∷ us) (ended (under g l) (spot_at (end_of 0 (t ∷ us)) (begun_at (starts start fs notes) t.lexeme.start fs ss) c) fs (annotated ss q))
+      → LeadsToTurn c fs (at start c fs [] nows.Ready) (notes ++ t ∷ us) (ended (under g l) (spot_at (end_of 0 (notes ++ t ∷ us)) (starts start fs (notes ++ t ∷ us)) c) fs (annotated ss q))
   noted_leads c p start fs notes t us ss q here a d =
-      subst (λ (n : ℕ). Leads c fs (at start c fs [] nows.Ready) (notes ++ t ∷ us) (ended (under g l) (spot_at n (starts start fs (notes ++ t ∷ us)) c) fs (annotated ss q))) (sym (end_of_front notes us t 0))
-      (subst (λ (n : ℕ). Leads c fs (at start c fs [] nows.Ready) (notes ++ t ∷ us) (ended (under g l) (spot_at (end_of 0 (t ∷ us)) n c) fs (annotated ss q))) (begun_behind c p start fs notes ss t us a)
+      subst (λ (n : ℕ). LeadsToTurn c fs (at start c fs [] nows.Ready) (notes ++ t ∷ us) (ended (under g l) (spot_at n (starts start fs (notes ++ t ∷ us)) c) fs (annotated ss q))) (sym (end_of_front notes us t 0))
+      (subst (λ (n : ℕ). LeadsToTurn c fs (at start c fs [] nows.Ready) (notes ++ t ∷ us) (ended (under g l) (spot_at (end_of 0 (t ∷ us)) n c) fs (annotated ss q))) (begun_behind c p start fs notes ss t us a)
       (leads_behind c fs (at start c fs [] nows.Ready) (at (starts start fs notes) c fs ss nows.Ready) notes (t ∷ us) _ (notes_read c p start fs notes ss here a) d))
 
   -- what stands between brackets, and the close
@@ -559,7 +559,7 @@ module _ (g : Catalog) (l : Limits) where
   mutual
     -- A value without annotations is read.
     plain_read : (c : List Slot) (p : Place) (start : ℕ) (fs : List Frame) (ss : Symbols) (ts : List Placed) (q : Payload) → p ≡ place_in fs nows.Ready → Plain c p ts q → (fs ≡ [] → ss ≡ [] → is_version_word ts ≡ false) → depth (annotated ss q) + length fs ≤ l.depth
-        → Leads c fs (at start c fs ss nows.Ready) ts (ended (under g l) (spot_at (end_of 0 ts) (begun_at start (first_start 0 ts) fs ss) c) fs (annotated ss q))
+        → LeadsToTurn c fs (at start c fs ss nows.Ready) ts (ended (under g l) (spot_at (end_of 0 ts) (begun_at start (first_start 0 ts) fs ss) c) fs (annotated ss q))
     plain_read c p start fs ss _ _ here (one_token p' t said q h i) v deep = scalar_read c p start fs ss t said q here h i v
     plain_read c p start fs ss ts _ here (long_string p' _ w d) v deep = by_long' (begun_at start (first_start 0 ts) fs ss) ss w (end_of 0 ts) (segments_read c p start fs ss ts w here d) refl (segments_long p ts w d)
     plain_read c p start fs ss _ _ here (is_list p' o e ts vs more h d i) v deep =
@@ -583,12 +583,12 @@ module _ (g : Catalog) (l : Limits) where
 
     -- A value is read.
     pub means_read : (c : List Slot) (p : Place) (start : ℕ) (fs : List Frame) (ts : List Placed) (v : Value) → p ≡ place_in fs nows.Ready → Means c p ts v → (fs ≡ [] → is_version_word ts ≡ false) → depth v + length fs ≤ l.depth
-        → Leads c fs (at start c fs [] nows.Ready) ts (ended (under g l) (spot_at (end_of 0 ts) (starts start fs ts) c) fs v)
+        → LeadsToTurn c fs (at start c fs [] nows.Ready) ts (ended (under g l) (spot_at (end_of 0 ts) (starts start fs ts) c) fs v)
     means_read c p start fs _ _ here (means p' notes ts ss q a d) v deep =
         let b = plain_begins c p ts q d in
-        subst (λ x. Leads c fs (at start c fs [] nows.Ready) (notes ++ x) (ended (under g l) (spot_at (end_of 0 (notes ++ x)) (starts start fs (notes ++ x)) c) fs (annotated ss q))) (sym b.cut)
+        subst (λ x. LeadsToTurn c fs (at start c fs [] nows.Ready) (notes ++ x) (ended (under g l) (spot_at (end_of 0 (notes ++ x)) (starts start fs (notes ++ x)) c) fs (annotated ss q))) (sym b.cut)
         (noted_leads c p start fs notes b.first b.later ss q here a
-        (subst (λ x. Leads c fs (at (starts start fs notes) c fs ss nows.Ready) x (ended (under g l) (spot_at (end_of 0 x) (begun_at (starts start fs notes) (first_start 0 x) fs ss) c) fs (annotated ss q))) b.cut
+        (subst (λ x. LeadsToTurn c fs (at (starts start fs notes) c fs ss nows.Ready) x (ended (under g l) (spot_at (end_of 0 x) (begun_at (starts start fs notes) (first_start 0 x) fs ss) c) fs (annotated ss q))) b.cut
         (plain_read c p (starts start fs notes) fs ss ts q here d (unnoted c p notes ts ss fs a v) deep)))
 
     pub elements_read : (c : List Slot) (start : ℕ) (fs : List Frame) (ss : Symbols) (ts : List Placed) (vs : List Value) (more : Bool) → Elements c ts vs more → depths vs + suc (length fs) ≤ l.depth → InList c start fs ss ts vs more
@@ -598,7 +598,7 @@ module _ (g : Catalog) (l : Limits) where
         let n = at start c (frames.List ss (vs ++ v ∷ []) ∷ fs) [] nows.After in
         reached c (frames.List ss vs) fs (at start c (frames.List ss [] ∷ fs) [] nows.Ready) n (ts ++ us) refl (λ t. refl)
         (leads_behind c (frames.List ss vs ∷ fs) (at start c (frames.List ss [] ∷ fs) [] nows.Ready) (at start c (frames.List ss vs ∷ fs) [] nows.Ready) ts us (goes n) (elements_read c start fs ss ts vs true d (omega arith))
-        (subst (λ (x : ℕ). Leads c (frames.List ss vs ∷ fs) (at start c (frames.List ss vs ∷ fs) [] nows.Ready) us (goes (at x c (frames.List ss (vs ++ v ∷ []) ∷ fs) [] nows.After))) (starts_in start (frames.List ss vs) fs us)
+        (subst (λ (x : ℕ). LeadsToTurn c (frames.List ss vs ∷ fs) (at start c (frames.List ss vs ∷ fs) [] nows.Ready) us (goes (at x c (frames.List ss (vs ++ v ∷ []) ∷ fs) [] nows.After))) (starts_in start (frames.List ss vs) fs us)
         (means_read c places.List start (frames.List ss vs ∷ fs) us v refl m (λ e. absurd cc) (omega arith))))
     elements_read c start fs ss _ _ _ (comma ts vs t d h) deep = mark_behind c places.List (at start c (frames.List ss [] ∷ fs) [] nows.Ready) (at start c (frames.List ss vs ∷ fs) [] nows.After) ts t marks.Comma refl (elements_read c start fs ss ts vs false d deep) h (λ e. cc)
 
@@ -612,7 +612,7 @@ module _ (g : Catalog) (l : Limits) where
         reached c (frames.Sexp ss vs) fs (at start c (frames.Sexp ss [] ∷ fs) [] nows.Ready) n (ts ++ us) refl (λ t. refl)
         (leads_as c (frames.Sexp ss vs ∷ fs) (at start c (frames.Sexp ss [] ∷ fs) [] nows.Ready) before ts us (goes n)
         (item_behind c places.Sexp (at start c (frames.Sexp ss [] ∷ fs) [] nows.Ready) before ts us refl refl (row_read c start fs ss ts vs d (omega arith)) (means_begins c places.Sexp us v m) apart)
-        (subst (λ (x : ℕ). Leads c (frames.Sexp ss vs ∷ fs) before us (goes (at x c (frames.Sexp ss (vs ++ v ∷ []) ∷ fs) [] nows.Ready))) (starts_in start (frames.Sexp ss vs) fs us)
+        (subst (λ (x : ℕ). LeadsToTurn c (frames.Sexp ss vs ∷ fs) before us (goes (at x c (frames.Sexp ss (vs ++ v ∷ []) ∷ fs) [] nows.Ready))) (starts_in start (frames.Sexp ss vs) fs us)
         (means_read c places.Sexp start (frames.Sexp ss vs ∷ fs) us v refl m (λ e. absurd cc) (omega arith))))
 
     pub members_read : (c : List Slot) (start : ℕ) (fs : List Frame) (ss : Symbols) (ts : List Placed) (ms : List Field) (more : Bool) → Members c ts ms more → field_depths ms + suc (length fs) ≤ l.depth → InStruct c start fs ss ts ms more
@@ -629,6 +629,6 @@ module _ (g : Catalog) (l : Limits) where
         (ap (reads g l r) (sym cut)
         ∙ (read_behind r (at start c (frames.Fields ss ms ∷ fs) [] nows.Name) ts (ns ++ colon ∷ us) (members_read c start fs ss ts ms true d (omega arith))
         ∙ name_read c start fs ss ms ns s colon us m i))
-        (subst (λ (x : ℕ). Leads c (frames.Named ss ms s ∷ fs) before us (goes (at x c (frames.Fields ss (ms ++ field_of s v ∷ []) ∷ fs) [] nows.After))) (starts_in start (frames.Named ss ms s) fs us)
+        (subst (λ (x : ℕ). LeadsToTurn c (frames.Named ss ms s ∷ fs) before us (goes (at x c (frames.Fields ss (ms ++ field_of s v ∷ []) ∷ fs) [] nows.After))) (starts_in start (frames.Named ss ms s) fs us)
         (means_read c places.FieldValue start (frames.Named ss ms s ∷ fs) us v refl w (λ e. absurd cc) (omega arith)))))
     members_read c start fs ss _ _ _ (field_comma ts ms t d h) deep = mark_behind c places.FieldValue (at start c (frames.Fields ss [] ∷ fs) [] nows.Name) (at start c (frames.Fields ss ms ∷ fs) [] nows.After) ts t marks.Comma refl (members_read c start fs ss ts ms false d deep) h (λ e. cc)

@@ -40,63 +40,63 @@ abbrev is_blank : Mode → Bool
 is_blank modes.Blank = true
 is_blank _ = false
 
-abbrev fits : Bool → Bool → Action → Bool
-fits blank one (actions.Go m k) = (not (is_one m) || blank) && (not (is_two m) || one)
-fits blank one (actions.Before kind k m) = not (is_one m) && not (is_two m)
-fits blank one _ = true
+abbrev blank_fits : Bool → Bool → Action → Bool
+blank_fits blank one (actions.Go m k) = (not (is_one m) || blank) && (not (is_two m) || one)
+blank_fits blank one (actions.Before kind k m) = not (is_one m) && not (is_two m)
+blank_fits blank one _ = true
 
-record Fits (a b : Bool) (x : Action) : Type 0 where
-  is : fits a b x ≡ true
+record BlankFits (a b : Bool) (x : Action) : Type 0 where
+  is : blank_fits a b x ≡ true
 
-yes : {a b : Bool} {x : Action} → fits a b x ≡ true → Fits a b x
+yes : {a b : Bool} {x : Action} → blank_fits a b x ≡ true → BlankFits a b x
 yes h = record { is = h }
 
-both : {a b : Bool} {x y : Action} (c : Bool) → Fits a b x → Fits a b y → Fits a b (cond c x y)
+both : {a b : Bool} {x y : Action} (c : Bool) → BlankFits a b x → BlankFits a b y → BlankFits a b (cond c x y)
 both true h k = h
 both false h k = k
 
 module _ (a b : Bool) where
-  close_fits : (s : Style) → Fits a b (close s)
+  close_fits : (s : Style) → BlankFits a b (close s)
   close_fits styles.ShortString = yes refl
   close_fits styles.QuotedSymbol = yes refl
   close_fits styles.LongString = yes refl
   close_fits styles.ShortClob = yes refl
   close_fits styles.LongClob = yes refl
 
-  close_long_fits : (s : Style) → Fits a b (close_long s)
+  close_long_fits : (s : Style) → BlankFits a b (close_long s)
   close_long_fits styles.LongString = yes refl
   close_long_fits styles.LongClob = yes refl
   close_long_fits styles.ShortString = yes refl
   close_long_fits styles.QuotedSymbol = yes refl
   close_long_fits styles.ShortClob = yes refl
 
-  lead_fits : (s : Style) (o : ℕ) → Fits a b (lead s o)
+  lead_fits : (s : Style) (o : ℕ) → BlankFits a b (lead s o)
   lead_fits s o = both (nat_lt o 0xc2 || nat_lt 0xf4 o) (yes refl) (both (nat_lt o 0xe0) (yes refl) (both (nat_lt o 0xf0) (yes refl) (yes refl)))
 
-  raw_fits : (s : Style) (o : ℕ) → Fits a b (raw s o)
+  raw_fits : (s : Style) (o : ℕ) → BlankFits a b (raw s o)
   raw_fits s o = both (o == 92) (yes refl) (both (o == quote_of s) (both (is_long s) (yes refl) (close_fits s)) (both (is_long s && (o == 13)) (yes refl) (both (stands o || (is_long s && (o == 10))) (yes refl) (both (nat_lt o 128 || is_clob s) (yes refl) (lead_fits s o)))))
 
-  meant_fits : (s : Style) (m : Option ℕ) → Fits a b (meant s m)
+  meant_fits : (s : Style) (m : Option ℕ) → BlankFits a b (meant s m)
   meant_fits s None = yes refl
   meant_fits s (Some o) = yes refl
 
-  escape_fits : (s : Style) (o : ℕ) → Fits a b (in_escape s o)
+  escape_fits : (s : Style) (o : ℕ) → BlankFits a b (in_escape s o)
   escape_fits s o = both (o == 10) (yes refl) (both (o == 13) (yes refl) (both (o == 120) (yes refl) (both ((o == 117) && not (is_clob s)) (yes refl) (both ((o == 85) && not (is_clob s)) (yes refl) (meant_fits s (escaped o))))))
 
-  character_fits : (s : Style) (c : ℕ) → Fits a b (character s c)
+  character_fits : (s : Style) (c : ℕ) → BlankFits a b (character s c)
   character_fits s c = both (scalar c) (yes refl) (yes refl)
 
-  after_digits_fits : (s : Style) (x : Digits) (c : ℕ) → Fits a b (after_digits s x c)
+  after_digits_fits : (s : Style) (x : Digits) (c : ℕ) → BlankFits a b (after_digits s x c)
   after_digits_fits s digits.Octet c = both (is_clob s) (yes refl) (character_fits s c)
   after_digits_fits s digits.Unit c = both (is_high c) (yes refl) (character_fits s c)
   after_digits_fits s digits.Scalar c = character_fits s c
   after_digits_fits s (digits.LowSurrogate high) c = both (is_high high && is_low c) (character_fits s (0x10000 + (high - 0xd800) * 1024 + (c - 0xdc00))) (yes refl)
 
-  digits_fits : (s : Style) (x : Digits) (left c : ℕ) (digit : Option ℕ) → Fits a b (with_digit s x left c digit)
+  digits_fits : (s : Style) (x : Digits) (left c : ℕ) (digit : Option ℕ) → BlankFits a b (with_digit s x left c digit)
   digits_fits s x left c None = yes refl
   digits_fits s x left c (Some digit) = both (nat_le left 1) (after_digits_fits s x (grow c digit)) (yes refl)
 
-  text_fits : (s : Style) (w : Within) (o : ℕ) → Fits a b (in_text s w o)
+  text_fits : (s : Style) (w : Within) (o : ℕ) → BlankFits a b (in_text s w o)
   text_fits s within.Plain o = raw_fits s o
   text_fits s within.AfterReturn o = both (o == 10) (yes refl) (raw_fits s o)
   text_fits s within.OneQuote o = both (o == 39) (yes refl) (raw_fits s o)
@@ -108,13 +108,13 @@ module _ (a b : Bool) where
   text_fits s (within.HighSurrogateEscape high) o = both (o == 117) (yes refl) (yes refl)
 
 module _ (p : Place) where
-  digit_fits : (e : Ending) (o : ℕ) → Fits false false (digit_behind p e o)
+  digit_fits : (e : Ending) (o : ℕ) → BlankFits false false (digit_behind p e o)
   digit_fits endings.LoneMinus o = yes refl
   digit_fits endings.Minus o = yes refl
   digit_fits endings.Plus o = both (is_sexp p) (yes refl) (yes refl)
   digit_fits endings.Other o = yes refl
 
-  lob_fits : (l : Lob) (o : ℕ) → Fits false false (in_lob l o)
+  lob_fits : (l : Lob) (o : ℕ) → BlankFits false false (in_lob l o)
   lob_fits lobs.Start o = both (is_white o) (yes refl) (both (o == 34) (yes refl) (both (o == 39) (yes refl) (both (o == 125) (yes refl) (both (is_base64 o) (yes refl) (yes refl)))))
   lob_fits lobs.StartQuote o = both (o == 39) (yes refl) (yes refl)
   lob_fits lobs.StartQuotes o = both (o == 39) (yes refl) (yes refl)
@@ -126,20 +126,20 @@ module _ (p : Place) where
   lob_fits lobs.AfterQuotes o = both (o == 39) (yes refl) (yes refl)
   lob_fits lobs.ClobClose o = both (o == 125) (yes refl) (yes refl)
 
-  value_fits : (o : ℕ) → Fits true false (begins_value p o)
+  value_fits : (o : ℕ) → BlankFits true false (begins_value p o)
   value_fits o = both (is_digit o) (yes refl) (both (o == 123) (yes refl) (both (o == 91) (yes refl) (both (o == 93) (yes refl) (both (o == 40) (yes refl) (both (o == 41) (yes refl) (both (o == 45) (yes refl) (both (o == 43) (yes refl) (both (is_sexp p && is_operator_octet o) (yes refl) (yes refl)))))))))
 
-  table_fits : (colon : Bool) (m : Mode) (o : ℕ) → Fits (is_blank m) (is_one m) (next p colon m o)
+  table_fits : (colon : Bool) (m : Mode) (o : ℕ) → BlankFits (is_blank m) (is_one m) (next p colon m o)
   table_fits colon modes.Blank o = both (is_white o) (yes refl) (both (begins_word o) (yes refl) (both (o == 47) (yes refl) (both (o == 34) (yes refl) (both (o == 39) (yes refl) (both (o == 44) (yes refl) (both (o == 125) (yes refl) (both (o == 58) (both colon (yes refl) (yes refl)) (both (is_name p) (yes refl) (value_fits o)))))))))
   table_fits colon modes.Slash o = both (o == 47) (yes refl) (both (o == 42) (yes refl) (both (not (is_sexp p)) (yes refl) (both (is_operator_octet o) (yes refl) (yes refl))))
   table_fits colon modes.LineComment o = line (is_line_end o)
     where
-      line : (x : Bool) → Fits false false (actions.Go (cond x modes.Blank modes.LineComment) keeps.Nothing)
+      line : (x : Bool) → BlankFits false false (actions.Go (cond x modes.Blank modes.LineComment) keeps.Nothing)
       line true = yes refl
       line false = yes refl
   table_fits colon modes.BlockComment o = block (o == 42)
     where
-      block : (x : Bool) → Fits false false (actions.Go (cond x modes.BlockCommentStar modes.BlockComment) keeps.Nothing)
+      block : (x : Bool) → BlankFits false false (actions.Go (cond x modes.BlockCommentStar modes.BlockComment) keeps.Nothing)
       block true = yes refl
       block false = yes refl
   table_fits colon modes.BlockCommentStar o = both (o == 47) (yes refl) (both (o == 42) (yes refl) (yes refl))
@@ -253,7 +253,7 @@ left_exact p kind (modes.Text x w) k start used h = record { is = tt }
 left_exact p kind modes.Brace k start used h = record { is = tt }
 left_exact p kind (modes.Lob x) k start used h = record { is = tt }
 
-acts_exact : (p : Place) (s : Known) (o : ℕ) (a : Action) → Fits (is_blank s.mode) (is_one s.mode) a → Exact s → Exactly (acts p s o a)
+acts_exact : (p : Place) (s : Known) (o : ℕ) (a : Action) → BlankFits (is_blank s.mode) (is_one s.mode) a → Exact s → Exactly (acts p s o a)
 acts_exact p s o (actions.Go m k) f e = went m s _ f.is e
 acts_exact p s o (actions.Give kind k) f e = record { is = tt }
 acts_exact p s o (actions.Before kind k m) f e = left_exact p kind m _ _ _ f.is

@@ -18,7 +18,7 @@ use Rattle.ion_text.specs.machine.EachToken.{Reading, Turn, goes, gives, refuses
 use Rattle.ion_text.specs.machine.Run.{is_top, token_of}
 use Rattle.ion_text.specs.machine.TokenLists.{continues}
 use Rattle.ion_text.specs.laws.reading.Places.{Leading, settle_still}
-use Rattle.ion_text.specs.laws.reading.Spans.{Closes}
+use Rattle.ion_text.specs.laws.reading.Spans.{IsClose}
 use Rattle.ion_tokens.specs.Lexemes.{IsLexeme}
 use Rattle.ion_tokens.specs.machine.Said.{said}
 use Rattle.ion_text.specs.laws.reading.Quotes.{is_close}
@@ -163,7 +163,7 @@ module _ (g : Catalog) (l : Limits) where
   pub never_unclosed : (t w : Placed) → Operators (t ∷ w ∷ []) → t.lexeme.kind ≡ kinds.Operator → w.lexeme.kind ≡ kinds.Word → Goes (t ∷ w ∷ []) → ⊥
   never_unclosed t w ops k j (r, all, d) = by (is_top r.frames) refl
     where
-      no_close : (x : Placed) (c : Content) → said x.lexeme.kind x.lexeme.octets ≡ Ok c → is_close x.lexeme.kind ≡ false → Closes false c → ⊥
+      no_close : (x : Placed) (c : Content) → said x.lexeme.kind x.lexeme.octets ≡ Ok c → is_close x.lexeme.kind ≡ false → IsClose false c → ⊥
       no_close x c e f i = let n : true ≡ false = sym (closes_kind x.lexeme.kind x.lexeme.octets c i (said_body x.lexeme.kind x.lexeme.octets c e)) ∙ f in cc
 
       second : (start : ℕ) (c : Content) → InsideNext g l start t c (w ∷ []) → said t.lexeme.kind t.lexeme.octets ≡ Ok c → ⊥

@@ -21,12 +21,12 @@ use Rattle.ion_tokens.specs.laws.Again.{blank_uses, slash_uses, word_leaves}
 use Rattle.ion_text.specs.laws.reading.Quotes.{Fine, Finely, feed_fine}
 
 -- the octet is used from here in each place
-abbrev pub Once : Known → ℕ → Type 0
-Once s o = (p : Place) → IsUsed (feed p s o)
+abbrev pub UsedHere : Known → ℕ → Type 0
+UsedHere s o = (p : Place) → IsUsed (feed p s o)
 
 -- it is used, or left where it is used next
 abbrev pub UsedThen : ℕ → Outcome → Type 0
-UsedThen o (Left x t) = Once t o
+UsedThen o (Left x t) = UsedHere t o
 UsedThen o _ = Unit {0}
 
 -- it is used, or left once more
@@ -35,7 +35,7 @@ Twice s o = (p : Place) → UsedThen o (feed p s o)
 
 -- what comes of an octet that ended a token before it
 abbrev pub Leaving : ℕ → Outcome → Type 0
-Leaving o (Left x s) = (Once s o ⊎ (x.kind ≡ kinds.Operator)) × Twice s o
+Leaving o (Left x s) = (UsedHere s o ⊎ (x.kind ≡ kinds.Operator)) × Twice s o
 Leaving o _ = Unit {0}
 
 used_then : (o : ℕ) (x : Outcome) → IsUsed x → UsedThen o x
@@ -44,7 +44,7 @@ used_then o (Next t) u = tt
 used_then o (Given x t) u = tt
 used_then o (Refused n e) u = tt
 
-used_twice : (s : Known) (o : ℕ) → Once s o → Twice s o
+used_twice : (s : Known) (o : ℕ) → UsedHere s o → Twice s o
 used_twice s o h p = used_then o (feed p s o) (h p)
 
 word_twice : (s : Known) (o : ℕ) → s.mode ≡ modes.Word → Twice s o
@@ -59,7 +59,7 @@ word_twice s o e p = go (feed p s o) refl
 by_mode : (s : Known) (x : Lexeme) (o : ℕ) → LeftIn o s.mode → (is_idle s.mode ≡ true) ⊎ (x.kind ≡ kinds.Operator) → Leaving o (Left x s)
 by_mode s x o = go s.mode refl
   where
-    once : Once s o → Leaving o (Left x s)
+    once : UsedHere s o → Leaving o (Left x s)
     once f = (inl f, used_twice s o f)
 
     go : (m : Mode) → s.mode ≡ m → LeftIn o m → (is_idle m ≡ true) ⊎ (x.kind ≡ kinds.Operator) → Leaving o (Left x s)
@@ -113,7 +113,7 @@ module _ (g : Catalog) (l : Limits) where
       go true = h m.reading
       go false = settled_used a b m.scan x (settle g l m.reading) h
 
-  once_fuel : (n k : ℕ) (m : State) (o : ℕ) → Once m.scan o → takes g l (suc n) m o ≡ takes g l (suc k) m o
+  once_fuel : (n k : ℕ) (m : State) (o : ℕ) → UsedHere m.scan o → takes g l (suc n) m o ≡ takes g l (suc k) m o
   once_fuel n k m o u = octet_used (λ x. takes g l n x o) (λ x. takes g l k x o) m (feed (place m.reading) m.scan o) (λ r. scan_used (λ x. takes g l n x o) (λ x. takes g l k x o) r (feed (place m.reading) m.scan o) (u (place m.reading)))
 
   left_same : (a b : State → Effect) (s : Known) (t : Turn) → ((r : Reading) → a (with_scan s r) ≡ b (with_scan s r)) → behind_left a s t ≡ behind_left b s t

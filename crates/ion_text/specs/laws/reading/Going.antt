@@ -25,12 +25,12 @@ use Rattle.ion_text.specs.Grammar.{Says}
 use Rattle.ion_tokens.specs.machine.Said.{said}
 use Rattle.ion_text.specs.machine.EachToken.{Reading, Turn, goes, gives, refuses, late, Token, Symbols, at, fresh, place, place_in, settle, turn, begun_at}
 use Rattle.ion_text.specs.machine.Run.{token_of, is_top, is_fresh}
-use Rattle.ion_text.specs.machine.TokenLists.{Walk, walked, stopped, adds, done, on_turn, on_placed, on_judged, continues, reads, first_token, in_place}
+use Rattle.ion_text.specs.machine.TokenLists.{Walk, walked, stopped, adds_values, done, on_turn, on_placed, on_judged, continues, reads, first_token, in_place}
 use Rattle.ion_text.specs.laws.reading.Places.{Leading, settle_same, settle_still, same_place, same_is}
 use Rattle.ion_text.specs.laws.reading.Quotes.{Fine, is_close}
 use Rattle.ion_text.specs.machine.Passed.{said_body}
-use Rattle.ion_text.specs.laws.reading.Sound.{EndsAt, start_now, end_now}
-use Rattle.ion_text.specs.laws.reading.Spans.{Closes, Spans, OpenAs, IsTopNow, IsWaiting, Settles, turn_spans, settle_spans}
+use Rattle.ion_text.specs.laws.reading.Sound.{EndsAt, start_now, end_of_now}
+use Rattle.ion_text.specs.laws.reading.Spans.{IsClose, Spans, OpenAs, IsTopNow, IsWaiting, SettlesWithin, turn_spans, settle_spans}
 use Rattle.ion_text.specs.laws.reading.Meets.{Meets, at_blank, at_token, in_blank, goes_on, is_given, is_left, idle_span, end_spans, finely_as, one_given}
 
 -- no operator stands outside an s-expression
@@ -75,7 +75,7 @@ mark_kind kinds.Clob octets m h = absurd cc
 mark_kind kinds.Blob octets m h = absurd cc
 
 -- what closes a container is a close
-pub closes_kind : (k : TokenKind) (octets : List ℕ) (said : Content) → Closes false said → IsBody k octets (Ok said) → is_close k ≡ true
+pub closes_kind : (k : TokenKind) (octets : List ℕ) (said : Content) → IsClose false said → IsBody k octets (Ok said) → is_close k ≡ true
 closes_kind k octets (Mark' marks.ListClose) c h = ap is_close (mark_kind k octets marks.ListClose h)
 closes_kind k octets (Mark' marks.SexpClose) c h = ap is_close (mark_kind k octets marks.SexpClose h)
 closes_kind k octets (Mark' marks.FieldsClose) c h = ap is_close (mark_kind k octets marks.FieldsClose h)
@@ -122,7 +122,7 @@ module _ (g : Catalog) (l : Limits) where
   reading_in d (walked vs r) = r
   reading_in d stopped = d
 
-  added : (v : Value) (vs : List Value) (n : Reading) (w : Walk) → adds (v ∷ []) w ≡ walked vs n → (ws : List Value) × (w ≡ walked ws n) × (vs ≡ v ∷ ws)
+  added : (v : Value) (vs : List Value) (n : Reading) (w : Walk) → adds_values (v ∷ []) w ≡ walked vs n → (ws : List Value) × (w ≡ walked ws n) × (vs ≡ v ∷ ws)
   unfolding values_in reading_in
   added v vs n (walked ws m) e = (ws, ap (walked ws) (ap (reading_in n) e), sym (ap values_in e))
   added v vs n stopped e = absurd cc
@@ -167,7 +167,7 @@ module _ (g : Catalog) (l : Limits) where
 
       same : (x : Turn) → Leading g l (λ n. (place n ≡ place r) × (is_top n.frames ≡ is_top r.frames)) x → Leading g l (λ n. settle g l n ≡ goes n) x → on_turn x F ≡ on_turn x (λ k. reads g l k (t ∷ ts))
       same (goes n) h k = sym (first_token g l (place r) n t c ts (says_so r t c p e) (sym h.0) (inr k))
-      same (gives v n) h k = ap (adds (v ∷ [])) (sym (first_token g l (place r) n t c ts (says_so r t c p e) (sym h.0) (inr k)))
+      same (gives v n) h k = ap (adds_values (v ∷ [])) (sym (first_token g l (place r) n t c ts (says_so r t c p e) (sym h.0) (inr k)))
       same (refuses y) h k = refl
       same (late y n) h k = refl
 
@@ -222,7 +222,7 @@ module _ (g : Catalog) (l : Limits) where
   pub settle_inside : (start : ℕ) (c : List Slot) (fs : List Frame) (ss : Symbols) (now : Now) → is_top fs ≡ false → InsideTurn start (settle g l (at start c fs ss now))
   settle_inside start c fs ss now h = go now refl
     where
-      waited : (t : Turn) (end : ℕ) → Settles g l start end fs t → InsideTurn start t
+      waited : (t : Turn) (end : ℕ) → SettlesWithin g l start end fs t → InsideTurn start t
       waited (goes r) end (inl k) = (k.1, k.2)
       waited (goes r) end (inr k) = absurd (let n : true ≡ false = sym k.0 ∙ h in cc)
       waited (gives v r) end k = let n : true ≡ false = sym k.0 ∙ h in cc
@@ -230,8 +230,8 @@ module _ (g : Catalog) (l : Limits) where
       waited (late e r) end k = tt
 
       go : (n : Now) → now ≡ n → InsideTurn start (settle g l (at start c fs ss now))
-      go (nows.Pending x end) e = waited (settle g l (at start c fs ss now)) (end_now now 0) (settle_spans g l start c fs ss now 0 (subst (IsWaiting g l) (sym e) tt))
-      go (nows.Long w end) e = waited (settle g l (at start c fs ss now)) (end_now now 0) (settle_spans g l start c fs ss now 0 (subst (IsWaiting g l) (sym e) tt))
+      go (nows.Pending x end) e = waited (settle g l (at start c fs ss now)) (end_of_now now 0) (settle_spans g l start c fs ss now 0 (subst (IsWaiting g l) (sym e) tt))
+      go (nows.Long w end) e = waited (settle g l (at start c fs ss now)) (end_of_now now 0) (settle_spans g l start c fs ss now 0 (subst (IsWaiting g l) (sym e) tt))
       go nows.Ready e = subst (λ n. InsideTurn start (settle g l (at start c fs ss n))) (sym e) (h, refl)
       go nows.After e = subst (λ n. InsideTurn start (settle g l (at start c fs ss n))) (sym e) (h, refl)
       go nows.Name e = subst (λ n. InsideTurn start (settle g l (at start c fs ss n))) (sym e) (h, refl)
@@ -241,7 +241,7 @@ module _ (g : Catalog) (l : Limits) where
   -- behind a token in a container the item is open still, or the token closed it
   pub data InsideNext (start : ℕ) (t : Placed) (c : Content) (ts : List Placed) : Type 0 where
     stays : (m : Reading) (all : List Value) → is_top m.frames ≡ false → m.start ≡ start → Going m ts all → InsideNext start t c ts
-    closed : t.lexeme.end ≤ start + l.item → Closes false c → InsideNext start t c ts
+    closed : t.lexeme.end ≤ start + l.item → IsClose false c → InsideNext start t c ts
 
   inside_turn : (r : Reading) (t : Placed) (c : Content) (ts : List Placed) (all : List Value) → is_top r.frames ≡ false → (x : Turn) → Spans (is_top r.frames) c l.item (start_now r.now r.start t.lexeme.start r.frames r.notes) t.lexeme.end x → TurnGoes x ts all → InsideNext r.start t c ts
   inside_turn r t c ts all h x s d =
@@ -323,7 +323,7 @@ module _ (g : Catalog) (l : Limits) where
   waiting_start (nows.LongName v) start begin fs ss w = absurd w
   waiting_start (nows.Keyed s) start begin fs ss w = absurd w
 
-  waiting_end : (now : Now) (end d : ℕ) → IsWaiting g l now → EndsAt now end → end_now now d ≡ end
+  waiting_end : (now : Now) (end d : ℕ) → IsWaiting g l now → EndsAt now end → end_of_now now d ≡ end
   waiting_end (nows.Pending h e) end d w k = k
   waiting_end (nows.Long v e) end d w k = k
   waiting_end nows.Ready end d w k = absurd w
@@ -332,7 +332,7 @@ module _ (g : Catalog) (l : Limits) where
   waiting_end (nows.LongName v) end d w k = absurd w
   waiting_end (nows.Keyed s) end d w k = absurd w
 
-  pub settled_bound : (start end : ℕ) (fs : List Frame) (t : Turn) (ts : List Placed) (all : List Value) → is_top fs ≡ true → Settles g l start end fs t → TurnGoes t ts all ⊎ TurnEnds t all → end ≤ start + l.item
+  pub settled_bound : (start end : ℕ) (fs : List Frame) (t : Turn) (ts : List Placed) (all : List Value) → is_top fs ≡ true → SettlesWithin g l start end fs t → TurnGoes t ts all ⊎ TurnEnds t all → end ≤ start + l.item
   settled_bound start end fs (goes r) ts all h (inl k) d = absurd (let n : true ≡ false = sym h ∙ k.0 in cc)
   settled_bound start end fs (goes r) ts all h (inr k) d = k.1
   settled_bound start end fs (gives v r) ts all h k d = k.1
@@ -362,11 +362,11 @@ module _ (g : Catalog) (l : Limits) where
         waited : IsWaiting g l m.now → end ≤ m.start + l.item
         waited w = by ts meets ops rest past d
           where
-            same : end_now m.now 0 ≡ end
+            same : end_of_now m.now 0 ≡ end
             same = waiting_end m.now end 0 w at'
 
             bound : (us : List Placed) → TurnGoes (settle g l m) us all ⊎ TurnEnds (settle g l m) all → end ≤ m.start + l.item
-            bound us x = let k = settled_bound m.start (end_now m.now 0) m.frames (settle g l m) us all h (settle_spans g l m.start m.context m.frames m.notes m.now 0 w) x in omega (arith, k, same)
+            bound us x = let k = settled_bound m.start (end_of_now m.now 0) m.frames (settle g l m) us all h (settle_spans g l m.start m.context m.frames m.notes m.now 0 w) x in omega (arith, k, same)
 
             by : (ts : List Placed) → Meets s os ts → Operators ts → LimitFor ts → EndsPast s.used ts → Going m ts all → end ≤ m.start + l.item
             by [] meets ops rest past d = bound [] (inr (going_ends m all d))

@@ -28,7 +28,7 @@ use Rattle.ion_tokens.proofs.Scans.{placed}
 use Rattle.ion_text.specs.laws.reading.Places.{Leading, settle_same}
 use Rattle.ion_text.specs.laws.reading.Depths.{Deep, GoesDeep, turn_deep, settle_deep}
 use Rattle.ion_text.specs.machine.Passed.{said_body}
-use Rattle.ion_text.specs.laws.reading.Sound.{Opened, IsStruct, IsInside, EndsAt, NowStands, Sounds, value_place, long_behind, notes_not_long, not_long, symbol_no_long, start_now, end_now, turn_sounds, settle_sounds, Apart as ApartBehind}
+use Rattle.ion_text.specs.laws.reading.Sound.{Opened, IsStruct, IsInside, EndsAt, NowStands, Sounds, value_place, long_behind, notes_not_long, not_long, symbol_no_long, start_now, end_of_now, turn_sounds, settle_sounds, NoSegmentComes}
 use Rattle.ion_text.specs.laws.reading.MarkerWords.{both_not}
 use Rattle.ion_text.specs.laws.reading.Complete.{ends_behind, end_more}
 
@@ -39,23 +39,23 @@ IsLongNow (nows.LongName w) = Unit {0}
 IsLongNow _ = ⊥
 
 -- a token has begun that becomes no segment
-abbrev pub Open : Mode → Type 0
-Open m = (is_idle m ≡ false) × (is_quoting m ≡ false)
+abbrev pub NoLongText : Mode → Type 0
+NoLongText m = (is_idle m ≡ false) × (is_quoting m ≡ false)
 
 -- what comes of an octet goes on with no long string
-abbrev pub Apart : Bool → Outcome → Type 0
-Apart top (Next s) = Open s.mode
-Apart top (Given x s) = is_segment x.kind ≡ false
-Apart top (Left x s) = (top && is_quoted x.kind) ≡ false
-Apart top (Refused n e) = Unit {0}
+abbrev pub NoSegment : Bool → Outcome → Type 0
+NoSegment top (Next s) = NoLongText s.mode
+NoSegment top (Given x s) = is_segment x.kind ≡ false
+NoSegment top (Left x s) = (top && is_quoted x.kind) ≡ false
+NoSegment top (Refused n e) = Unit {0}
 
 abbrev pub ApartAt : ℕ → Known → Reading → Type 0
-ApartAt o s r = Apart (is_top r.frames) (feed (place r) s o)
+ApartAt o s r = NoSegment (is_top r.frames) (feed (place r) s o)
 
-pub open_apart : (top : Bool) (p : Place) (s : Known) (o : ℕ) → is_sane s.mode ≡ true → Fine s → Open s.mode → Apart top (feed p s o)
+pub open_apart : (top : Bool) (p : Place) (s : Known) (o : ℕ) → is_sane s.mode ≡ true → Fine s → NoLongText s.mode → NoSegment top (feed p s o)
 open_apart top p s o h f k = go (feed p s o) (feed_follows p s o h) (feed_fine p s o f)
   where
-    go : (x : Outcome) → Follows p s.mode x → Finely s.mode x → Apart top x
+    go : (x : Outcome) → Follows p s.mode x → Finely s.mode x → NoSegment top x
     go (Next t) a b = (a.1 k.0, a.2 k.0 k.1)
     go (Given x t) a b = a.1 k.0 k.1
     go (Left x t) a b = both_not top (is_quoted x.kind) (b.2 k.1)
@@ -67,14 +67,14 @@ or_parts false true h = absurd cc
 or_parts true b h = absurd cc
 
 -- a token that has begun with no quote, or shows that nothing goes on
-long_apart : (top : Bool) (x : Outcome) → long_waits top x ≡ false → Apart top x
+long_apart : (top : Bool) (x : Outcome) → long_waits top x ≡ false → NoSegment top x
 long_apart top (Next s) h = or_parts (is_idle s.mode) (is_quoting s.mode) h
 long_apart top (Given x s) h = h
 long_apart top (Left x s) h = h
 long_apart top (Refused n e) h = tt
 
 -- in a container, where a left token was no segment
-name_apart : (top : Bool) (x : Outcome) → top ≡ false → long_waits false x ≡ false → Apart top x
+name_apart : (top : Bool) (x : Outcome) → top ≡ false → long_waits false x ≡ false → NoSegment top x
 name_apart top (Next s) t h = or_parts (is_idle s.mode) (is_quoting s.mode) h
 name_apart top (Given x s) t h = h
 name_apart top (Left x s) t h = ap (λ b. b && is_quoted x.kind) t
@@ -342,7 +342,7 @@ module _ (g : Catalog) (l : Limits) where
 
     -- a segment doesn't stand where a value may come behind one
     ready_apart : (fs : List Frame) (ss : Symbols) (now : Now) (d : NowStands r.context fs ss b.item now) → (ends_long (b.front ++ b.item) ≡ true → IsLongNow now ⊎ (is_segment x.kind ≡ false)) → (c : Content)
-        → ApartBehind g l r.context fs ss b.item (placed (place_in fs now) x) c now d
+        → NoSegmentComes g l r.context fs ss b.item (placed (place_in fs now) x) c now d
     ready_apart fs ss nows.Ready d h c = λ w e. go (long_behind r.context fs d.front d.outer) refl
       where
         none : ends_long d.front ≡ true → d.notes ≡ [] → is_segment x.kind ≡ false
@@ -420,8 +420,8 @@ module _ (g : Catalog) (l : Limits) where
   name_inside [] h = absurd h
 
   module _ (S : Scans) (u : List ℕ) (vs : List Value) (s : Known) (ahead : List ℕ) (o : ℕ) where
-    same_apart : (n : Reading) (p : Place) (top : Bool) (y : Outcome) → place n ≡ p → is_top n.frames ≡ top → feed p s o ≡ y → Apart top y → ApartAt o s n
-    same_apart n p top y e f k h = subst (λ q. Apart (is_top n.frames) (feed q s o)) (sym e) (subst (λ b. Apart b (feed p s o)) (sym f) (subst (Apart top) (sym k) h))
+    same_apart : (n : Reading) (p : Place) (top : Bool) (y : Outcome) → place n ≡ p → is_top n.frames ≡ top → feed p s o ≡ y → NoSegment top y → ApartAt o s n
+    same_apart n p top y e f k h = subst (λ q. NoSegment (is_top n.frames) (feed q s o)) (sym e) (subst (λ b. NoSegment b (feed p s o)) (sym f) (subst (NoSegment top) (sym k) h))
 
     weaker : (r : Reading) → Behind S u vs s r ahead (ApartAt o s r) → Reads S u vs s ahead (λ n. ApartAt o s n) (goes r)
     weaker r b = b
@@ -438,20 +438,20 @@ module _ (g : Catalog) (l : Limits) where
         some now' e n [] f = tt
         some now' e n (t ∷ ts) f = subst (λ x. IsFirst x start) f b.begins
 
-        by : IsLongNow now ⊎ Apart (is_top fs) (feed (place_in fs now) s o) → (IsLongNow now → Apart (is_top fs) (feed (place_in fs now) s o)) → Apart (is_top fs) (feed (place_in fs now) s o)
+        by : IsLongNow now ⊎ NoSegment (is_top fs) (feed (place_in fs now) s o) → (IsLongNow now → NoSegment (is_top fs) (feed (place_in fs now) s o)) → NoSegment (is_top fs) (feed (place_in fs now) s o)
         by (inl h) f = f h
         by (inr h) f = h
 
-        waited : (IsLongNow now → Apart (is_top fs) (feed (place_in fs now) s o)) → (d : NowStands c fs ss b.item now) → Reads S u vs s ahead (λ n. ApartAt o s n) (settle g l (at start c fs ss now))
+        waited : (IsLongNow now → NoSegment (is_top fs) (feed (place_in fs now) s o)) → (d : NowStands c fs ss b.item now) → Reads S u vs s ahead (λ n. ApartAt o s n) (settle g l (at start c fs ss now))
         waited f d =
-            sounds_read S u vs s ahead (λ n. ApartAt o s n) c b.front b.item start (end_now now (end_of 0 b.item)) (settle g l (at start c fs ss now)) b.pieces
+            sounds_read S u vs s ahead (λ n. ApartAt o s n) c b.front b.item start (end_of_now now (end_of 0 b.item)) (settle g l (at start c fs ss now)) b.pieces
             (settle_sounds g l c fs ss now b.item start (end_of 0 b.item) d)
             (settle_deep g l (at start c fs ss now) b.deep) b.begins (last now b.ends)
             (map_turn (λ n. (place n ≡ place_in fs now) × (is_top n.frames ≡ is_top fs)) (λ n. S (place n) s u (b.front ++ b.item) ahead) (λ n e. subst (λ q. S q s u (b.front ++ b.item) ahead) (sym e.0) b.scanned) (settle g l (at start c fs ss now)) (settle_same g l start c fs ss now))
             (map_turn (λ n. (place n ≡ place_in fs now) × (is_top n.frames ≡ is_top fs)) (λ n. ends_long (b.front ++ b.item) ≡ true → IsLongNow n.now ⊎ ApartAt o s n) (λ n e k. inr (same_apart n (place_in fs now) (is_top fs) (feed (place_in fs now) s o) e.0 e.1 refl (by (b.apart k) f))) (settle g l (at start c fs ss now)) (settle_same g l start c fs ss now))
             b.first b.sane b.fine
           where
-            last : (n : Now) → EndsAt n (end_of 0 b.item) → end_now n (end_of 0 b.item) ≡ end_of 0 b.item
+            last : (n : Now) → EndsAt n (end_of 0 b.item) → end_of_now n (end_of 0 b.item) ≡ end_of 0 b.item
             last (nows.Pending h end) e = e
             last (nows.Long w end) e = e
             last (nows.LongName w) e = refl
@@ -490,11 +490,11 @@ module _ (g : Catalog) (l : Limits) where
     pub settled_end : (r : Reading) → Behind S u vs s r ahead A → Reads S u vs s ahead (λ n. Unit {0}) (settle g l r)
     settled_end r b = go r.now refl
       where
-        waited : (n : Now) → r.now ≡ n → end_now n (end_of 0 b.item) ≡ end_of 0 b.item → Reads S u vs s ahead (λ n. Unit {0}) (settle g l r)
+        waited : (n : Now) → r.now ≡ n → end_of_now n (end_of 0 b.item) ≡ end_of 0 b.item → Reads S u vs s ahead (λ n. Unit {0}) (settle g l r)
         waited n e f =
-            sounds_read S u vs s ahead (λ n. Unit {0}) r.context b.front b.item r.start (end_now r.now (end_of 0 b.item)) (settle g l r) b.pieces
+            sounds_read S u vs s ahead (λ n. Unit {0}) r.context b.front b.item r.start (end_of_now r.now (end_of 0 b.item)) (settle g l r) b.pieces
             (settle_sounds g l r.context r.frames r.notes r.now b.item r.start (end_of 0 b.item) b.stands)
-            (settle_deep g l r b.deep) b.begins (ap (λ m. end_now m (end_of 0 b.item)) e ∙ f)
+            (settle_deep g l r b.deep) b.begins (ap (λ m. end_of_now m (end_of 0 b.item)) e ∙ f)
             (map_turn (λ n. (place n ≡ place_in r.frames r.now) × (is_top n.frames ≡ is_top r.frames)) (λ n. S (place n) s u (b.front ++ b.item) ahead) (λ n e. subst (λ q. S q s u (b.front ++ b.item) ahead) (sym e.0) b.scanned) (settle g l r) (settle_same g l r.start r.context r.frames r.notes r.now))
             (any_turn (λ n. ends_long (b.front ++ b.item) ≡ true → IsLongNow n.now ⊎ Unit {0}) (λ n k. inr tt) (settle g l r))
             b.first b.sane b.fine

@@ -59,76 +59,76 @@ abbrev pub lettered : Mode → Bool
 lettered (modes.Infinity zero) = false
 lettered _ = true
 
-abbrev is_left : Mode → Bool
-is_left modes.Blank = true
-is_left modes.Slash = true
-is_left _ = false
+abbrev is_left_in : Mode → Bool
+is_left_in modes.Blank = true
+is_left_in modes.Slash = true
+is_left_in _ = false
 
 -- from a mode that wants n, and at most `more` behind an octet, and in which quotes are open or not
-abbrev fits : Place → ℕ → ℕ → Bool → Action → Bool
-fits p n more q (actions.Go m k) = nat_le (wants m) more && lettered m
-fits p n more q (actions.Before kind k m) = (is_left m && nat_le (wants m + 1) n) && (not q || is_quoted kind)
-fits p n more q actions.EndWord = nat_le 1 n && not q
-fits p n more q (actions.Split letters) = (is_sexp p && not q) && (nat_le 1 letters && nat_le (1 + letters) n)
-fits p n more q actions.EndBlob = nat_le 1 more
-fits p n more q _ = true
+abbrev length_fits : Place → ℕ → ℕ → Bool → Action → Bool
+length_fits p n more q (actions.Go m k) = nat_le (wants m) more && lettered m
+length_fits p n more q (actions.Before kind k m) = (is_left_in m && nat_le (wants m + 1) n) && (not q || is_quoted kind)
+length_fits p n more q actions.EndWord = nat_le 1 n && not q
+length_fits p n more q (actions.Split letters) = (is_sexp p && not q) && (nat_le 1 letters && nat_le (1 + letters) n)
+length_fits p n more q actions.EndBlob = nat_le 1 more
+length_fits p n more q _ = true
 
-record Fits (p : Place) (n more : ℕ) (q : Bool) (a : Action) : Type 0 where
-  is : fits p n more q a ≡ true
+record LengthFits (p : Place) (n more : ℕ) (q : Bool) (a : Action) : Type 0 where
+  is : length_fits p n more q a ≡ true
 
-yes : {p : Place} {n more : ℕ} {q : Bool} {a : Action} → fits p n more q a ≡ true → Fits p n more q a
+yes : {p : Place} {n more : ℕ} {q : Bool} {a : Action} → length_fits p n more q a ≡ true → LengthFits p n more q a
 yes h = record { is = h }
 
-both : {p : Place} {n more : ℕ} {q : Bool} {x y : Action} (c : Bool) → Fits p n more q x → Fits p n more q y → Fits p n more q (cond c x y)
+both : {p : Place} {n more : ℕ} {q : Bool} {x y : Action} (c : Bool) → LengthFits p n more q x → LengthFits p n more q y → LengthFits p n more q (cond c x y)
 both true h k = h
 both false h k = k
 
-both_when : {p : Place} {n more : ℕ} {q : Bool} {x y : Action} (c : Bool) → (c ≡ true → Fits p n more q x) → (c ≡ false → Fits p n more q y) → Fits p n more q (cond c x y)
+both_when : {p : Place} {n more : ℕ} {q : Bool} {x y : Action} (c : Bool) → (c ≡ true → LengthFits p n more q x) → (c ≡ false → LengthFits p n more q y) → LengthFits p n more q (cond c x y)
 both_when true h k = h refl
 both_when false h k = k refl
 
 module _ (p : Place) (n : ℕ) (q : Bool) where
-  close_fits : (s : Style) → Fits p n 1 q (close s)
+  close_fits : (s : Style) → LengthFits p n 1 q (close s)
   close_fits styles.ShortString = yes refl
   close_fits styles.QuotedSymbol = yes refl
   close_fits styles.LongString = yes refl
   close_fits styles.ShortClob = yes refl
   close_fits styles.LongClob = yes refl
 
-  close_long_fits : (s : Style) → Fits p n 1 q (close_long s)
+  close_long_fits : (s : Style) → LengthFits p n 1 q (close_long s)
   close_long_fits styles.LongString = yes refl
   close_long_fits styles.LongClob = yes refl
   close_long_fits styles.ShortString = yes refl
   close_long_fits styles.QuotedSymbol = yes refl
   close_long_fits styles.ShortClob = yes refl
 
-  lead_fits : (s : Style) (o : ℕ) → Fits p n 1 q (lead s o)
+  lead_fits : (s : Style) (o : ℕ) → LengthFits p n 1 q (lead s o)
   lead_fits s o = both (nat_lt o 0xc2 || nat_lt 0xf4 o) (yes refl) (both (nat_lt o 0xe0) (yes refl) (both (nat_lt o 0xf0) (yes refl) (yes refl)))
 
-  raw_fits : (s : Style) (o : ℕ) → Fits p n 1 q (raw s o)
+  raw_fits : (s : Style) (o : ℕ) → LengthFits p n 1 q (raw s o)
   raw_fits s o = both (o == 92) (yes refl) (both (o == quote_of s) (both (is_long s) (yes refl) (close_fits s)) (both (is_long s && (o == 13)) (yes refl) (both (stands o || (is_long s && (o == 10))) (yes refl) (both (nat_lt o 128 || is_clob s) (yes refl) (lead_fits s o)))))
 
-  meant_fits : (s : Style) (m : Option ℕ) → Fits p n 1 q (meant s m)
+  meant_fits : (s : Style) (m : Option ℕ) → LengthFits p n 1 q (meant s m)
   meant_fits s None = yes refl
   meant_fits s (Some o) = yes refl
 
-  escape_fits : (s : Style) (o : ℕ) → Fits p n 1 q (in_escape s o)
+  escape_fits : (s : Style) (o : ℕ) → LengthFits p n 1 q (in_escape s o)
   escape_fits s o = both (o == 10) (yes refl) (both (o == 13) (yes refl) (both (o == 120) (yes refl) (both ((o == 117) && not (is_clob s)) (yes refl) (both ((o == 85) && not (is_clob s)) (yes refl) (meant_fits s (escaped o))))))
 
-  character_fits : (s : Style) (c : ℕ) → Fits p n 1 q (character s c)
+  character_fits : (s : Style) (c : ℕ) → LengthFits p n 1 q (character s c)
   character_fits s c = both (scalar c) (yes refl) (yes refl)
 
-  after_digits_fits : (s : Style) (x : Digits) (c : ℕ) → Fits p n 1 q (after_digits s x c)
+  after_digits_fits : (s : Style) (x : Digits) (c : ℕ) → LengthFits p n 1 q (after_digits s x c)
   after_digits_fits s digits.Octet c = both (is_clob s) (yes refl) (character_fits s c)
   after_digits_fits s digits.Unit c = both (is_high c) (yes refl) (character_fits s c)
   after_digits_fits s digits.Scalar c = character_fits s c
   after_digits_fits s (digits.LowSurrogate high) c = both (is_high high && is_low c) (character_fits s (0x10000 + (high - 0xd800) * 1024 + (c - 0xdc00))) (yes refl)
 
-  digits_fits : (s : Style) (x : Digits) (left c : ℕ) (digit : Option ℕ) → Fits p n 1 q (with_digit s x left c digit)
+  digits_fits : (s : Style) (x : Digits) (left c : ℕ) (digit : Option ℕ) → LengthFits p n 1 q (with_digit s x left c digit)
   digits_fits s x left c None = yes refl
   digits_fits s x left c (Some digit) = both (nat_le left 1) (after_digits_fits s x (grow c digit)) (yes refl)
 
-  text_fits : (s : Style) (w : Within) (o : ℕ) → Fits p n 1 q (in_text s w o)
+  text_fits : (s : Style) (w : Within) (o : ℕ) → LengthFits p n 1 q (in_text s w o)
   text_fits s within.Plain o = raw_fits s o
   text_fits s within.AfterReturn o = both (o == 10) (yes refl) (raw_fits s o)
   text_fits s within.OneQuote o = both (o == 39) (yes refl) (raw_fits s o)
@@ -140,13 +140,13 @@ module _ (p : Place) (n : ℕ) (q : Bool) where
   text_fits s (within.HighSurrogateEscape high) o = both (o == 117) (yes refl) (yes refl)
 
 module _ (p : Place) where
-  digit_fits : (e : Ending) (o : ℕ) → Fits p 1 2 false (digit_behind p e o)
+  digit_fits : (e : Ending) (o : ℕ) → LengthFits p 1 2 false (digit_behind p e o)
   digit_fits endings.LoneMinus o = yes refl
   digit_fits endings.Minus o = yes refl
   digit_fits endings.Plus o = both (is_sexp p) (yes refl) (yes refl)
   digit_fits endings.Other o = yes refl
 
-  lob_fits : (l : Lob) (o : ℕ) → Fits p 1 1 false (in_lob l o)
+  lob_fits : (l : Lob) (o : ℕ) → LengthFits p 1 1 false (in_lob l o)
   lob_fits lobs.Start o = both (is_white o) (yes refl) (both (o == 34) (yes refl) (both (o == 39) (yes refl) (both (o == 125) (yes refl) (both (is_base64 o) (yes refl) (yes refl)))))
   lob_fits lobs.StartQuote o = both (o == 39) (yes refl) (yes refl)
   lob_fits lobs.StartQuotes o = both (o == 39) (yes refl) (yes refl)
@@ -158,7 +158,7 @@ module _ (p : Place) where
   lob_fits lobs.AfterQuotes o = both (o == 39) (yes refl) (yes refl)
   lob_fits lobs.ClobClose o = both (o == 125) (yes refl) (yes refl)
 
-  value_fits : (o : ℕ) → Fits p 0 1 false (begins_value p o)
+  value_fits : (o : ℕ) → LengthFits p 0 1 false (begins_value p o)
   value_fits o = both (is_digit o) (yes refl) (both (o == 123) (yes refl) (both (o == 91) (yes refl) (both (o == 93) (yes refl) (both (o == 40) (yes refl) (both (o == 41) (yes refl) (both (o == 45) (yes refl) (both (o == 43) (yes refl) (both (is_sexp p && is_operator_octet o) (yes refl) (yes refl)))))))))
 
   -- one letter more of `inf`, behind as many as were tested
@@ -168,24 +168,24 @@ module _ (p : Place) where
   fourth : (letters : ℕ) (b : Bool) → ((letters == 2) && b) ≡ true → 4 ≤ 2 + letters
   fourth letters b h = grind (arith, nat_tests)
 
-  infinity_fits : (letters o : ℕ) → 1 ≤ letters → Fits p (1 + letters) (2 + letters) false (in_infinity p letters o)
+  infinity_fits : (letters o : ℕ) → 1 ≤ letters → LengthFits p (1 + letters) (2 + letters) false (in_infinity p letters o)
   infinity_fits letters o h =
       both_when ((letters == 1) && (o == 110)) (λ e. yes (and_from (nat_le 3 (2 + letters)) true (le_to 3 (2 + letters) (third letters (o == 110) e)) refl)) (λ e.
       both_when ((letters == 2) && (o == 102)) (λ e. yes (and_from (nat_le 4 (2 + letters)) true (le_to 4 (2 + letters) (fourth letters (o == 102) e)) refl)) (λ e.
       both ((letters == 3) && not (is_word_octet o)) (yes refl)
       (both_when (is_sexp p) (λ e. yes (and_from (is_sexp p && true) (nat_le 1 letters && nat_le (1 + letters) (1 + letters)) (and_from (is_sexp p) true e refl) (and_from (nat_le 1 letters) (nat_le (1 + letters) (1 + letters)) (le_to 1 letters h) (le_to (1 + letters) (1 + letters) (omega arith))))) (λ e. yes refl))))
 
-  table_fits : (colon : Bool) (m : Mode) (o : ℕ) → lettered m ≡ true → Fits p (wants m) (wants_next m) (is_quoting m) (next p colon m o)
+  table_fits : (colon : Bool) (m : Mode) (o : ℕ) → lettered m ≡ true → LengthFits p (wants m) (wants_next m) (is_quoting m) (next p colon m o)
   table_fits colon modes.Blank o h = both (is_white o) (yes refl) (both (begins_word o) (yes refl) (both (o == 47) (yes refl) (both (o == 34) (yes refl) (both (o == 39) (yes refl) (both (o == 44) (yes refl) (both (o == 125) (yes refl) (both (o == 58) (both colon (yes refl) (yes refl)) (both (is_name p) (yes refl) (value_fits o)))))))))
   table_fits colon modes.Slash o h = both (o == 47) (yes refl) (both (o == 42) (yes refl) (both (not (is_sexp p)) (yes refl) (both (is_operator_octet o) (yes refl) (yes refl))))
   table_fits colon modes.LineComment o h = line (is_line_end o)
     where
-      line : (x : Bool) → Fits p 0 1 false (actions.Go (cond x modes.Blank modes.LineComment) keeps.Nothing)
+      line : (x : Bool) → LengthFits p 0 1 false (actions.Go (cond x modes.Blank modes.LineComment) keeps.Nothing)
       line true = yes refl
       line false = yes refl
   table_fits colon modes.BlockComment o h = block (o == 42)
     where
-      block : (x : Bool) → Fits p 0 1 false (actions.Go (cond x modes.BlockCommentStar modes.BlockComment) keeps.Nothing)
+      block : (x : Bool) → LengthFits p 0 1 false (actions.Go (cond x modes.BlockCommentStar modes.BlockComment) keeps.Nothing)
       block true = yes refl
       block false = yes refl
   table_fits colon modes.BlockCommentStar o h = both (o == 47) (yes refl) (both (o == 42) (yes refl) (yes refl))
@@ -213,7 +213,7 @@ pub sized_initial : Sized initial
 sized_initial = record { enough = omega arith; letters = refl }
 
 -- A token that ended has octets, of which the open one's were used, and none is open behind it but the word behind an operator.
-pub record Ends (p : Place) (s : Known) (x : Lexeme) (t : Known) : Type 0 where
+pub record EndedToken (p : Place) (s : Known) (x : Lexeme) (t : Known) : Type 0 where
   pub sized : Sized t
   pub some : x.start + 1 ≤ x.end
   pub behind : s.used + 1 ≤ x.end + wants s.mode
@@ -223,8 +223,8 @@ pub record Ends (p : Place) (s : Known) (x : Lexeme) (t : Known) : Type 0 where
 -- what comes of an octet
 abbrev pub Measured : Place → Known → Outcome → Type 0
 Measured p s (Next t) = Sized t × (t.used ≡ s.used + 1) × (wants t.mode ≤ wants_next s.mode)
-Measured p s (Given x t) = Ends p s x t × (t.used ≡ s.used + 1) × (x.end ≡ s.used + 1)
-Measured p s (Left x t) = Ends p s x t × (t.used ≡ s.used) × (is_quoting s.mode ≡ true → is_quoted x.kind ≡ true)
+Measured p s (Given x t) = EndedToken p s x t × (t.used ≡ s.used + 1) × (x.end ≡ s.used + 1)
+Measured p s (Left x t) = EndedToken p s x t × (t.used ≡ s.used) × (is_quoting s.mode ≡ true → is_quoted x.kind ≡ true)
 Measured p s (Refused n e) = Unit {0}
 
 -- an octet adds what it may
@@ -281,8 +281,8 @@ went modes.Blank start used n h k = omega arith
 went modes.Slash start used n h k = omega arith
 went _ start used n h k = omega arith
 
-left_ends : (p : Place) (s : Known) (kind : TokenKind) (k : List ℕ) (m : Mode) → is_left m ≡ true → wants m + 1 ≤ wants s.mode → Sized s
-    → Ends p s (cut s kind k (s.used - left_of m)) (past p kind m [] (s.used - left_of m) s.used)
+left_ends : (p : Place) (s : Known) (kind : TokenKind) (k : List ℕ) (m : Mode) → is_left_in m ≡ true → wants m + 1 ≤ wants s.mode → Sized s
+    → EndedToken p s (cut s kind k (s.used - left_of m)) (past p kind m [] (s.used - left_of m) s.used)
 left_ends p s kind k modes.Blank h w z = let e = z.enough in record { sized = record { enough = omega arith; letters = refl }; some = omega (arith, e, w); behind = omega (arith, w); rest = omega arith; idle = inl refl }
 left_ends p s kind k modes.Slash h w z = let e = z.enough in record { sized = record { enough = omega (arith, e, w); letters = refl }; some = omega (arith, e, w); behind = omega (arith, e, w); rest = omega (arith, e, w); idle = inl refl }
 left_ends p s kind k modes.LineComment h w z = absurd cc
@@ -307,7 +307,7 @@ not_open : (a b : Bool) → not a ≡ true → a ≡ true → b ≡ true
 not_open false b h e = absurd cc
 not_open true b h e = absurd cc
 
-acts_measured : (p : Place) (s : Known) (o : ℕ) (a : Action) → Fits p (wants s.mode) (wants_next s.mode) (is_quoting s.mode) a → Sized s → Measured p s (acts p s o a)
+acts_measured : (p : Place) (s : Known) (o : ℕ) (a : Action) → LengthFits p (wants s.mode) (wants_next s.mode) (is_quoting s.mode) a → Sized s → Measured p s (acts p s o a)
 acts_measured p s o (actions.Go m k) f z =
     let x = and_parts (nat_le (wants m) (wants_next s.mode)) (lettered m) f.is in
     let n = le_of (wants m) (wants_next s.mode) x.0 in
@@ -316,8 +316,8 @@ acts_measured p s o (actions.Give kind k) f z =
     let e = z.enough in
     (record { sized = record { enough = omega arith; letters = refl }; some = omega (arith, e); behind = omega arith; rest = omega arith; idle = inl refl }, refl, refl)
 acts_measured p s o (actions.Before kind k m) f z =
-    let x = and_parts (is_left m && nat_le (wants m + 1) (wants s.mode)) (not (is_quoting s.mode) || is_quoted kind) f.is in
-    let y = and_parts (is_left m) (nat_le (wants m + 1) (wants s.mode)) x.0 in
+    let x = and_parts (is_left_in m && nat_le (wants m + 1) (wants s.mode)) (not (is_quoting s.mode) || is_quoted kind) f.is in
+    let y = and_parts (is_left_in m) (nat_le (wants m + 1) (wants s.mode)) x.0 in
     (left_ends p s kind _ m y.0 (le_of (wants m + 1) (wants s.mode) y.1) z, refl, implies (is_quoting s.mode) (is_quoted kind) x.1)
 acts_measured p s o actions.EndWord f z = word ((o == 46) && bytes_eq s.kept (codes "null"))
   where

@@ -39,7 +39,7 @@ use Rattle.ion_tokens.specs.machine.Ahead.{is_sane, is_mark, is_closing, Follows
 use Rattle.ion_tokens.specs.laws.Follows.{feed_follows}
 use Rattle.ion_tokens.specs.laws.Again.{blank_uses}
 use Rattle.ion_text.specs.laws.reading.Quotes.{Fine, Finely, feed_fine, given_far, left_none}
-use Rattle.ion_text.specs.laws.reading.Held.{Open}
+use Rattle.ion_text.specs.laws.reading.Held.{NoLongText}
 use Rattle.ion_text.specs.laws.reading.Admits.{at_end_fine}
 
 -- In these octets up to the end of the input the scanner meets these tokens, which are looked for in their places.
@@ -328,7 +328,7 @@ begun_closing _ _ _ _ (is_given s o os t ts s' e m) h i = let f = follows_as t.p
 begun_closing _ _ _ _ (is_left s o os t ts s' e m) h i = let f = follows_as t.place s o (Left t.lexeme s') h e in f.1 i
 
 -- one that has begun without quotes is no segment and no `''`
-pub begun_apart : (s : Known) (os : List ℕ) (t : Placed) (ts : List Placed) → Meets s os (t ∷ ts) → is_sane s.mode ≡ true → Fine s → Open s.mode → (is_segment t.lexeme.kind ≡ false) × (is_two_quotes t.lexeme.kind t.lexeme.start t.lexeme.end ≡ false)
+pub begun_apart : (s : Known) (os : List ℕ) (t : Placed) (ts : List Placed) → Meets s os (t ∷ ts) → is_sane s.mode ≡ true → Fine s → NoLongText s.mode → (is_segment t.lexeme.kind ≡ false) × (is_two_quotes t.lexeme.kind t.lexeme.start t.lexeme.end ≡ false)
 begun_apart _ _ _ _ (at_token s t e) h f k = let a = at_end_fine t.place s t.lexeme e in (a.0, left_none t.lexeme.kind t.lexeme.start t.lexeme.end (a.1 k.1))
 begun_apart _ _ _ _ (goes_on s o os t ts s' e m) h f k = let a = follows_as t.place s o (Next s') h e in begun_apart s' os t ts m a.0 (finely_as t.place s o (Next s') f e) (a.1 k.0, a.2 k.0 k.1)
 begun_apart _ _ _ _ (is_given s o os t ts s' e m) h f k = let a = follows_as t.place s o (Given t.lexeme s') h e in let b = finely_as t.place s o (Given t.lexeme s') f e in (a.1 k.0 k.1, given_far t.lexeme b.1)

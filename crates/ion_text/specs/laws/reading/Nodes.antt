@@ -14,10 +14,10 @@ use Rattle.ion_tokens.specs.Bodies.{Content}
 use Rattle.ion_tokens.specs.Lexed.{Placed, LexesTo, colon_behind}
 use Rattle.ion_text.specs.Grammar.{IsScalar, is_null, is_typed_null, is_true, is_false, is_int, is_decimal, is_timestamp, is_symbol, is_operator, is_short, is_clob, is_blob, Annotations, no_annotation, one_annotation, Segments, segment, joined, IsName, by_symbol, by_short, by_long, Plain, one_token, long_string, is_list, is_sexp, is_struct, Means, means, Elements, no_element, element, comma, Row, no_item, item, Members, no_field, field, field_comma, end_of, span}
 use Rattle.ion_text.specs.machine.EachToken.{Symbols}
-use Rattle.ion_text.specs.laws.reading.Sizes.{IsFlat, many, many_fields, flat_nodes, fields_more}
+use Rattle.ion_text.specs.laws.reading.Sizes.{IsNoContainer, many, many_fields, flat_nodes, fields_more}
 use Rattle.ion_text.specs.laws.showing.Once.{some_token}
 
-scalar_flat : (c : List Slot) (said : Content) (q : Payload) → IsScalar c said q → IsFlat q
+scalar_flat : (c : List Slot) (said : Content) (q : Payload) → IsScalar c said q → IsNoContainer q
 scalar_flat c _ _ is_null = ap layer_nodes (views.outs-Null values.Null)
 scalar_flat c _ _ (is_typed_null k) = ap layer_nodes (views.outs-Null k)
 scalar_flat c _ _ is_true = ap layer_nodes (views.outs-Truth Bool.true)

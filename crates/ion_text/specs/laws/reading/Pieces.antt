@@ -22,8 +22,8 @@ use Rattle.ion_text.specs.Grammar.{Says, Annotations, no_annotation, one_annotat
 use Rattle.ion_text.specs.machine.EachToken.{under, spot_at, Reading, Turn, goes, gives, refuses, late, Token, Symbols, at, fresh, place, settle, turn, turned, held_word, released}
 use Rattle.ion_text.specs.machine.Run.{token_of, is_top}
 use Rattle.ion_text.specs.laws.reading.Places.{Leading, settle_same}
-use Rattle.ion_text.specs.machine.TokenLists.{Walk, walked, stopped, adds, done, on_turn, then_walk, continues, reads, reads-append, in_place, first_token, adds_none, adds_adds, on_judged, said_ok}
-use Rattle.ion_text.specs.laws.reading.Complete.{means_read, Leads, at_once, by_held, by_long', Begins, means_begins, segment_kind, word_token, starts, pending_goes}
+use Rattle.ion_text.specs.machine.TokenLists.{Walk, walked, stopped, adds_values, done, on_turn, then_walk, continues, reads, reads-append, in_place, first_token, adds_none, adds_adds, on_judged, said_ok}
+use Rattle.ion_text.specs.laws.reading.Complete.{means_read, LeadsToTurn, at_once, by_held, by_long', Begins, means_begins, segment_kind, word_token, starts, pending_goes}
 
 -- a token that goes on behind a long string at the top level: a segment, or `''`
 abbrev pub GoesOn : Token → Type 0
@@ -76,9 +76,9 @@ module _ (g : Catalog) (l : Limits) where
       reading_of d stopped = d
 
   -- what waited comes first, and then the reader goes on
-  pub settled_first : (x : Turn) (later : List Value) (n : Reading) (f : Reading → Walk) → on_turn x done ≡ walked later n → on_turn x f ≡ adds later (f n)
-  settled_first (goes r) later n f e = let w = walked_now [] later r n e in ap f w.1 ∙ (sym (adds_none g l (f n)) ∙ ap (λ vs. adds vs (f n)) w.0)
-  settled_first (gives v r) later n f e = let w = walked_now (v ∷ []) later r n e in ap (λ k. adds (v ∷ []) (f k)) w.1 ∙ ap (λ vs. adds vs (f n)) w.0
+  pub settled_first : (x : Turn) (later : List Value) (n : Reading) (f : Reading → Walk) → on_turn x done ≡ walked later n → on_turn x f ≡ adds_values later (f n)
+  settled_first (goes r) later n f e = let w = walked_now [] later r n e in ap f w.1 ∙ (sym (adds_none g l (f n)) ∙ ap (λ vs. adds_values vs (f n)) w.0)
+  settled_first (gives v r) later n f e = let w = walked_now (v ∷ []) later r n e in ap (λ k. adds_values (v ∷ []) (f k)) w.1 ∙ ap (λ vs. adds_values vs (f n)) w.0
   settled_first (refuses x) later n f e = absurd cc
   settled_first (late x r) later n f e = absurd cc
 
@@ -108,7 +108,7 @@ module _ (g : Catalog) (l : Limits) where
       go true k = absurd (none (token_of b.first.lexeme b.said) refl (d.shuts (token_of b.first.lexeme b.said) k))
 
   -- Behind pieces, more tokens that don't go on with what waits are read where nothing is open.
-  pub more_read : (ts us : List Placed) (s : List Value) (c : List Slot) (d : ReadSoFar ts s c) → (b : Begins g l places.Top us) → (ends_long ts && begins_as_long us) ≡ false → reads g l (fresh system_slots) (ts ++ us) ≡ adds s (reads g l (fresh c) us)
+  pub more_read : (ts us : List Placed) (s : List Value) (c : List Slot) (d : ReadSoFar ts s c) → (b : Begins g l places.Top us) → (ends_long ts && begins_as_long us) ≡ false → reads g l (fresh system_slots) (ts ++ us) ≡ adds_values s (reads g l (fresh c) us)
   more_read ts us s c d b e =
       let shut = shut_here ts us s c d b e in
       let f : Reading → Walk = λ k. on_turn (turn g l k (token_of b.first.lexeme b.said)) (λ n. reads g l n b.later) in
@@ -119,11 +119,11 @@ module _ (g : Catalog) (l : Limits) where
       let there : reads g l (fresh c) (b.first ∷ b.later) ≡ f (fresh c) = first_token g l places.Top (fresh c) b.first b.said b.later b.says refl (inr refl) in
       reads-append g l ts us (fresh system_slots)
       ∙ (ap (λ x. then_walk x (λ k. reads g l k us)) d.read
-      ∙ (ap (λ x. adds d.given (reads g l d.now x)) b.cut
-      ∙ (ap (adds d.given) (here ∙ settled_first (settle g l d.now) d.later (fresh c) f d.settles)
+      ∙ (ap (λ x. adds_values d.given (reads g l d.now x)) b.cut
+      ∙ (ap (adds_values d.given) (here ∙ settled_first (settle g l d.now) d.later (fresh c) f d.settles)
       ∙ (adds_adds g l d.given d.later (f (fresh c))
-      ∙ (ap (λ x. adds x (f (fresh c))) (sym d.all)
-      ∙ ap (adds s) (sym there ∙ sym (ap (reads g l (fresh c)) b.cut)))))))
+      ∙ (ap (λ x. adds_values x (f (fresh c))) (sym d.all)
+      ∙ ap (adds_values s) (sym there ∙ sym (ap (reads g l (fresh c)) b.cut)))))))
 
   ends_with : (ts us : List Placed) (b : Begins g l places.Top us) → ends_long (ts ++ us) ≡ ends_long us
   ends_with ts us b = ap (λ x. ends_long (ts ++ x)) b.cut ∙ (front ts b.first b.later ∙ sym (ap ends_long b.cut))
@@ -150,12 +150,12 @@ module _ (g : Catalog) (l : Limits) where
       go (Blob w) k e = absurd cc
 
   -- one more piece, by the turn that completes it
-  piece_more : (ts us : List Placed) (s more : List Value) (c d : List Slot) (t : Turn) → ReadSoFar ts s c → (b : Begins g l places.Top us) → (ends_long ts && begins_as_long us) ≡ false → Leads g l c [] (fresh c) us t → on_turn t done ≡ walked more (fresh d) → ReadSoFar (ts ++ us) (s ++ more) d
+  piece_more : (ts us : List Placed) (s more : List Value) (c d : List Slot) (t : Turn) → ReadSoFar ts s c → (b : Begins g l places.Top us) → (ends_long ts && begins_as_long us) ≡ false → LeadsToTurn g l c [] (fresh c) us t → on_turn t done ≡ walked more (fresh d) → ReadSoFar (ts ++ us) (s ++ more) d
   piece_more ts us s more c d t r b e (at_once h) k = record {
     given = s ++ more;
     later = [];
     now = fresh d;
-    read = more_read ts us s c r b e ∙ ap (adds s) (h ∙ k);
+    read = more_read ts us s c r b e ∙ ap (adds_values s) (h ∙ k);
     settles = refl;
     all = sym (append-nil (s ++ more));
     shuts = λ t i. absurd cc;
@@ -164,7 +164,7 @@ module _ (g : Catalog) (l : Limits) where
     given = s ++ [];
     later = more;
     now = at start c [] ss (nows.Pending h end);
-    read = more_read ts us s c r b e ∙ ap (adds s) i;
+    read = more_read ts us s c r b e ∙ ap (adds_values s) i;
     settles = ap (λ x. on_turn x done) j ∙ k;
     all = ap (λ x. x ++ more) (sym (append-nil s));
     shuts = λ t m. inl (pending_goes g l start c [] ss h end t m);
@@ -173,7 +173,7 @@ module _ (g : Catalog) (l : Limits) where
     given = s ++ [];
     later = more;
     now = at start c [] ss (nows.Long w end);
-    read = more_read ts us s c r b e ∙ ap (adds s) i;
+    read = more_read ts us s c r b e ∙ ap (adds_values s) i;
     settles = ap (λ x. on_turn x done) j ∙ k;
     all = ap (λ x. x ++ more) (sym (append-nil s));
     shuts = λ t m. inr (ends_with ts us b ∙ n, long_goes_top start c ss w end t m);

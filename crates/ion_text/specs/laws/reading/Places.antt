@@ -154,33 +154,33 @@ module _ (g : Catalog) (l : Limits) where
   settle_same start c fs ss (nows.Keyed s) = (refl, refl)
 
   -- Behind what was settled nothing waits.
-  abbrev pub Still : Turn → Type 0
-  Still t = Leading (λ r. settle g l r ≡ goes r) t
+  abbrev pub SettlesStill : Turn → Type 0
+  SettlesStill t = Leading (λ r. settle g l r ≡ goes r) t
 
-  within_still : (item start end : ℕ) (t : Turn) → Still t → Still (if nat_le end (start + item) then t else refuses reasons.ItemTooLong)
+  within_still : (item start end : ℕ) (t : Turn) → SettlesStill t → SettlesStill (if nat_le end (start + item) then t else refuses reasons.ItemTooLong)
   within_still item start end t h = go (nat_le end (start + item))
     where
-      go : (b : Bool) → Still (if b then t else refuses reasons.ItemTooLong)
+      go : (b : Bool) → SettlesStill (if b then t else refuses reasons.ItemTooLong)
       go true = h
       go false = tt
 
-  top_still : (item start end : ℕ) (c : List Slot) (v : Value) (d : Result (List Slot) Reason) (b : Bool) → Still (if b then turned item start end d else within item start end (gives v (fresh c)))
+  top_still : (item start end : ℕ) (c : List Slot) (v : Value) (d : Result (List Slot) Reason) (b : Bool) → SettlesStill (if b then turned item start end d else within item start end (gives v (fresh c)))
   top_still item start end c v (Ok d) true = within_still item start end (goes (fresh d)) refl
   top_still item start end c v (Err e) true = tt
   top_still item start end c v d false = within_still item start end (gives v (fresh c)) refl
 
-  ended_still : (spot : Spot) (fs : List Frame) (v : Value) → Still (ended (under g l) spot fs v)
+  ended_still : (spot : Spot) (fs : List Frame) (v : Value) → SettlesStill (ended (under g l) spot fs v)
   ended_still spot [] v = top_still l.item spot.start spot.end spot.context v (next spot.context v g) (is_table v)
   ended_still spot (frames.List ss vs ∷ fs) v = refl
   ended_still spot (frames.Sexp ss vs ∷ fs) v = refl
   ended_still spot (frames.Named ss ms s ∷ fs) v = refl
   ended_still spot (frames.Fields ss ms ∷ fs) v = tt
 
-  paid_still : (spot : Spot) (fs : List Frame) (ss : Symbols) (q : Result Payload Reason) → Still (paid (under g l) spot fs ss q)
+  paid_still : (spot : Spot) (fs : List Frame) (ss : Symbols) (q : Result Payload Reason) → SettlesStill (paid (under g l) spot fs ss q)
   paid_still spot fs ss (Ok q) = ended_still spot fs _
   paid_still spot fs ss (Err e) = tt
 
-  released_still : (spot : Spot) (fs : List Frame) (ss : Symbols) (h : Held) → Still (released (under g l) spot fs ss h)
+  released_still : (spot : Spot) (fs : List Frame) (ss : Symbols) (h : Held) → SettlesStill (released (under g l) spot fs ss h)
   released_still spot [] [] (helds.Version true s) = within_still l.item spot.start spot.end (goes (fresh system_slots)) refl
   released_still spot [] [] (helds.Version false s) = tt
   released_still spot [] [] (helds.Symbol s) = paid_still spot [] [] (held_payload (helds.Symbol s))
@@ -190,7 +190,7 @@ module _ (g : Catalog) (l : Limits) where
   released_still spot [] (s ∷ ss) h = paid_still spot [] (s ∷ ss) (held_payload h)
   released_still spot (f ∷ fs) ss h = paid_still spot (f ∷ fs) ss (held_payload h)
 
-  pub settle_still : (start : ℕ) (c : List Slot) (fs : List Frame) (ss : Symbols) (now : Now) → Still (settle g l (at start c fs ss now))
+  pub settle_still : (start : ℕ) (c : List Slot) (fs : List Frame) (ss : Symbols) (now : Now) → SettlesStill (settle g l (at start c fs ss now))
   settle_still start c fs ss (nows.Pending h end) = released_still (spot_at end start c) fs ss h
   settle_still start c fs ss (nows.Long w end) = ended_still (spot_at end start c) fs _
   settle_still start c fs ss (nows.LongName w) = refl

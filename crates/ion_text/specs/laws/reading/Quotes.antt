@@ -48,25 +48,25 @@ is_close (kinds.Mark marks.SexpClose) = true
 is_close (kinds.Mark marks.FieldsClose) = true
 is_close _ = false
 
-abbrev is_left : Mode → Bool
-is_left modes.Blank = true
-is_left modes.Slash = true
-is_left _ = false
+abbrev is_left_in : Mode → Bool
+is_left_in modes.Blank = true
+is_left_in modes.Slash = true
+is_left_in _ = false
 
 -- from a mode with so many octets, quoting or not
-abbrev fits : ℕ → Bool → Action → Bool
-fits n q (actions.Go m k) = nat_le (least m) (n + 1)
-fits n q (actions.Give kind k) = not (is_quoted kind) || nat_le 2 n
-fits n q (actions.Before kind k m) = (is_left m && not (is_segment kind)) && ((not (is_quoted kind) || q) && not (is_close kind))
-fits n q _ = true
+abbrev quotes_fit : ℕ → Bool → Action → Bool
+quotes_fit n q (actions.Go m k) = nat_le (least m) (n + 1)
+quotes_fit n q (actions.Give kind k) = not (is_quoted kind) || nat_le 2 n
+quotes_fit n q (actions.Before kind k m) = (is_left_in m && not (is_segment kind)) && ((not (is_quoted kind) || q) && not (is_close kind))
+quotes_fit n q _ = true
 
-record Fits (n : ℕ) (q : Bool) (a : Action) : Type 0 where
-  is : fits n q a ≡ true
+record QuotesFit (n : ℕ) (q : Bool) (a : Action) : Type 0 where
+  is : quotes_fit n q a ≡ true
 
-yes : {n : ℕ} {q : Bool} {a : Action} → fits n q a ≡ true → Fits n q a
+yes : {n : ℕ} {q : Bool} {a : Action} → quotes_fit n q a ≡ true → QuotesFit n q a
 yes h = record { is = h }
 
-both : {n : ℕ} {q : Bool} {x y : Action} (b : Bool) → Fits n q x → Fits n q y → Fits n q (cond b x y)
+both : {n : ℕ} {q : Bool} {x y : Action} (b : Bool) → QuotesFit n q x → QuotesFit n q y → QuotesFit n q (cond b x y)
 both true h k = h
 both false h k = k
 
@@ -78,7 +78,7 @@ May n _ = Unit {0}
 pub le_to : (a b : ℕ) → a ≤ b → nat_le a b ≡ true
 le_to a b h = grind (arith, nat_tests)
 
-in_style : (n : ℕ) (q : Bool) (s : Style) (w : Within) (k : Keep) → May n s → Fits n q (actions.Go (modes.Text s w) k)
+in_style : (n : ℕ) (q : Bool) (s : Style) (w : Within) (k : Keep) → May n s → QuotesFit n q (actions.Go (modes.Text s w) k)
 in_style n q styles.ShortString w k h = yes (le_to 0 (n + 1) (omega arith))
 in_style n q styles.QuotedSymbol w k h = yes (le_to 2 (n + 1) h)
 in_style n q styles.LongString w k h = yes (le_to 0 (n + 1) (omega arith))
@@ -86,10 +86,10 @@ in_style n q styles.ShortClob w k h = yes (le_to 0 (n + 1) (omega arith))
 in_style n q styles.LongClob w k h = yes (le_to 0 (n + 1) (omega arith))
 
 -- a mode that wants nothing
-plain : (n : ℕ) (q : Bool) (m : Mode) (k : Keep) → least m ≡ 0 → Fits n q (actions.Go m k)
+plain : (n : ℕ) (q : Bool) (m : Mode) (k : Keep) → least m ≡ 0 → QuotesFit n q (actions.Go m k)
 plain n q m k e = yes (le_to (least m) (n + 1) (omega (arith, e)))
 
-both_when : {n : ℕ} {q : Bool} {x y : Action} (b : Bool) → (b ≡ true → Fits n q x) → (b ≡ false → Fits n q y) → Fits n q (cond b x y)
+both_when : {n : ℕ} {q : Bool} {x y : Action} (b : Bool) → (b ≡ true → QuotesFit n q x) → (b ≡ false → QuotesFit n q y) → QuotesFit n q (cond b x y)
 both_when true h k = h refl
 both_when false h k = k refl
 
@@ -98,14 +98,14 @@ abbrev Has : ℕ → Style → Type 0
 Has n styles.QuotedSymbol = 2 ≤ n
 Has n _ = Unit {0}
 
-close_fits : (n : ℕ) (q : Bool) (s : Style) → is_long s ≡ false → Has n s → Fits n q (close s)
+close_fits : (n : ℕ) (q : Bool) (s : Style) → is_long s ≡ false → Has n s → QuotesFit n q (close s)
 close_fits n q styles.ShortString l h = yes refl
 close_fits n q styles.QuotedSymbol l h = yes (le_to 2 n h)
 close_fits n q styles.LongString l h = absurd cc
 close_fits n q styles.ShortClob l h = plain n q (modes.Lob lobs.AfterShort) _ refl
 close_fits n q styles.LongClob l h = absurd cc
 
-close_long_fits : (n : ℕ) (q : Bool) (s : Style) → Fits n q (close_long s)
+close_long_fits : (n : ℕ) (q : Bool) (s : Style) → QuotesFit n q (close_long s)
 close_long_fits n q styles.LongString = yes refl
 close_long_fits n q styles.LongClob = plain n q (modes.Lob lobs.AfterLong) _ refl
 close_long_fits n q styles.ShortString = yes refl
@@ -113,37 +113,37 @@ close_long_fits n q styles.QuotedSymbol = yes refl
 close_long_fits n q styles.ShortClob = yes refl
 
 module _ (n : ℕ) (q : Bool) (s : Style) (h : May n s) where
-  lead_fits : (o : ℕ) → Fits n q (lead s o)
+  lead_fits : (o : ℕ) → QuotesFit n q (lead s o)
   lead_fits o = both (nat_lt o 0xc2 || nat_lt 0xf4 o) (yes refl) (both (nat_lt o 0xe0) (in_style n q s _ _ h) (both (nat_lt o 0xf0) (in_style n q s _ _ h) (in_style n q s _ _ h)))
 
   -- the first octet of a quoted symbol doesn't end it
-  raw_fits : (o : ℕ) → ((o == quote_of s) ≡ true → is_long s ≡ false → Has n s) → Fits n q (raw s o)
+  raw_fits : (o : ℕ) → ((o == quote_of s) ≡ true → is_long s ≡ false → Has n s) → QuotesFit n q (raw s o)
   raw_fits o k = both (o == 92) (in_style n q s _ _ h) (both_when (o == quote_of s) (λ e. both_when (is_long s) (λ f. in_style n q s _ _ h) (λ f. close_fits n q s f (k e f))) (λ e. both (is_long s && (o == 13)) (in_style n q s _ _ h) (both (stands o || (is_long s && (o == 10))) (in_style n q s _ _ h) (both (nat_lt o 128 || is_clob s) (yes refl) (lead_fits o)))))
 
-  utf8_fits : (left least' most o : ℕ) → Fits n q (in_utf8 s left least' most o)
+  utf8_fits : (left least' most o : ℕ) → QuotesFit n q (in_utf8 s left least' most o)
   utf8_fits left least' most o = both (nat_lt o least' || nat_lt most o) (yes refl) (both (nat_le left 1) (in_style n q s _ _ h) (in_style n q s _ _ h))
 
-  meant_fits : (m : Option ℕ) → Fits n q (meant s m)
+  meant_fits : (m : Option ℕ) → QuotesFit n q (meant s m)
   meant_fits None = yes refl
   meant_fits (Some o) = in_style n q s _ _ h
 
-  escape_fits : (o : ℕ) → Fits n q (in_escape s o)
+  escape_fits : (o : ℕ) → QuotesFit n q (in_escape s o)
   escape_fits o = both (o == 10) (in_style n q s _ _ h) (both (o == 13) (in_style n q s _ _ h) (both (o == 120) (in_style n q s _ _ h) (both ((o == 117) && not (is_clob s)) (in_style n q s _ _ h) (both ((o == 85) && not (is_clob s)) (in_style n q s _ _ h) (meant_fits (escaped o))))))
 
-  character_fits : (c : ℕ) → Fits n q (character s c)
+  character_fits : (c : ℕ) → QuotesFit n q (character s c)
   character_fits c = both (scalar c) (in_style n q s _ _ h) (yes refl)
 
-  after_digits_fits : (x : Digits) (c : ℕ) → Fits n q (after_digits s x c)
+  after_digits_fits : (x : Digits) (c : ℕ) → QuotesFit n q (after_digits s x c)
   after_digits_fits digits.Octet c = both (is_clob s) (in_style n q s _ _ h) (character_fits c)
   after_digits_fits digits.Unit c = both (is_high c) (in_style n q s _ _ h) (character_fits c)
   after_digits_fits digits.Scalar c = character_fits c
   after_digits_fits (digits.LowSurrogate high) c = both (is_high high && is_low c) (character_fits (0x10000 + (high - 0xd800) * 1024 + (c - 0xdc00))) (yes refl)
 
-  digits_fits : (x : Digits) (left c : ℕ) (digit : Option ℕ) → Fits n q (with_digit s x left c digit)
+  digits_fits : (x : Digits) (left c : ℕ) (digit : Option ℕ) → QuotesFit n q (with_digit s x left c digit)
   digits_fits x left c None = yes refl
   digits_fits x left c (Some digit) = both (nat_le left 1) (after_digits_fits x (grow c digit)) (in_style n q s _ _ h)
 
-  text_fits : (w : Within) (o : ℕ) → Has n s → Fits n q (in_text s w o)
+  text_fits : (w : Within) (o : ℕ) → Has n s → QuotesFit n q (in_text s w o)
   text_fits within.Plain o k = raw_fits o (λ e f. k)
   text_fits within.AfterReturn o k = both (o == 10) (in_style n q s _ _ h) (raw_fits o (λ e f. k))
   text_fits within.OneQuote o k = both (o == 39) (in_style n q s _ _ h) (raw_fits o (λ e f. k))
@@ -155,31 +155,31 @@ module _ (n : ℕ) (q : Bool) (s : Style) (h : May n s) where
   text_fits (within.HighSurrogateEscape high) o k = both (o == 117) (in_style n q s _ _ h) (yes refl)
 
 module _ (p : Place) (q : Bool) where
-  digit_fits : (e : Ending) (o : ℕ) → Fits 0 q (digit_behind p e o)
+  digit_fits : (e : Ending) (o : ℕ) → QuotesFit 0 q (digit_behind p e o)
   digit_fits endings.LoneMinus o = yes refl
   digit_fits endings.Minus o = yes refl
   digit_fits endings.Plus o = both (is_sexp p) (yes refl) (yes refl)
   digit_fits endings.Other o = yes refl
 
-  operator_fits : (e : Ending) (o : ℕ) → Fits 0 q (in_operator p e o)
+  operator_fits : (e : Ending) (o : ℕ) → QuotesFit 0 q (in_operator p e o)
   operator_fits e o = both (is_digit o) (digit_fits e o) (both ((o == 105) && not (is_other e)) (yes refl) (both (not (is_sexp p)) (yes refl) (both (o == 47) (yes refl) (both (is_operator_octet o) (yes refl) (yes refl)))))
 
-  operator_slash_fits : (o : ℕ) → Fits 0 q (in_operator_slash o)
+  operator_slash_fits : (o : ℕ) → QuotesFit 0 q (in_operator_slash o)
   operator_slash_fits o = both ((o == 47) || (o == 42)) (yes refl) (both (is_operator_octet o) (yes refl) (yes refl))
 
-  infinity_fits : (letters o : ℕ) → Fits 0 q (in_infinity p letters o)
+  infinity_fits : (letters o : ℕ) → QuotesFit 0 q (in_infinity p letters o)
   infinity_fits letters o = both ((letters == 1) && (o == 110)) (yes refl) (both ((letters == 2) && (o == 102)) (yes refl) (both ((letters == 3) && not (is_word_octet o)) (yes refl) (both (is_sexp p) (yes refl) (yes refl))))
 
-  number_fits : (o : ℕ) → Fits 0 q (in_number o)
+  number_fits : (o : ℕ) → QuotesFit 0 q (in_number o)
   number_fits o = both (is_stop o) (yes refl) (both (o == 47) (yes refl) (yes refl))
 
-  number_slash_fits : (o : ℕ) → Fits 0 q (in_number_slash o)
+  number_slash_fits : (o : ℕ) → QuotesFit 0 q (in_number_slash o)
   number_slash_fits o = both ((o == 47) || (o == 42)) (yes refl) (both (is_stop o) (yes refl) (yes refl))
 
-  blob_fits : (o : ℕ) → Fits 0 q (in_blob o)
+  blob_fits : (o : ℕ) → QuotesFit 0 q (in_blob o)
   blob_fits o = both (o == 125) (yes refl) (both (is_base64 o) (yes refl) (yes refl))
 
-  lob_fits : (l : Lob) (o : ℕ) → Fits 0 q (in_lob l o)
+  lob_fits : (l : Lob) (o : ℕ) → QuotesFit 0 q (in_lob l o)
   lob_fits lobs.Start o = both (is_white o) (yes refl) (both (o == 34) (yes refl) (both (o == 39) (yes refl) (both (o == 125) (yes refl) (both (is_base64 o) (yes refl) (yes refl)))))
   lob_fits lobs.StartQuote o = both (o == 39) (yes refl) (yes refl)
   lob_fits lobs.StartQuotes o = both (o == 39) (yes refl) (yes refl)
@@ -191,13 +191,13 @@ module _ (p : Place) (q : Bool) where
   lob_fits lobs.AfterQuotes o = both (o == 39) (yes refl) (yes refl)
   lob_fits lobs.ClobClose o = both (o == 125) (yes refl) (yes refl)
 
-  value_fits : (o : ℕ) → Fits 0 q (begins_value p o)
+  value_fits : (o : ℕ) → QuotesFit 0 q (begins_value p o)
   value_fits o = both (is_digit o) (yes refl) (both (o == 123) (yes refl) (both (o == 91) (yes refl) (both (o == 93) (yes refl) (both (o == 40) (yes refl) (both (o == 41) (yes refl) (both (o == 45) (yes refl) (both (o == 43) (yes refl) (both (is_sexp p && is_operator_octet o) (yes refl) (yes refl)))))))))
 
-  blank_fits : (colon : Bool) (o : ℕ) → Fits 0 q (in_blank p colon o)
+  blank_fits : (colon : Bool) (o : ℕ) → QuotesFit 0 q (in_blank p colon o)
   blank_fits colon o = both (is_white o) (yes refl) (both (begins_word o) (yes refl) (both (o == 47) (yes refl) (both (o == 34) (yes refl) (both (o == 39) (yes refl) (both (o == 44) (yes refl) (both (o == 125) (yes refl) (both (o == 58) (both colon (yes refl) (yes refl)) (both (is_name p) (yes refl) (value_fits o)))))))))
 
-  slash_fits : (o : ℕ) → Fits 0 q (in_slash p o)
+  slash_fits : (o : ℕ) → QuotesFit 0 q (in_slash p o)
   slash_fits o = both (o == 47) (yes refl) (both (o == 42) (yes refl) (both (not (is_sexp p)) (yes refl) (both (is_operator_octet o) (yes refl) (yes refl))))
 
 may : (s : Style) (w : Within) → May (least (modes.Text s w)) s
@@ -215,25 +215,25 @@ has styles.ShortClob w = tt
 has styles.LongClob w = tt
 
 -- behind one quote: no second one comes here
-quote_fits : (o : ℕ) → Fits 1 true (cond (o == 39) (actions.Go modes.Quotes keeps.Nothing) (raw styles.QuotedSymbol o))
+quote_fits : (o : ℕ) → QuotesFit 1 true (cond (o == 39) (actions.Go modes.Quotes keeps.Nothing) (raw styles.QuotedSymbol o))
 quote_fits o = go (o == 39) refl
   where
-    go : (b : Bool) → (o == 39) ≡ b → Fits 1 true (cond b (actions.Go modes.Quotes keeps.Nothing) (raw styles.QuotedSymbol o))
+    go : (b : Bool) → (o == 39) ≡ b → QuotesFit 1 true (cond b (actions.Go modes.Quotes keeps.Nothing) (raw styles.QuotedSymbol o))
     go true e = yes refl
     go false e = raw_fits 1 true styles.QuotedSymbol (omega arith) o (λ f g. absurd (let n : true ≡ false = sym f ∙ e in cc))
 
 -- What the table does fits.
-table_fits : (p : Place) (colon : Bool) (m : Mode) (o : ℕ) → Fits (least m) (is_quoting m) (next p colon m o)
+table_fits : (p : Place) (colon : Bool) (m : Mode) (o : ℕ) → QuotesFit (least m) (is_quoting m) (next p colon m o)
 table_fits p colon modes.Blank o = blank_fits p false colon o
 table_fits p colon modes.Slash o = slash_fits p false o
 table_fits p colon modes.LineComment o = line (is_line_end o)
   where
-    line : (b : Bool) → Fits 0 false (actions.Go (cond b modes.Blank modes.LineComment) keeps.Nothing)
+    line : (b : Bool) → QuotesFit 0 false (actions.Go (cond b modes.Blank modes.LineComment) keeps.Nothing)
     line true = yes refl
     line false = yes refl
 table_fits p colon modes.BlockComment o = block (o == 42)
   where
-    block : (b : Bool) → Fits 0 false (actions.Go (cond b modes.BlockCommentStar modes.BlockComment) keeps.Nothing)
+    block : (b : Bool) → QuotesFit 0 false (actions.Go (cond b modes.BlockCommentStar modes.BlockComment) keeps.Nothing)
     block true = yes refl
     block false = yes refl
 table_fits p colon modes.BlockCommentStar o = both (o == 47) (yes refl) (both (o == 42) (yes refl) (yes refl))
@@ -284,7 +284,7 @@ moved modes.Blank start used n h k = omega arith
 moved modes.Slash start used n h k = omega arith
 moved _ start used n h k = omega arith
 
-left_fine : (p : Place) (kind : TokenKind) (m : Mode) (k : List ℕ) (start used : ℕ) → is_left m ≡ true → Fine (past p kind m k start used)
+left_fine : (p : Place) (kind : TokenKind) (m : Mode) (k : List ℕ) (start used : ℕ) → is_left_in m ≡ true → Fine (past p kind m k start used)
 left_fine p kind modes.Blank k start used h = record { enough = omega arith }
 left_fine p kind modes.Slash k start used h = record { enough = omega arith }
 left_fine p kind modes.LineComment k start used h = absurd cc
@@ -304,7 +304,7 @@ left_fine p kind (modes.Text s w) k start used h = absurd cc
 left_fine p kind modes.Brace k start used h = absurd cc
 left_fine p kind (modes.Lob l) k start used h = absurd cc
 
-left_sane : (m : Mode) → is_left m ≡ true → is_sane m ≡ true
+left_sane : (m : Mode) → is_left_in m ≡ true → is_sane m ≡ true
 left_sane modes.Blank h = refl
 left_sane modes.Slash h = refl
 left_sane modes.LineComment h = absurd cc
@@ -324,7 +324,7 @@ left_sane (modes.Text s w) h = absurd cc
 left_sane modes.Brace h = absurd cc
 left_sane (modes.Lob l) h = absurd cc
 
-left_idle : (m : Mode) → is_left m ≡ true → is_idle m ≡ true
+left_idle : (m : Mode) → is_left_in m ≡ true → is_idle m ≡ true
 left_idle modes.Blank h = refl
 left_idle modes.Slash h = refl
 left_idle modes.LineComment h = absurd cc
@@ -348,7 +348,7 @@ blob_fine : (s : Known) (b : Option (List ℕ)) → blob_of s.kept ≡ b → Fin
 blob_fine s None e h = tt
 blob_fine s (Some octets) e h = let k = h.enough in record { enough = omega arith }
 
-acts_fine : (p : Place) (s : Known) (o : ℕ) (a : Action) → Fits (least s.mode) (is_quoting s.mode) a → Fine s → Finely s.mode (acts p s o a)
+acts_fine : (p : Place) (s : Known) (o : ℕ) (a : Action) → QuotesFit (least s.mode) (is_quoting s.mode) a → Fine s → Finely s.mode (acts p s o a)
 acts_fine p s o (actions.Go m k) f h = record { enough = moved m (start_of s.mode s.start s.used) s.used (least s.mode) h.enough (le_of _ _ f.is) }
 acts_fine p s o (actions.Give kind k) f h = (
   record { enough = omega arith },

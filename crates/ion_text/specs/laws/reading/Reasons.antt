@@ -373,31 +373,31 @@ module _ (g : Catalog) (l : Limits) where
   abbrev pub IsEndReason : Reason → Type 0
   IsEndReason e = IsDecided e ⊎ (e ≡ reasons.Incomplete)
 
-  abbrev EndDecides : Result (Option Value) Refusal → Type 0
-  EndDecides (Ok v) = Unit {0}
-  EndDecides (Err r) = IsEndReason r.reason
+  abbrev AnswersAtEnd : Result (Option Value) Refusal → Type 0
+  AnswersAtEnd (Ok v) = Unit {0}
+  AnswersAtEnd (Err r) = IsEndReason r.reason
 
-  late_ends : (used : ℕ) (e : Reason) → IsDecided e → EndDecides (end_late used e)
+  late_ends : (used : ℕ) (e : Reason) → IsDecided e → AnswersAtEnd (end_late used e)
   late_ends used reasons.Depth h = inr refl
   late_ends used _ h = inl h
 
-  fresh_ends : (used : ℕ) (b : Bool) → EndDecides (if b then Ok None else cut_short used)
+  fresh_ends : (used : ℕ) (b : Bool) → AnswersAtEnd (if b then Ok None else cut_short used)
   fresh_ends used true = tt
   fresh_ends used false = inr refl
 
-  settled_ends : (used : ℕ) (t : Turn) → TurnDecides t → EndDecides (end_settled used t)
+  settled_ends : (used : ℕ) (t : Turn) → TurnDecides t → AnswersAtEnd (end_settled used t)
   settled_ends used (goes r) h = fresh_ends used (is_fresh r)
   settled_ends used (gives v r) h = tt
   settled_ends used (refuses e) h = inl h
   settled_ends used (late e r) h = late_ends used e h
 
-  turned_ends : (used : ℕ) (t : Turn) → TurnDecides t → EndDecides (end_turned g l used t)
+  turned_ends : (used : ℕ) (t : Turn) → TurnDecides t → AnswersAtEnd (end_turned g l used t)
   turned_ends used (goes r) h = settled_ends used (settle g l r) (settle_decides r)
   turned_ends used (gives v r) h = tt
   turned_ends used (refuses e) h = inl h
   turned_ends used (late e r) h = late_ends used e h
 
-  said_ends : (used : ℕ) (r : Reading) (x : Lexeme) (c : Result Content Reason) → ((e : Reason) → c ≡ Err e → IsDecided e) → EndDecides (end_said g l used r x c)
+  said_ends : (used : ℕ) (r : Reading) (x : Lexeme) (c : Result Content Reason) → ((e : Reason) → c ≡ Err e → IsDecided e) → AnswersAtEnd (end_said g l used r x c)
   said_ends used r x (Ok c) h = turned_ends used (turn g l r (token_of x c)) (turn_decides r (token_of x c))
   said_ends used r x (Err e) h = inl (h e refl)
 
@@ -437,7 +437,7 @@ module _ (g : Catalog) (l : Limits) where
   mode_well p s (modes.Text t w) = inr refl
   mode_well p s (modes.Lob k) = inr refl
 
-  waiting_ends : (used : ℕ) (x : Result (Option Lexeme) Reason) (t : Turn) → TurnDecides t → EndDecides (end_waiting g l used x t)
+  waiting_ends : (used : ℕ) (x : Result (Option Lexeme) Reason) (t : Turn) → TurnDecides t → AnswersAtEnd (end_waiting g l used x t)
   waiting_ends used (Ok None) t h = settled_ends used t h
   waiting_ends used (Ok (Some x)) (goes r) h = inr refl
   waiting_ends used (Ok (Some x)) (gives v r) h = inr refl
@@ -448,13 +448,13 @@ module _ (g : Catalog) (l : Limits) where
   waiting_ends used (Err y) (refuses e) h = inl h
   waiting_ends used (Err y) (late e r) h = late_ends used e h
 
-  ready_ends : (used : ℕ) (r : Reading) (x : Result (Option Lexeme) Reason) → EndsWell x → EndDecides (end_ready g l used r x)
+  ready_ends : (used : ℕ) (r : Reading) (x : Result (Option Lexeme) Reason) → EndsWell x → AnswersAtEnd (end_ready g l used r x)
   unfolding EndsWell
   ready_ends used r (Ok None) h = fresh_ends used (is_fresh r)
   ready_ends used r (Ok (Some x)) h = said_ends used r x (said x.kind x.octets) (said_decided x.kind x.octets)
   ready_ends used r (Err e) h = h
 
-  ends_decide : (used : ℕ) (r : Reading) (x : Result (Option Lexeme) Reason) (n : Now) → EndsWell x → EndDecides (end_now g l used r x n)
+  ends_decide : (used : ℕ) (r : Reading) (x : Result (Option Lexeme) Reason) (n : Now) → EndsWell x → AnswersAtEnd (end_now g l used r x n)
   ends_decide used r x (nows.Pending h e) w = waiting_ends used x (settle g l r) (settle_decides r)
   ends_decide used r x (nows.Long v e) w = waiting_ends used x (settle g l r) (settle_decides r)
   ends_decide used r x (nows.LongName v) w = inr refl
@@ -463,9 +463,9 @@ module _ (g : Catalog) (l : Limits) where
   ends_decide used r x nows.Name w = ready_ends used r x w
   ends_decide used r x (nows.Keyed s) w = ready_ends used r x w
 
-  of_now : (now : Result State Refusal) → NowDecides now → EndDecides (ends_of g l now)
+  of_now : (now : Result State Refusal) → NowDecides now → AnswersAtEnd (ends_of g l now)
   of_now (Ok m) h = ends_decide m.scan.used m.reading (at_end (place m.reading) m.scan) m.reading.now (mode_well (place m.reading) m.scan m.scan.mode)
   of_now (Err r) h = inl h
 
   pub end_reason : (u : List ℕ) (r : Refusal) → (trace g l u).ends ≡ Err r → IsEndReason r.reason
-  end_reason u r e = subst EndDecides e (of_now (run g l 0 begun u).now (run_decides u 0 begun))
+  end_reason u r e = subst AnswersAtEnd e (of_now (run g l 0 begun u).now (run_decides u 0 begun))

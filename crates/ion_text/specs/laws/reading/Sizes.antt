@@ -94,20 +94,20 @@ fields_more ms m =
     omega arith
 
 -- a payload that is no container
-abbrev pub IsFlat : Payload → Type 0
-IsFlat q = layer_nodes (views.out-Payload q) ≡ 1
+abbrev pub IsNoContainer : Payload → Type 0
+IsNoContainer q = layer_nodes (views.out-Payload q) ≡ 1
 
-pub flat_nodes : (ss : Symbols) (q : Payload) → IsFlat q → nodes (annotated ss q) ≡ length ss + 1
+pub flat_nodes : (ss : Symbols) (q : Payload) → IsNoContainer q → nodes (annotated ss q) ≡ length ss + 1
 flat_nodes ss q h = let n = nodes-out (annotated ss q) in omega (arith, n, h)
 
-number_flat : (n : Number) → IsFlat (number_payload n)
+number_flat : (n : Number) → IsNoContainer (number_payload n)
 number_flat (numbers.Int z) = ap layer_nodes (views.outs-Int z)
 number_flat (numbers.Decimal d) = ap layer_nodes (views.outs-Decimal d)
 number_flat (numbers.Timestamp t) = ap layer_nodes (views.outs-Timestamp t)
 
 -- what a held word or symbol is as a value
 abbrev AllFlat : Result Payload Reason → Type 0
-AllFlat (Ok q) = IsFlat q
+AllFlat (Ok q) = IsNoContainer q
 AllFlat (Err e) = Unit {0}
 
 held_flat : (h : Held) → AllFlat (held_payload h)
@@ -141,7 +141,7 @@ ended_weighs setting spot (frames.Named ss ms s ∷ fs) v n top h = (omega (arit
 ended_weighs setting spot (frames.Fields ss ms ∷ fs) v n top h = tt
 
 -- a value of one node behind its annotations
-flat_weighs : (setting : Setting) (spot : Spot) (fs : List Frame) (ss : Symbols) (q : Payload) (n : ℕ) (top : Bool) → IsFlat q → frames_nodes fs + length ss + 1 ≤ n
+flat_weighs : (setting : Setting) (spot : Spot) (fs : List Frame) (ss : Symbols) (q : Payload) (n : ℕ) (top : Bool) → IsNoContainer q → frames_nodes fs + length ss + 1 ≤ n
     → Weighs n setting.limits.item spot.start spot.end top (ended setting spot fs (annotated ss q))
 flat_weighs setting spot fs ss q n top f h = ended_weighs setting spot fs (annotated ss q) n top (omega (arith, h, flat_nodes ss q f))
 
@@ -213,10 +213,10 @@ still_top end top (f ∷ fs) = tt
 
 module _ (g : Catalog) (l : Limits) where
   module _ (spot : Spot) (fs : List Frame) (n : ℕ) where
-    abbrev Leads : Turn → Type 0
-    Leads t = Weighs n l.item spot.start spot.end (is_top fs) t
+    abbrev WeighsHere : Turn → Type 0
+    WeighsHere t = Weighs n l.item spot.start spot.end (is_top fs) t
 
-    ready_weighs : (ss : Symbols) (x : Content) → frames_nodes fs + length ss + 1 ≤ n → Leads (on_ready (under g l) spot fs ss x)
+    ready_weighs : (ss : Symbols) (x : Content) → frames_nodes fs + length ss + 1 ≤ n → WeighsHere (on_ready (under g l) spot fs ss x)
     ready_weighs ss (Word w) h = (h, omega arith, waits_top spot.end fs _)
     ready_weighs ss (Id id) h = resolved_weighs n l.item spot.start spot.end (is_top fs) (resolve spot.context id) _ (λ s. (h, omega arith, waits_top spot.end fs _))
     ready_weighs ss (Quoted w) h = (h, omega arith, waits_top spot.end fs _)
@@ -237,15 +237,15 @@ module _ (g : Catalog) (l : Limits) where
     ready_weighs ss (Mark' marks.Colon) h = tt
     ready_weighs ss (Mark' marks.Colons) h = tt
 
-    noted_weighs : (ss : Symbols) (r : Result (Option (List ℕ)) Reason) → frames_nodes fs + length ss + 1 ≤ n → Leads (noted spot.start spot.context fs ss r)
+    noted_weighs : (ss : Symbols) (r : Result (Option (List ℕ)) Reason) → frames_nodes fs + length ss + 1 ≤ n → WeighsHere (noted spot.start spot.context fs ss r)
     noted_weighs ss (Ok s) h = (omega (arith, h, length-append ss (s ∷ [])), omega arith, still_top spot.end (is_top fs) fs)
     noted_weighs ss (Err e) h = tt
 
-    pending_weighs : (ss : Symbols) (k : Held) (x : Content) → frames_nodes fs + length ss + 1 ≤ n → Leads (on_pending spot.start spot.context fs ss k x)
+    pending_weighs : (ss : Symbols) (k : Held) (x : Content) → frames_nodes fs + length ss + 1 ≤ n → WeighsHere (on_pending spot.start spot.context fs ss k x)
     pending_weighs ss k (Mark' marks.Colons) h = noted_weighs ss (held_symbol k) h
     pending_weighs ss k _ h = tt
 
-    long_weighs : (ss : Symbols) (v : List ℕ) (x : Content) → frames_nodes fs + length ss + 1 ≤ n → Leads (on_long spot fs ss v x)
+    long_weighs : (ss : Symbols) (v : List ℕ) (x : Content) → frames_nodes fs + length ss + 1 ≤ n → WeighsHere (on_long spot fs ss v x)
     long_weighs ss v (Long w) h = (h, omega arith, long_top spot.end fs _)
     long_weighs ss v _ h = tt
 

@@ -33,14 +33,14 @@ use Rattle.ion_text.specs.laws.reading.Sound.{start_now}
 use Rattle.ion_text.specs.machine.Passed.{said_body}
 use Rattle.ion_text.specs.laws.reading.Places.{Leading, settle_same}
 use Rattle.ion_text.specs.laws.reading.Meets.{IdleLeft, idle_left, end_spans}
-use Rattle.ion_text.specs.laws.reading.Lengths.{wants, wants_next, next_wants, idle_next, quoting_next, Sized, sized_initial, Ends, Measured, feed_measured, token_wants}
+use Rattle.ion_text.specs.laws.reading.Lengths.{wants, wants_next, next_wants, idle_next, quoting_next, Sized, sized_initial, EndedToken, Measured, feed_measured, token_wants}
 use Rattle.ion_text.specs.laws.reading.Sizes.{frames_nodes, now_nodes, open_nodes, WaitsSince, TopWaits, Weighs, turn_weighs, settle_weighs, wait_end}
 
 -- what waits ended behind so many octets, and within those used
-abbrev pub WaitsBehind : ℕ → ℕ → Now → Type 0
-WaitsBehind b used (nows.Pending h end) = (b ≤ end) × (end ≤ used)
-WaitsBehind b used (nows.Long w end) = (b ≤ end) × (end ≤ used)
-WaitsBehind b used _ = Unit {0}
+abbrev pub WaitsFrom : ℕ → ℕ → Now → Type 0
+WaitsFrom b used (nows.Pending h end) = (b ≤ end) × (end ≤ used)
+WaitsFrom b used (nows.Long w end) = (b ≤ end) × (end ≤ used)
+WaitsFrom b used _ = Unit {0}
 
 -- behind it no token is open, but quotes behind a long string
 abbrev pub WaitsIn : Now → Mode → Type 0
@@ -55,12 +55,12 @@ pub record Near (from : ℕ) (s : Known) (r : Reading) : Type 0 where
   pub behind : from ≤ base
   pub starts : r.start ≤ base
   pub far : base + open_nodes r + wants s.mode ≤ s.used
-  pub waiting : is_top r.frames ≡ true → WaitsBehind (base + open_nodes r) s.used r.now
+  pub waiting : is_top r.frames ≡ true → WaitsFrom (base + open_nodes r) s.used r.now
   pub quiet : is_top r.frames ≡ true → WaitsIn r.now s.mode
   pub sized : Sized s
 
 -- the same where a token ended
-pub record Ended (from : ℕ) (r : Reading) (x : Lexeme) (t : Known) : Type 0 where
+pub record EndedNear (from : ℕ) (r : Reading) (x : Lexeme) (t : Known) : Type 0 where
   pub base : ℕ
   pub behind : from ≤ base
   pub starts : r.start ≤ base
@@ -90,7 +90,7 @@ at_top end top [] now h e = h
 at_top end top (f ∷ fs) now h e = absurd cc
 
 -- what began to wait with a token
-since_behind : (b used end : ℕ) (top : Bool) (now : Now) → WaitsSince end top now → b ≤ end → end ≤ used → WaitsBehind b used now
+since_behind : (b used end : ℕ) (top : Bool) (now : Now) → WaitsSince end top now → b ≤ end → end ≤ used → WaitsFrom b used now
 since_behind b used end top (nows.Pending h e) w k n = (omega (arith, w.0, k), omega (arith, w.0, n))
 since_behind b used end top (nows.Long v e) w k n = (omega (arith, w.0, k), omega (arith, w.0, n))
 since_behind b used end top nows.Ready w k n = tt
@@ -109,7 +109,7 @@ since_in end top (nows.LongName v) m w i = tt
 since_in end top (nows.Keyed s) m w i = tt
 
 -- nothing was told to wait behind what didn't stand at the top level
-none_since : (b used end : ℕ) (now : Now) → WaitsSince end false now → WaitsBehind b used now
+none_since : (b used end : ℕ) (now : Now) → WaitsSince end false now → WaitsFrom b used now
 none_since b used end (nows.Pending h e) w = absurd (let n : false ≡ true = w.1 in cc)
 none_since b used end (nows.Long v e) w = absurd (let n : false ≡ true = w.1 in cc)
 none_since b used end nows.Ready w = tt
@@ -122,7 +122,7 @@ none_in : (end : ℕ) (now : Now) (m : Mode) → WaitsSince end false now → Wa
 none_in end now m w = since_in end false now m w (λ e. absurd cc)
 
 -- more octets change nothing
-longer : (b used later : ℕ) (now : Now) → WaitsBehind b used now → used ≤ later → WaitsBehind b later now
+longer : (b used later : ℕ) (now : Now) → WaitsFrom b used now → used ≤ later → WaitsFrom b later now
 longer b used later (nows.Pending h e) w k = (w.0, omega (arith, w.1, k))
 longer b used later (nows.Long v e) w k = (w.0, omega (arith, w.1, k))
 longer b used later nows.Ready w k = tt
@@ -178,7 +178,7 @@ module _ (g : Catalog) (l : Limits) where
   TurnNear from t (refuses e) = Unit {0}
   TurnNear from t (late e r) = Unit {0}
 
-  led_near : (from : ℕ) (r : Reading) (x : Lexeme) (t : Known) (turned : Turn) (e : Ended from r x t) → Weighs (open_nodes r + 1) l.item (start_now r.now r.start x.start r.frames r.notes) x.end (is_top r.frames) turned → TurnNear from t turned
+  led_near : (from : ℕ) (r : Reading) (x : Lexeme) (t : Known) (turned : Turn) (e : EndedNear from r x t) → Weighs (open_nodes r + 1) l.item (start_now r.now r.start x.start r.frames r.notes) x.end (is_top r.frames) turned → TurnNear from t turned
   led_near from r x t (goes n) e w =
       let b = opened r.now r.frames r.notes r.start x.start e.base x.end e.starts e.far e.some in
       let less : b.0 + open_nodes n ≤ x.end = omega (arith, b.3, w.0) in
@@ -197,7 +197,7 @@ module _ (g : Catalog) (l : Limits) where
   led_near from r x t (refuses y) e w = tt
   led_near from r x t (late y n) e w = tt
 
-  token_near : (from : ℕ) (r : Reading) (x : Lexeme) (t : Known) (c : Content) → Ended from r x t → TurnNear from t (turn g l r (token_of x c))
+  token_near : (from : ℕ) (r : Reading) (x : Lexeme) (t : Known) (c : Content) → EndedNear from r x t → TurnNear from t (turn g l r (token_of x c))
   token_near from r x t c e = led_near from r x t (turn g l r (token_of x c)) e (turn_weighs g l r (token_of x c))
 
   -- what settling leads to
@@ -245,31 +245,31 @@ module _ (g : Catalog) (l : Limits) where
   settle_near from s r h = settled_near from s r (settle g l r) h (settle_weighs g l r) (waited_near from s r.start r.context r.frames r.notes r.now h)
 
   -- nothing waits behind what was settled
-  abbrev Settled : Turn → Type 0
-  Settled (goes r) = (m : Mode) → is_top r.frames ≡ true → WaitsIn r.now m
-  Settled _ = Unit {0}
+  abbrev SettledNear : Turn → Type 0
+  SettledNear (goes r) = (m : Mode) → is_top r.frames ≡ true → WaitsIn r.now m
+  SettledNear _ = Unit {0}
 
-  settled_in : (n start end : ℕ) (turned : Turn) → Weighs n l.item start end false turned → Settled turned
+  settled_in : (n start end : ℕ) (turned : Turn) → Weighs n l.item start end false turned → SettledNear turned
   settled_in n start end (goes r) w = λ m i. none_in end r.now m (at_top end false r.frames r.now w.2 i)
   settled_in n start end (gives v r) w = tt
   settled_in n start end (refuses e) w = tt
   settled_in n start end (late e r) w = tt
 
   -- what came of an octet at the scanner: where an octet showed the end of a value, it may be a colon, which is refused
-  abbrev Comes : ℕ → Reading → Outcome → Type 0
-  Comes from r (Next t) = Near from t r
-  Comes from r (Given x t) = Ended from r x t
-  Comes from r (Left x t) = Ended from r x t ⊎ ((x.kind ≡ kinds.Mark marks.Colon) × (r ≡ fresh r.context))
-  Comes from r (Refused n e) = Unit {0}
+  abbrev ScannedNear : ℕ → Reading → Outcome → Type 0
+  ScannedNear from r (Next t) = Near from t r
+  ScannedNear from r (Given x t) = EndedNear from r x t
+  ScannedNear from r (Left x t) = EndedNear from r x t ⊎ ((x.kind ≡ kinds.Mark marks.Colon) × (r ≡ fresh r.context))
+  ScannedNear from r (Refused n e) = Unit {0}
 
   module _ (from : ℕ) (s : Known) (r : Reading) (h : Near from s r) where
-    idle_ended : (x : Lexeme) (t : Known) → Ends (place r) s x t → is_top r.frames ≡ true → is_idle t.mode ≡ true
+    idle_ended : (x : Lexeme) (t : Known) → EndedToken (place r) s x t → is_top r.frames ≡ true → is_idle t.mode ≡ true
     idle_ended x t e i = ended_idle (place r) x t.mode e.idle (top_sexp r.frames r.now i)
 
-    ends_near : (x : Lexeme) (t : Known) → Ends (place r) s x t → Ended from r x t
+    ends_near : (x : Lexeme) (t : Known) → EndedToken (place r) s x t → EndedNear from r x t
     ends_near x t e = record { base = h.base; behind = h.behind; starts = h.starts; far = omega (arith, h.far, e.behind); some = e.some; rest = e.rest; idle = idle_ended x t e; sized = e.sized }
 
-    comes_near : (x : Outcome) → Measured (place r) s x → ((t : Known) → x ≡ Next t → is_top r.frames ≡ true → WaitsIn r.now t.mode) → Comes from r x
+    comes_near : (x : Outcome) → Measured (place r) s x → ((t : Known) → x ≡ Next t → is_top r.frames ≡ true → WaitsIn r.now t.mode) → ScannedNear from r x
     comes_near (Next t) z w = record {
       base = h.base;
       behind = h.behind;
@@ -285,10 +285,10 @@ module _ (g : Catalog) (l : Limits) where
 
   -- Behind a value, at the octet that showed its end. Behind a long string one quote may be used then: of the symbol that it begins an
   -- octet more comes before the token ends, so that the octets from here on suffice.
-  comes_again : (p : Place) (s : Known) (r : Reading) (x : Outcome) → r ≡ fresh r.context → p ≡ places.Top → wants_next s.mode ≡ 1 → Measured p s x → ((y : Lexeme) (t : Known) → x ≡ Left y t → y.kind ≡ kinds.Mark marks.Colon) → Comes s.used r x
+  comes_again : (p : Place) (s : Known) (r : Reading) (x : Outcome) → r ≡ fresh r.context → p ≡ places.Top → wants_next s.mode ≡ 1 → Measured p s x → ((y : Lexeme) (t : Known) → x ≡ Left y t → y.kind ≡ kinds.Mark marks.Colon) → ScannedNear s.used r x
   comes_again p s r (Next t) e q m z k = near_fresh s.used t r e (omega (arith, z.1, z.2, m)) z.0
   comes_again p s r (Given y t) e q m z k =
-      subst (λ n. Ended s.used n y t) (sym e)
+      subst (λ n. EndedNear s.used n y t) (sym e)
       (record { base = s.used; behind = omega arith; starts = omega arith; far = omega (arith, z.2); some = z.0.some; rest = z.0.rest; idle = λ _. ended_idle p y t.mode z.0.idle (ap is_sexp q); sized = z.0.sized })
   comes_again p s r (Left y t) e q m z k = inr (k y t refl, e)
   comes_again p s r (Refused n y) e q m z k = tt
@@ -301,42 +301,42 @@ module _ (g : Catalog) (l : Limits) where
       by (inr k) = absurd (let n : false ≡ true = k.1 in cc)
 
   -- a value came of an octet, or what is read goes on
-  abbrev Came : ℕ → ℕ → ℕ → Effect → Type 0
-  Came from used o (uses m) = Near from m.scan m.reading × (m.scan.used ≡ used + 1)
-  Came from used o (tells v m) = HasSpan l.item from (used + 1) v × Near (used + 1) m.scan m.reading × (m.scan.used ≡ used + 1)
-  Came from used o (leaves v m) = HasSpan l.item from used v × (m.scan.used ≡ used) × (m.reading ≡ fresh m.reading.context) × Comes used m.reading (feed (place m.reading) m.scan o) × Sized m.scan
-  Came from used o (fails e) = Unit {0}
+  abbrev CameNear : ℕ → ℕ → ℕ → Effect → Type 0
+  CameNear from used o (uses m) = Near from m.scan m.reading × (m.scan.used ≡ used + 1)
+  CameNear from used o (tells v m) = HasSpan l.item from (used + 1) v × Near (used + 1) m.scan m.reading × (m.scan.used ≡ used + 1)
+  CameNear from used o (leaves v m) = HasSpan l.item from used v × (m.scan.used ≡ used) × (m.reading ≡ fresh m.reading.context) × ScannedNear used m.reading (feed (place m.reading) m.scan o) × Sized m.scan
+  CameNear from used o (fails e) = Unit {0}
 
   module _ (from used o : ℕ) where
-    worse_came : (e : Reason) (x : Effect) → Came from used o (or_worse e x)
+    worse_came : (e : Reason) (x : Effect) → CameNear from used o (or_worse e x)
     worse_came e (fails f) = tt
     worse_came e (uses m) = tt
     worse_came e (tells v m) = tt
     worse_came e (leaves v m) = tt
 
-    noticed_came : (r : Reading) (t : Known) → Near from t r → t.used ≡ used + 1 → Came from used o (noticed l r t)
+    noticed_came : (r : Reading) (t : Known) → Near from t r → t.used ≡ used + 1 → CameNear from used o (noticed l r t)
     noticed_came r t h e = go (shut r.now && not (is_idle t.mode)) (nat_le (reaches r.frames r t) l.item)
       where
-        go : (x y : Bool) → Came from used o (if x then fails reasons.Unexpected else (if y then uses (record { scan = t; reading = r }) else fails reasons.ItemTooLong))
+        go : (x y : Bool) → CameNear from used o (if x then fails reasons.Unexpected else (if y then uses (record { scan = t; reading = r }) else fails reasons.ItemTooLong))
         go true y = tt
         go false true = (h, e)
         go false false = tt
 
-    said_came : (r : Result Content Reason) (f : Content → Effect) → ((c : Content) → r ≡ Ok c → Came from used o (f c)) → Came from used o (on_said r f)
+    said_came : (r : Result Content Reason) (f : Content → Effect) → ((c : Content) → r ≡ Ok c → CameNear from used o (f c)) → CameNear from used o (on_said r f)
     said_came (Ok c) f h = h c refl
     said_came (Err e) f h = tt
 
-    given_came : (t : Known) (turned : Turn) → TurnNear from t turned → t.used ≡ used + 1 → wants t.mode ≡ 0 → Sized t → Came from used o (behind_given l t turned)
+    given_came : (t : Known) (turned : Turn) → TurnNear from t turned → t.used ≡ used + 1 → wants t.mode ≡ 0 → Sized t → CameNear from used o (behind_given l t turned)
     given_came t (goes r) h e w z = noticed_came r t h e
     given_came t (gives v r) h e w z = (subst (λ n. HasSpan l.item from n v) e h.0, near_fresh (used + 1) t r h.1 (omega (arith, e, w)) z, e)
     given_came t (refuses x) h e w z = tt
     given_came t (late x r) h e w z = worse_came x (noticed l r t)
 
     -- where the reader goes on at the octet
-    abbrev Again : (State → Effect) → Type 0
-    Again again = (k : State) → Near from k.scan k.reading → k.scan.used ≡ used → Came from used o (again k)
+    abbrev AgainNear : (State → Effect) → Type 0
+    AgainNear again = (k : State) → Near from k.scan k.reading → k.scan.used ≡ used → CameNear from used o (again k)
 
-    left_came : (again : State → Effect) (t : Known) (turned : Turn) → Again again → TurnNear from t turned → t.used ≡ used → (GivesNone turned ⊎ (is_idle t.mode ≡ true)) → Sized t → Came from used o (behind_left again t turned)
+    left_came : (again : State → Effect) (t : Known) (turned : Turn) → AgainNear again → TurnNear from t turned → t.used ≡ used → (GivesNone turned ⊎ (is_idle t.mode ≡ true)) → Sized t → CameNear from used o (behind_left again t turned)
     left_came again t (goes r) f h e i z = f (with_scan t r) h e
     left_came again t (gives v r) f h e (inl i) z = absurd i
     left_came again t (gives v r) f h e (inr i) z =
@@ -344,17 +344,17 @@ module _ (g : Catalog) (l : Limits) where
           subst (λ n. HasSpan l.item from n v) e h.0,
           e,
           h.1,
-          subst (λ n. Comes n r (feed (place r) t o)) e (comes_again (place r) t r (feed (place r) t o) h.1 top (idle_next t.mode i) (feed_measured (place r) t o z) (λ y k q. idle_colon t o i y k (ap (λ p. feed p t o) (sym top) ∙ q))),
+          subst (λ n. ScannedNear n r (feed (place r) t o)) e (comes_again (place r) t r (feed (place r) t o) h.1 top (idle_next t.mode i) (feed_measured (place r) t o z) (λ y k q. idle_colon t o i y k (ap (λ p. feed p t o) (sym top) ∙ q))),
           z,
         )
     left_came again t (refuses x) f h e i z = tt
     left_came again t (late x r) f h e i z = worse_came x (again (with_scan t r))
 
     -- a colon where no item is open
-    colon_fails : (again : State → Effect) (t : Known) (r : Reading) (x : Lexeme) (c : Content) → r ≡ fresh r.context → c ≡ Mark' marks.Colon → Came from used o (behind_left again t (turn g l r (token_of x c)))
+    colon_fails : (again : State → Effect) (t : Known) (r : Reading) (x : Lexeme) (c : Content) → r ≡ fresh r.context → c ≡ Mark' marks.Colon → CameNear from used o (behind_left again t (turn g l r (token_of x c)))
     colon_fails again t r x c e k =
-        subst (λ n. Came from used o (behind_left again t (turn g l n (token_of x c)))) (sym e)
-        (subst (λ b. Came from used o (behind_left again t (turn g l (fresh r.context) (token_of x b)))) (sym k) tt)
+        subst (λ n. CameNear from used o (behind_left again t (turn g l n (token_of x c)))) (sym e)
+        (subst (λ b. CameNear from used o (behind_left again t (turn g l (fresh r.context) (token_of x b)))) (sym k) tt)
 
     operator_gives : (begin end start : ℕ) (c : List Slot) (fs : List Frame) (ss : Symbols) (now : Now) (w : List ℕ) → is_top fs ≡ false → GivesNone (turn_now (under g l) (at start c fs ss now) (token_at begin end (Operator w)) now)
     operator_gives begin end start c [] ss now w h = absurd cc
@@ -381,7 +381,7 @@ module _ (g : Catalog) (l : Limits) where
             inl (subst (λ y. GivesNone (turn g l r (token_of x y))) (sym operator) (operator_gives x.start x.end r.start r.context r.frames r.notes r.now x.octets k))
 
     -- An octet at the scanner.
-    scan_came : (p : Place) (s : Known) (r : Reading) (again : State → Effect) (x : Outcome) → p ≡ place r → s.used ≡ used → Again again → Measured p s x → Comes from r x → Came from used o (on_scan g l again r x)
+    scan_came : (p : Place) (s : Known) (r : Reading) (again : State → Effect) (x : Outcome) → p ≡ place r → s.used ≡ used → AgainNear again → Measured p s x → ScannedNear from r x → CameNear from used o (on_scan g l again r x)
     scan_came p s r again (Next t) q e f z h = noticed_came r t h (omega (arith, z.1, e))
     scan_came p s r again (Given x t) q e f z h =
         said_came (said x.kind x.octets) (λ c. behind_given l t (turn g l r (token_of x c)))
@@ -427,8 +427,8 @@ module _ (g : Catalog) (l : Limits) where
     on_place p q s e z = subst (λ k. Measured k s (feed p s o)) e (feed_measured p s o z)
 
     -- where it was settled before the octet
-    settled_came : (s : Known) (fs : List Frame) (now : Now) (again : State → Effect) (turned : Turn) → s.used ≡ used → Sized s → Again again → TurnNear from s turned → Settled turned
-        → Leading g l (λ (r : Reading). (place r ≡ place_in fs now) × (is_top r.frames ≡ is_top fs)) turned → GivesNone turned ⊎ ShowsEnd s → Came from used o (on_settled g l again s (feed (place_in fs now) s o) turned)
+    settled_came : (s : Known) (fs : List Frame) (now : Now) (again : State → Effect) (turned : Turn) → s.used ≡ used → Sized s → AgainNear again → TurnNear from s turned → SettledNear turned
+        → Leading g l (λ (r : Reading). (place r ≡ place_in fs now) × (is_top r.frames ≡ is_top fs)) turned → GivesNone turned ⊎ ShowsEnd s → CameNear from used o (on_settled g l again s (feed (place_in fs now) s o) turned)
     settled_came s fs now again (goes r) e z f h i k w =
         let x : Outcome = feed (place_in fs now) s o in
         let there = on_place (place_in fs now) (place r) s (sym k.0) z in
@@ -439,21 +439,21 @@ module _ (g : Catalog) (l : Limits) where
           subst (λ n. HasSpan l.item from n v) e h.0,
           e,
           h.1,
-          subst (λ n. Comes n r (feed (place r) s o)) e (comes_again (place r) s r (feed (place r) s o) h.1 top w.0 (feed_measured (place r) s o z) (λ y t q. w.1 y t (ap (λ p. feed p s o) (sym top) ∙ q))),
+          subst (λ n. ScannedNear n r (feed (place r) s o)) e (comes_again (place r) s r (feed (place r) s o) h.1 top w.0 (feed_measured (place r) s o z) (λ y t q. w.1 y t (ap (λ p. feed p s o) (sym top) ∙ q))),
           z,
         )
     settled_came s fs now again (refuses x) e z f h i k w = tt
     settled_came s fs now again (late x r) e z f h i k w = worse_came x (on_scan g l again r (feed (place_in fs now) s o))
 
     -- An octet behind what is read.
-    takes_came : (n : ℕ) (s : Known) (r : Reading) → Near from s r → s.used ≡ used → Came from used o (takes g l n (with_scan s r) o)
+    takes_came : (n : ℕ) (s : Known) (r : Reading) → Near from s r → s.used ≡ used → CameNear from used o (takes g l n (with_scan s r) o)
     takes_came zero s r h e = tt
     takes_came (suc n) s r h e = go (unsettled s r (feed (place r) s o)) refl (λ k i j. takes_came n k.scan k.reading i j)
       where
         again : State → Effect
         again k = takes g l n k o
 
-        go : (b : Bool) → unsettled s r (feed (place r) s o) ≡ b → Again again → Came from used o (if b then on_scan g l again r (feed (place r) s o) else on_settled g l again s (feed (place r) s o) (settle g l r))
+        go : (b : Bool) → unsettled s r (feed (place r) s o) ≡ b → AgainNear again → CameNear from used o (if b then on_scan g l again r (feed (place r) s o) else on_settled g l again s (feed (place r) s o) (settle g l r))
         go true w f =
             let z = feed_measured (place r) s o h.sized in
             scan_came (place r) s r again (feed (place r) s o) refl e f z (comes_near from s r h (feed (place r) s o) z (λ t q i. waits_in r.now (is_top r.frames) t (subst (λ x. waits r x ≡ true) q (unsettled_waits (place r) s r o (subst NotRefused (sym q) tt) w))))
@@ -462,11 +462,11 @@ module _ (g : Catalog) (l : Limits) where
             (settle_same g l r.start r.context r.frames r.notes r.now) (shown_before s r.start r.context r.frames r.notes r.now h (or_parts (waits r (feed (place r) s o)) (in_segment r.now s) w).0)
 
     -- the octet that showed the end of a value, again
-    fresh_came : (s : Known) (c : List Slot) → Comes from (fresh c) (feed places.Top s o) → s.used ≡ used → Sized s → Came from used o (takes g l 3 (with_scan s (fresh c)) o)
+    fresh_came : (s : Known) (c : List Slot) → ScannedNear from (fresh c) (feed places.Top s o) → s.used ≡ used → Sized s → CameNear from used o (takes g l 3 (with_scan s (fresh c)) o)
     fresh_came s c h e z = scan_came places.Top s (fresh c) (λ k. takes g l 2 k o) (feed places.Top s o) refl e (λ k i j. takes_came 2 k.scan k.reading i j) (feed_measured places.Top s o z) h
 
-    again_came : (m : State) → m.reading ≡ fresh m.reading.context → Comes from m.reading (feed (place m.reading) m.scan o) → m.scan.used ≡ used → Sized m.scan → Came from used o (eats g l m o)
-    again_came m f h e z = subst (λ r. Comes from r (feed (place r) m.scan o) → Came from used o (takes g l 3 (with_scan m.scan r) o)) (sym f) (λ k. fresh_came m.scan m.reading.context k e z) h
+    again_came : (m : State) → m.reading ≡ fresh m.reading.context → ScannedNear from m.reading (feed (place m.reading) m.scan o) → m.scan.used ≡ used → Sized m.scan → CameNear from used o (eats g l m o)
+    again_came m f h e z = subst (λ r. ScannedNear from r (feed (place r) m.scan o) → CameNear from used o (takes g l 3 (with_scan m.scan r) o)) (sym f) (λ k. fresh_came m.scan m.reading.context k e z) h
 
   -- of runs
 
@@ -476,13 +476,13 @@ module _ (g : Catalog) (l : Limits) where
   Led from [] (Err e) n = from ≤ n
   Led from ((v, at) ∷ given) now n = HasSpan l.item from at v × Led at given now n
 
-  more_led : (from to n o : ℕ) (rest : State → Run) (x : Effect) → from ≤ n → ((k : ℕ) (m : State) → Near k m.scan m.reading → m.scan.used ≡ to + 1 → Led k (rest m).given (rest m).now n) → Came from to o x → Led from (once_more to rest x).given (once_more to rest x).now n
+  more_led : (from to n o : ℕ) (rest : State → Run) (x : Effect) → from ≤ n → ((k : ℕ) (m : State) → Near k m.scan m.reading → m.scan.used ≡ to + 1 → Led k (rest m).given (rest m).now n) → CameNear from to o x → Led from (once_more to rest x).given (once_more to rest x).now n
   more_led from to n o rest (uses m) k f h = f from m h.0 h.1
   more_led from to n o rest (tells v m) k f h = (h.0, f (to + 1) m h.1 h.2)
   more_led from to n o rest (leaves v m) k f h = k
   more_led from to n o rest (fails e) k f h = k
 
-  octet_led : (from to n o : ℕ) (rest : State → Run) (x : Effect) → from ≤ n → to ≤ n → ((k : ℕ) (m : State) → Near k m.scan m.reading → m.scan.used ≡ to + 1 → Led k (rest m).given (rest m).now n) → Came from to o x
+  octet_led : (from to n o : ℕ) (rest : State → Run) (x : Effect) → from ≤ n → to ≤ n → ((k : ℕ) (m : State) → Near k m.scan m.reading → m.scan.used ≡ to + 1 → Led k (rest m).given (rest m).now n) → CameNear from to o x
       → Led from (run_on to (λ m. eats g l m o) rest x).given (run_on to (λ m. eats g l m o) rest x).now n
   octet_led from to n o rest (uses m) j k f h = f from m h.0 h.1
   octet_led from to n o rest (tells v m) j k f h = (h.0, f (to + 1) m h.1 h.2)
@@ -527,7 +527,7 @@ module _ (g : Catalog) (l : Limits) where
     abbrev behind_last : ℕ → Known
     behind_last used = record { mode = modes.Blank; kept = []; colon = false; start = used; used = used }
 
-    last_ended : (s : Known) (r : Reading) (x : Lexeme) → Near from s r → at_end (place r) s ≡ Ok (Some x) → Ended from r x (behind_last s.used)
+    last_ended : (s : Known) (r : Reading) (x : Lexeme) → Near from s r → at_end (place r) s ≡ Ok (Some x) → EndedNear from r x (behind_last s.used)
     last_ended s r x h e =
         let k = end_spans s (end_of (place r) s.mode) x e in
         let n = token_wants (place r) s x e in
@@ -535,7 +535,7 @@ module _ (g : Catalog) (l : Limits) where
         let i = z.enough in
         record { base = h.base; behind = h.behind; starts = h.starts; far = omega (arith, h.far, k.1, n); some = omega (arith, k.0, k.1, i, n); rest = omega (arith, k.1); idle = λ _. refl; sized = record { enough = omega arith; letters = refl } }
 
-    said_has : (s : Known) (r : Reading) (x : Lexeme) (c : Result Content Reason) → Ended from r x (behind_last s.used) → EndHas from s.used (end_said g l s.used r x c)
+    said_has : (s : Known) (r : Reading) (x : Lexeme) (c : Result Content Reason) → EndedNear from r x (behind_last s.used) → EndHas from s.used (end_said g l s.used r x c)
     said_has s r x (Ok c) h = turned_has (behind_last s.used) (turn g l r (token_of x c)) (token_near from r x (behind_last s.used) c h)
     said_has s r x (Err e) h = tt
 

@@ -169,7 +169,7 @@ begins_long_more [] _ us p w (joined [] v x t d h) = refl
 begins_long_more [] _ us p w (joined (y ∷ ys) v x t d h) = refl
 
 -- what is held is what the token says
-pub record Stood (c : List Slot) (said : Content) (h : Held) : Type 0 where
+pub record HoldsWhatIsSaid (c : List Slot) (said : Content) (h : Held) : Type 0 where
   pub value : (q : Payload) → held_payload h ≡ Ok q → IsScalar c said q
   pub marker : (s : Option (List ℕ)) → h ≡ helds.Version true s → said ≡ Word the_marker
   pub note : (s : Option (List ℕ)) → held_symbol h ≡ Ok s → IsSymbol c said s
@@ -205,7 +205,7 @@ pub record PendingFor (c : List Slot) (fs : List Frame) (ss : Symbols) (h : Held
   pub said : Content
   pub whole : ts ≡ before ++ token ∷ []
   pub says : Says (value_place fs) token said
-  pub stood : Stood c said h
+  pub stood : HoldsWhatIsSaid c said h
   pub other : (w : List ℕ) → said ≡ Long w → ⊥
   pub named : symbol_said said ≡ true
   pub known : IsHeld c said h
@@ -236,8 +236,8 @@ NowStands c fs ss ts nows.Name = Opened c fs ts true × IsStruct fs
 NowStands c fs ss ts (nows.LongName w) = NameFor c fs (λ n. Segments places.Name n w) ts
 NowStands c fs ss ts (nows.Keyed s) = NameFor c fs (λ n. IsName c n s) ts
 
-abbrev pub Stands : List Slot → Reading → List Placed → Type 0
-Stands c r ts = (r.context ≡ c) × NowStands c r.frames r.notes ts r.now
+abbrev pub ReadingStands : List Slot → Reading → List Placed → Type 0
+ReadingStands c r ts = (r.context ≡ c) × NowStands c r.frames r.notes ts r.now
 
 -- where the open item begins, behind one more token
 abbrev pub start_now : Now → ℕ → ℕ → List Frame → Symbols → ℕ
@@ -245,16 +245,16 @@ start_now nows.Ready start begin fs ss = begun_at start begin fs ss
 start_now _ start begin fs ss = start
 
 -- where what waits ended
-abbrev pub end_now : Now → ℕ → ℕ
-end_now (nows.Pending h e) end = e
-end_now (nows.Long w e) end = e
-end_now _ end = end
+abbrev pub end_of_now : Now → ℕ → ℕ
+end_of_now (nows.Pending h e) end = e
+end_of_now (nows.Long w e) end = e
+end_of_now _ end = end
 
 module _ (g : Catalog) (l : Limits) where
   -- what came of the tokens of the open item
   abbrev pub Sounds : List Slot → ℕ → ℕ → List Placed → Turn → Type 0
   Sounds c start end ts (goes r) =
-      (Stands c r ts × (r.start ≡ start) × EndsAt r.now end)
+      (ReadingStands c r ts × (r.start ≡ start) × EndsAt r.now end)
       ⊎ (((v : Value) × (d : List Slot) × Means c places.Top ts v × (is_table v ≡ true) × (next c v g ≡ Ok d) × (depth v ≤ l.depth) × (end ≤ start + l.item) × (r ≡ fresh d))
       ⊎ ((t : Placed) × (ts ≡ t ∷ []) × Says places.Top t (Word the_marker) × (end ≤ start + l.item) × (r ≡ fresh system_slots)))
   Sounds c start end ts (gives v r) = Means c places.Top ts v × (is_table v ≡ false) × (is_version_word ts ≡ false) × (depth v ≤ l.depth) × (end ≤ start + l.item) × (r ≡ fresh c)
@@ -408,7 +408,7 @@ module _ (g : Catalog) (l : Limits) where
       subst (λ x. Sounds c start end x (ended (under g l) (spot_at end start c) fs (annotated ss (payloads.Str w)))) (sym d.whole) (plain_sounds c fs ss d.before d.segments (payloads.Str w) start end d.ready (long_string (value_place fs) d.segments w d.are) d.apart (λ i j. segments_no_word (value_place fs) d.segments w d.are) (λ i. flat_level (annotated ss (payloads.Str w)) (flat_text ss w)))
 
   -- the words of keywords, and what else is held
-  word_stood : (c : List Slot) (w : List ℕ) → Stood c (Word w) (held_word w)
+  word_stood : (c : List Slot) (w : List ℕ) → HoldsWhatIsSaid c (Word w) (held_word w)
   word_stood c w = go (bytes_eq w (codes "null")) (bytes_eq w (codes "true")) (bytes_eq w (codes "false")) (bytes_eq w (codes "nan")) (is_version w) refl refl refl refl
     where
       is : (w v : List ℕ) → bytes_eq w v ≡ true → w ≡ v
@@ -425,7 +425,7 @@ module _ (g : Catalog) (l : Limits) where
       symbol a b d e i j k m = is_word w (ap (λ x. (x || bytes_eq w (codes "true")) || (bytes_eq w (codes "false") || bytes_eq w (codes "nan"))) i ∙ (ap (λ x. (false || x) || (bytes_eq w (codes "false") || bytes_eq w (codes "nan"))) j ∙ (ap (λ x. (false || false) || (x || bytes_eq w (codes "nan"))) k ∙ ap (λ x. (false || false) || (false || x)) m)))
 
       go : (a b d e f : Bool) → bytes_eq w (codes "null") ≡ a → bytes_eq w (codes "true") ≡ b → bytes_eq w (codes "false") ≡ d → bytes_eq w (codes "nan") ≡ e
-          → Stood c (Word w) (if a then helds.Null values.Null else (if b then helds.Truth true else (if d then helds.Truth false else (if e then helds.Nan else (if f then helds.Version (bytes_eq w the_marker) (Some w) else helds.Symbol (Some w))))))
+          → HoldsWhatIsSaid c (Word w) (if a then helds.Null values.Null else (if b then helds.Truth true else (if d then helds.Truth false else (if e then helds.Nan else (if f then helds.Version (bytes_eq w the_marker) (Some w) else helds.Symbol (Some w))))))
       go true b d e f i j k m = record { value = λ q h. subst (λ x. IsScalar c (Word x) q) (sym (is w (codes "null") i)) (subst (IsScalar c (Word (codes "null"))) (let n : payloads.Null values.Null ≡ q = cc in n) is_null); marker = λ s h. absurd cc; note = λ s h. absurd cc }
       go false true d e f i j k m = record { value = λ q h. subst (λ x. IsScalar c (Word x) q) (sym (is w (codes "true") j)) (subst (IsScalar c (Word (codes "true"))) (let n : payloads.Truth true ≡ q = cc in n) is_true); marker = λ s h. absurd cc; note = λ s h. absurd cc }
       go false false true e f i j k m = record { value = λ q h. subst (λ x. IsScalar c (Word x) q) (sym (is w (codes "false") k)) (subst (IsScalar c (Word (codes "false"))) (let n : payloads.Truth false ≡ q = cc in n) is_false); marker = λ s h. absurd cc; note = λ s h. absurd cc }
@@ -433,10 +433,10 @@ module _ (g : Catalog) (l : Limits) where
       go false false false false true i j k m = record { value = λ q h. subst (IsScalar c (Word w)) (let n : payloads.Symbol (Some w) ≡ q = cc in n) (is_symbol (Word w) (Some w) (symbol false false false false i j k m)); marker = λ s h. ap Word (is w the_marker (ours h)); note = λ s h. subst (IsSymbol c (Word w)) (let n : Some w ≡ s = cc in n) (symbol false false false false i j k m) }
       go false false false false false i j k m = record { value = λ q h. subst (IsScalar c (Word w)) (let n : payloads.Symbol (Some w) ≡ q = cc in n) (is_symbol (Word w) (Some w) (symbol false false false false i j k m)); marker = λ s h. absurd cc; note = λ s h. subst (IsSymbol c (Word w)) (let n : Some w ≡ s = cc in n) (symbol false false false false i j k m) }
 
-  symbol_stood : (c : List Slot) (said : Content) (s : Option (List ℕ)) → IsSymbol c said s → Stood c said (helds.Symbol s)
+  symbol_stood : (c : List Slot) (said : Content) (s : Option (List ℕ)) → IsSymbol c said s → HoldsWhatIsSaid c said (helds.Symbol s)
   symbol_stood c said s d = record { value = λ q h. subst (IsScalar c said) (let n : payloads.Symbol s ≡ q = cc in n) (is_symbol said s d); marker = λ s h. absurd cc; note = λ t h. subst (IsSymbol c said) (let n : s ≡ t = cc in n) d }
 
-  waits_sounds : (c : List Slot) (fs : List Frame) (ss : Symbols) (ts : List Placed) (t : Placed) (said : Content) (h : Held) (start end : ℕ) → ReadyFor c fs ss ts → Says (value_place fs) t said → Stood c said h → ((w : List ℕ) → said ≡ Long w → ⊥) → (symbol_said said ≡ true) → IsHeld c said h → (is_unmarked h ≡ true → is_version_word (t ∷ []) ≡ false) → Sounds c start end (ts ++ t ∷ []) (goes (at start c fs ss (nows.Pending h end)))
+  waits_sounds : (c : List Slot) (fs : List Frame) (ss : Symbols) (ts : List Placed) (t : Placed) (said : Content) (h : Held) (start end : ℕ) → ReadyFor c fs ss ts → Says (value_place fs) t said → HoldsWhatIsSaid c said h → ((w : List ℕ) → said ≡ Long w → ⊥) → (symbol_said said ≡ true) → IsHeld c said h → (is_unmarked h ≡ true → is_version_word (t ∷ []) ≡ false) → Sounds c start end (ts ++ t ∷ []) (goes (at start c fs ss (nows.Pending h end)))
   waits_sounds c fs ss ts t said h start end d i s n k f m = inl ((refl, record { before = ts; ready = d; token = t; said = said; whole = refl; says = i; stood = s; other = n; named = k; known = f; unmarked = m }), refl, refl)
 
   id_sounds : (c : List Slot) (fs : List Frame) (ss : Symbols) (ts : List Placed) (t : Placed) (id start end : ℕ) (r : Result (Option (List ℕ)) Reason) → ReadyFor c fs ss ts → Says (value_place fs) t (Id id) → resolve c id ≡ r → Sounds c start end (ts ++ t ∷ []) (resolved r (λ s. goes (at start c fs ss (nows.Pending (helds.Symbol s) end))))
@@ -705,12 +705,12 @@ module _ (g : Catalog) (l : Limits) where
   long_place (frames.Fields ss ms ∷ fs) w end r = absurd r
 
   -- behind an element that ends long, a segment may not come where a value may
-  abbrev pub Apart : (c : List Slot) (fs : List Frame) (ss : Symbols) (ts : List Placed) (t : Placed) (said : Content) (now : Now) → NowStands c fs ss ts now → Type 0
-  Apart c fs ss ts t said nows.Ready d = (w : List ℕ) → said ≡ Long w → (long_behind c fs d.front d.outer && begins_long (d.notes ++ t ∷ [])) ≡ false
-  Apart c fs ss ts t said _ d = Unit {0}
+  abbrev pub NoSegmentComes : (c : List Slot) (fs : List Frame) (ss : Symbols) (ts : List Placed) (t : Placed) (said : Content) (now : Now) → NowStands c fs ss ts now → Type 0
+  NoSegmentComes c fs ss ts t said nows.Ready d = (w : List ℕ) → said ≡ Long w → (long_behind c fs d.front d.outer && begins_long (d.notes ++ t ∷ [])) ≡ false
+  NoSegmentComes c fs ss ts t said _ d = Unit {0}
 
   -- What a token does stands for the tokens with it.
-  pub turn_sounds : (c : List Slot) (fs : List Frame) (ss : Symbols) (now : Now) (ts : List Placed) (t : Placed) (said : Content) (start : ℕ) → Deep l.depth fs → (d : NowStands c fs ss ts now) → Says (place_in fs now) t said → Apart c fs ss ts t said now d
+  pub turn_sounds : (c : List Slot) (fs : List Frame) (ss : Symbols) (now : Now) (ts : List Placed) (t : Placed) (said : Content) (start : ℕ) → Deep l.depth fs → (d : NowStands c fs ss ts now) → Says (place_in fs now) t said → NoSegmentComes c fs ss ts t said now d
       → Sounds c (start_now now start t.lexeme.start fs ss) t.lexeme.end (ts ++ t ∷ []) (turn g l (at start c fs ss now) (token_of t.lexeme said))
   turn_sounds c fs ss nows.Ready ts t said start dd d i a = ready_sounds c fs ss ts t said (begun_at start t.lexeme.start fs ss) dd d i a
   turn_sounds c fs ss (nows.Pending h end) ts t (Mark' marks.Colons) start dd d i a = noted_sounds c fs ss ts t h start t.lexeme.end (held_symbol h) d (subst (λ p. Says p t (Mark' marks.Colons)) (pending_place fs h end d.ready.receives) i) refl
@@ -789,7 +789,7 @@ module _ (g : Catalog) (l : Limits) where
   turn_sounds c (frames.Named rs ms y ∷ fs) ss (nows.Keyed x) ts t said start dd d i a = absurd d.struct
 
   -- What waited is settled.
-  pub settle_sounds : (c : List Slot) (fs : List Frame) (ss : Symbols) (now : Now) (ts : List Placed) (start end : ℕ) → NowStands c fs ss ts now → Sounds c start (end_now now end) ts (settle g l (at start c fs ss now))
+  pub settle_sounds : (c : List Slot) (fs : List Frame) (ss : Symbols) (now : Now) (ts : List Placed) (start end : ℕ) → NowStands c fs ss ts now → Sounds c start (end_of_now now end) ts (settle g l (at start c fs ss now))
   settle_sounds c fs ss (nows.Pending h end) ts start last d = released_sounds c fs ss h ts start end d
   settle_sounds c fs ss (nows.Long w end) ts start last d = long_sounds c fs ss w ts start end d
   settle_sounds c fs ss (nows.LongName w) ts start last d = inl ((refl, record { before = d.before; name = d.name; whole = d.whole; outer = d.outer; struct = d.struct; is = by_long d.name w d.is }), refl, tt)

@@ -20,16 +20,16 @@ use Rattle.ion_text.specs.declared.state.Frame.TheVariants as frames
 use Rattle.ion_text.specs.Grammar.{is_keyword}
 use Rattle.ion_text.specs.machine.EachToken.{Setting, Spot, under, spot_at, token_at, Reading, Turn, goes, gives, refuses, late, Token, Symbols, at, fresh, settle, turn, turn_now, ended, within, turned, held_word, held_symbol, held_payload, released, begun_at, on_ready, on_after, on_name, on_pending, on_long, on_long_name, on_keyed, on_comma, struct_closed, list_closed, sexp_closed, bare_close, deeper, paid, noted, resolved, keyed, named}
 use Rattle.ion_text.specs.machine.Run.{is_top, is_fresh}
-use Rattle.ion_text.specs.laws.reading.Sound.{EndsAt, start_now, end_now}
+use Rattle.ion_text.specs.laws.reading.Sound.{EndsAt, start_now, end_of_now}
 use Rattle.ion_text.specs.laws.reading.Quotes.{le_of}
 
 -- what closes a container
-abbrev pub Closes : Bool → Content → Type 0
-Closes true said = Unit {0}
-Closes false (Mark' marks.ListClose) = Unit {0}
-Closes false (Mark' marks.SexpClose) = Unit {0}
-Closes false (Mark' marks.FieldsClose) = Unit {0}
-Closes false _ = ⊥
+abbrev pub IsClose : Bool → Content → Type 0
+IsClose true said = Unit {0}
+IsClose false (Mark' marks.ListClose) = Unit {0}
+IsClose false (Mark' marks.SexpClose) = Unit {0}
+IsClose false (Mark' marks.FieldsClose) = Unit {0}
+IsClose false _ = ⊥
 
 -- what may be read at the top level
 abbrev pub IsTopNow : Now → Type 0
@@ -44,8 +44,8 @@ OpenAs top r = (is_top r.frames ≡ false) ⊎ ((top ≡ true) × (is_fresh r �
 
 -- the item that begins at `start` is open up to `end`, or it was whole and isn't too long
 abbrev pub Spans : Bool → Content → ℕ → ℕ → ℕ → Turn → Type 0
-Spans top said item start end (goes r) = (OpenAs top r × (r.start ≡ start) × EndsAt r.now end) ⊎ ((end ≤ start + item) × Closes top said × (is_fresh r ≡ true))
-Spans top said item start end (gives v r) = (end ≤ start + item) × Closes top said × (is_fresh r ≡ true)
+Spans top said item start end (goes r) = (OpenAs top r × (r.start ≡ start) × EndsAt r.now end) ⊎ ((end ≤ start + item) × IsClose top said × (is_fresh r ≡ true))
+Spans top said item start end (gives v r) = (end ≤ start + item) × IsClose top said × (is_fresh r ≡ true)
 Spans top said item start end (refuses e) = Unit {0}
 Spans top said item start end (late e r) = Unit {0}
 
@@ -56,13 +56,13 @@ within_spans top said item start end t h = go (nat_le end (start + item)) refl
     go true e = h (le_of end (start + item) e)
     go false e = tt
 
-top_spans : (top : Bool) (said : Content) (item start end : ℕ) (c : List Slot) (v : Value) (d : Result (List Slot) Reason) (b : Bool) → Closes top said → Spans top said item start end (if b then turned item start end d else within item start end (gives v (fresh c)))
+top_spans : (top : Bool) (said : Content) (item start end : ℕ) (c : List Slot) (v : Value) (d : Result (List Slot) Reason) (b : Bool) → IsClose top said → Spans top said item start end (if b then turned item start end d else within item start end (gives v (fresh c)))
 top_spans top said item start end c v (Ok d) true h = within_spans top said item start end (goes (fresh d)) (λ k. inr (k, h, refl))
 top_spans top said item start end c v (Err e) true h = tt
 top_spans top said item start end c v d false h = within_spans top said item start end (gives v (fresh c)) (λ k. (k, h, refl))
 
 -- a value that ends in these frames, which were below `top` before
-ended_spans : (top : Bool) (said : Content) (setting : Setting) (spot : Spot) (fs : List Frame) (v : Value) → (is_top fs ≡ true → Closes top said) → Spans top said setting.limits.item spot.start spot.end (ended setting spot fs v)
+ended_spans : (top : Bool) (said : Content) (setting : Setting) (spot : Spot) (fs : List Frame) (v : Value) → (is_top fs ≡ true → IsClose top said) → Spans top said setting.limits.item spot.start spot.end (ended setting spot fs v)
 ended_spans top said setting spot [] v h = top_spans top said setting.limits.item spot.start spot.end spot.context v (next spot.context v setting.catalog) (is_table v) (h refl)
 ended_spans top said setting spot (frames.List ss vs ∷ fs) v h = inl (inl refl, refl, tt)
 ended_spans top said setting spot (frames.Sexp ss vs ∷ fs) v h = inl (inl refl, refl, tt)
@@ -71,7 +71,7 @@ ended_spans top said setting spot (frames.Fields ss ms ∷ fs) v h = tt
 
 -- a value of one token, in the frames that stay
 one_spans : (said : Content) (setting : Setting) (spot : Spot) (fs : List Frame) (v : Value) → Spans (is_top fs) said setting.limits.item spot.start spot.end (ended setting spot fs v)
-one_spans said setting spot fs v = ended_spans (is_top fs) said setting spot fs v (λ e. subst (λ b. Closes b said) (sym e) tt)
+one_spans said setting spot fs v = ended_spans (is_top fs) said setting spot fs v (λ e. subst (λ b. IsClose b said) (sym e) tt)
 
 -- what waits, or a name, is open in all frames
 open_now : (start : ℕ) (c : List Slot) (fs : List Frame) (ss : Symbols) (now : Now) → (is_fresh (at start c [] ss now) ≡ false) → IsTopNow now → OpenAs (is_top fs) (at start c fs ss now)
@@ -217,36 +217,36 @@ module _ (g : Catalog) (l : Limits) where
   turn_spans r t k = now_spans t.start t.end r.start r.context r.frames r.notes t.said r.now k
 
   -- what waited leaves the container open, or ends an item of the top level
-  abbrev pub Settles : ℕ → ℕ → List Frame → Turn → Type 0
-  Settles start end fs (goes r) = ((is_top fs ≡ false) × (is_top r.frames ≡ false) × (r.start ≡ start)) ⊎ ((is_top fs ≡ true) × (end ≤ start + l.item))
-  Settles start end fs (gives v r) = (is_top fs ≡ true) × (end ≤ start + l.item)
-  Settles start end fs (refuses e) = Unit {0}
-  Settles start end fs (late e r) = Unit {0}
+  abbrev pub SettlesWithin : ℕ → ℕ → List Frame → Turn → Type 0
+  SettlesWithin start end fs (goes r) = ((is_top fs ≡ false) × (is_top r.frames ≡ false) × (r.start ≡ start)) ⊎ ((is_top fs ≡ true) × (end ≤ start + l.item))
+  SettlesWithin start end fs (gives v r) = (is_top fs ≡ true) × (end ≤ start + l.item)
+  SettlesWithin start end fs (refuses e) = Unit {0}
+  SettlesWithin start end fs (late e r) = Unit {0}
 
-  within_settles : (start end : ℕ) (t : Turn) → (end ≤ start + l.item → Settles start end [] t) → Settles start end [] (within l.item start end t)
+  within_settles : (start end : ℕ) (t : Turn) → (end ≤ start + l.item → SettlesWithin start end [] t) → SettlesWithin start end [] (within l.item start end t)
   within_settles start end t h = go (nat_le end (start + l.item)) refl
     where
-      go : (b : Bool) → nat_le end (start + l.item) ≡ b → Settles start end [] (if b then t else refuses reasons.ItemTooLong)
+      go : (b : Bool) → nat_le end (start + l.item) ≡ b → SettlesWithin start end [] (if b then t else refuses reasons.ItemTooLong)
       go true e = h (le_of end (start + l.item) e)
       go false e = tt
 
-  top_settles : (start end : ℕ) (c : List Slot) (v : Value) (d : Result (List Slot) Reason) (b : Bool) → Settles start end [] (if b then turned l.item start end d else within l.item start end (gives v (fresh c)))
+  top_settles : (start end : ℕ) (c : List Slot) (v : Value) (d : Result (List Slot) Reason) (b : Bool) → SettlesWithin start end [] (if b then turned l.item start end d else within l.item start end (gives v (fresh c)))
   top_settles start end c v (Ok d) true = within_settles start end (goes (fresh d)) (λ k. inr (refl, k))
   top_settles start end c v (Err e) true = tt
   top_settles start end c v d false = within_settles start end (gives v (fresh c)) (λ k. (refl, k))
 
-  ended_settles : (spot : Spot) (fs : List Frame) (v : Value) → Settles spot.start spot.end fs (ended (under g l) spot fs v)
+  ended_settles : (spot : Spot) (fs : List Frame) (v : Value) → SettlesWithin spot.start spot.end fs (ended (under g l) spot fs v)
   ended_settles spot [] v = top_settles spot.start spot.end spot.context v (next spot.context v g) (is_table v)
   ended_settles spot (frames.List ss vs ∷ fs) v = inl (refl, refl, refl)
   ended_settles spot (frames.Sexp ss vs ∷ fs) v = inl (refl, refl, refl)
   ended_settles spot (frames.Named ss ms s ∷ fs) v = inl (refl, refl, refl)
   ended_settles spot (frames.Fields ss ms ∷ fs) v = tt
 
-  paid_settles : (spot : Spot) (fs : List Frame) (ss : Symbols) (q : Result Payload Reason) → Settles spot.start spot.end fs (paid (under g l) spot fs ss q)
+  paid_settles : (spot : Spot) (fs : List Frame) (ss : Symbols) (q : Result Payload Reason) → SettlesWithin spot.start spot.end fs (paid (under g l) spot fs ss q)
   paid_settles spot fs ss (Ok q) = ended_settles spot fs _
   paid_settles spot fs ss (Err e) = tt
 
-  released_settles : (spot : Spot) (fs : List Frame) (ss : Symbols) (h : Held) → Settles spot.start spot.end fs (released (under g l) spot fs ss h)
+  released_settles : (spot : Spot) (fs : List Frame) (ss : Symbols) (h : Held) → SettlesWithin spot.start spot.end fs (released (under g l) spot fs ss h)
   released_settles spot [] [] (helds.Version true s) = within_settles spot.start spot.end _ (λ k. inr (refl, k))
   released_settles spot [] [] (helds.Version false s) = tt
   released_settles spot [] [] (helds.Symbol s) = paid_settles spot [] [] (held_payload (helds.Symbol s))
@@ -263,7 +263,7 @@ module _ (g : Catalog) (l : Limits) where
   IsWaiting _ = ⊥
 
   -- What waited for more was within the limit.
-  pub settle_spans : (start : ℕ) (c : List Slot) (fs : List Frame) (ss : Symbols) (now : Now) (end : ℕ) → IsWaiting now → Settles start (end_now now end) fs (settle g l (at start c fs ss now))
+  pub settle_spans : (start : ℕ) (c : List Slot) (fs : List Frame) (ss : Symbols) (now : Now) (end : ℕ) → IsWaiting now → SettlesWithin start (end_of_now now end) fs (settle g l (at start c fs ss now))
   settle_spans start c fs ss (nows.Pending h e) end w = released_settles (spot_at e start c) fs ss h
   settle_spans start c fs ss (nows.Long v e) end w = ended_settles (spot_at e start c) fs _
   settle_spans start c fs ss nows.Ready end w = absurd w

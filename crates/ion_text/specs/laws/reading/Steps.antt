@@ -24,13 +24,13 @@ use Rattle.ion_text.specs.laws.reading.Quotes.{Fine, Finely, feed_fine, given_fa
 use Rattle.ion_tokens.proofs.Scans.{scanned_next, scanned_given, scanned_left}
 use Rattle.ion_text.specs.machine.Passed.{said_passes}
 use Rattle.ion_text.specs.laws.reading.Places.{Leading, settle_same}
-use Rattle.ion_text.specs.laws.reading.Held.{Behind, Reads, Apart, ApartAt, Open, IsLongNow, open_apart, token_read, settled_read, nothing_open, or_parts}
+use Rattle.ion_text.specs.laws.reading.Held.{Behind, Reads, NoSegment, ApartAt, NoLongText, IsLongNow, open_apart, token_read, settled_read, nothing_open, or_parts}
 
 module _ (g : Catalog) (l : Limits) where
   -- what came of an octet
   abbrev pub After : List ℕ → List Value → ℕ → Effect → Type 0
-  After u vs o (uses m) = Behind g l Scanned (u ++ o ∷ []) vs m.scan m.reading [] (Open m.scan.mode)
-  After u vs o (tells v m) = Behind g l Scanned (u ++ o ∷ []) (vs ++ v ∷ []) m.scan m.reading [] (Open m.scan.mode)
+  After u vs o (uses m) = Behind g l Scanned (u ++ o ∷ []) vs m.scan m.reading [] (NoLongText m.scan.mode)
+  After u vs o (tells v m) = Behind g l Scanned (u ++ o ∷ []) (vs ++ v ∷ []) m.scan m.reading [] (NoLongText m.scan.mode)
   After u vs o (leaves v m) = (ahead : List ℕ) × Continues (o ∷ []) ahead × Behind g l Scanned u (vs ++ v ∷ []) m.scan m.reading ahead (ApartAt o m.scan m.reading)
   After u vs o (fails e) = Unit {0}
 
@@ -40,7 +40,7 @@ module _ (g : Catalog) (l : Limits) where
   worse_after u vs o e (tells v m) = tt
   worse_after u vs o e (leaves v m) = tt
 
-  noticed_after : (u : List ℕ) (vs : List Value) (o : ℕ) (r : Reading) (s : Known) → Behind g l Scanned (u ++ o ∷ []) vs s r [] (Open s.mode) → After u vs o (noticed l r s)
+  noticed_after : (u : List ℕ) (vs : List Value) (o : ℕ) (r : Reading) (s : Known) → Behind g l Scanned (u ++ o ∷ []) vs s r [] (NoLongText s.mode) → After u vs o (noticed l r s)
   noticed_after u vs o r s b = go (shut r.now && not (is_idle s.mode)) (nat_le (reaches r.frames r s) l.item)
     where
       go : (x y : Bool) → After u vs o (if x then fails reasons.Unexpected else (if y then uses (record { scan = s; reading = r }) else fails reasons.ItemTooLong))
@@ -53,7 +53,7 @@ module _ (g : Catalog) (l : Limits) where
     abbrev pub AtOctet : (State → Effect) → Type 0
     AtOctet again = (k : State) → Behind g l Scanned u vs k.scan k.reading (o ∷ []) (ApartAt o k.scan k.reading) → After u vs o (again k)
 
-    given_after : (s' : Known) (t : Turn) → Reads g l Scanned (u ++ o ∷ []) vs s' [] (λ r. Open s'.mode) t → After u vs o (behind_given l s' t)
+    given_after : (s' : Known) (t : Turn) → Reads g l Scanned (u ++ o ∷ []) vs s' [] (λ r. NoLongText s'.mode) t → After u vs o (behind_given l s' t)
     given_after s' (goes r) h = noticed_after u vs o r s' h
     given_after s' (gives v r) h = h.0
     given_after s' (refuses e) h = tt
@@ -82,9 +82,9 @@ module _ (g : Catalog) (l : Limits) where
           fine = fi;
         })
       where
-        go : IsLongNow r.now ⊎ ApartAt o s r → IsLongNow r.now ⊎ Open s'.mode
+        go : IsLongNow r.now ⊎ ApartAt o s r → IsLongNow r.now ⊎ NoLongText s'.mode
         go (inl h) = inl h
-        go (inr h) = inr (subst (λ x. Apart (is_top r.frames) x) e h)
+        go (inr h) = inr (subst (λ x. NoSegment (is_top r.frames) x) e h)
 
     said_after : (r : Result Content Reason) (f : Content → Effect) → ((c : Content) → r ≡ Ok c → After u vs o (f c)) → After u vs o (on_said r f)
     said_after (Ok c) f h = h c refl
@@ -95,14 +95,14 @@ module _ (g : Catalog) (l : Limits) where
     token_given s s' r ahead c b x e sane fi =
         said_after (said x.kind x.octets) (λ c. behind_given l s' (turn g l r (token_of x c)))
         (λ k h. given_after s' (turn g l r (token_of x k))
-        (token_read g l Scanned u vs s r ahead (ApartAt o s r) b x (λ a. (subst (λ y. Apart (is_top r.frames) y) e a, λ t. given_far x fi.1)) Scanned (u ++ o ∷ []) s' [] (λ n. Open s'.mode) k h
+        (token_read g l Scanned u vs s r ahead (ApartAt o s r) b x (λ a. (subst (λ y. NoSegment (is_top r.frames) y) e a, λ t. given_far x fi.1)) Scanned (u ++ o ∷ []) s' [] (λ n. NoLongText s'.mode) k h
         (λ q. scanned_given (place r) s u (b.front ++ b.item) ahead b.scanned o c s' x e (said_passes x.kind x.octets k h) q) sane fi.0))
 
     -- what a token that is left leads to
     pub left_reads : (s s' : Known) (r : Reading) (ahead : List ℕ) → Continues (o ∷ []) ahead → (b : Behind g l Scanned u vs s r ahead (ApartAt o s r)) → (x : Lexeme) → feed (place r) s o ≡ Left x s' → is_sane s'.mode ≡ true → Finely s.mode (Left x s') → (k : Content) → said x.kind x.octets ≡ Ok k
         → Reads g l Scanned u vs s' (o ∷ []) (λ n. ApartAt o s' n) (turn g l r (token_of x k))
     left_reads s s' r ahead c b x e sane fi k h =
-        token_read g l Scanned u vs s r ahead (ApartAt o s r) b x (λ a. (fi.1, λ t. left_none x.kind x.start x.end (unquoted (is_top r.frames) (is_quoted x.kind) t (subst (λ y. Apart (is_top r.frames) y) e a)))) Scanned u s' (o ∷ []) (λ n. ApartAt o s' n) k h
+        token_read g l Scanned u vs s r ahead (ApartAt o s r) b x (λ a. (fi.1, λ t. left_none x.kind x.start x.end (unquoted (is_top r.frames) (is_quoted x.kind) t (subst (λ y. NoSegment (is_top r.frames) y) e a)))) Scanned u s' (o ∷ []) (λ n. ApartAt o s' n) k h
         (λ q. scanned_left (place r) s u (b.front ++ b.item) ahead b.scanned o c s' x e (said_passes x.kind x.octets k h) q) sane fi.0
       where
         unquoted : (top quoted : Bool) → top ≡ true → (top && quoted) ≡ false → quoted ≡ false
@@ -150,7 +150,7 @@ module _ (g : Catalog) (l : Limits) where
     takes_after zero s r ahead c b = tt
     takes_after (suc n) s r ahead c b = octet_after s r ahead (λ k. takes g l n k o) c (λ k h. takes_after n k.scan k.reading (o ∷ []) ([], refl) h) b
 
-  unfoldable pub open_at : (u : List ℕ) (vs : List Value) (o : ℕ) (s : Known) (r : Reading) → Behind g l Scanned u vs s r [] (Open s.mode) → Behind g l Scanned u vs s r [] (ApartAt o s r)
+  unfoldable pub open_at : (u : List ℕ) (vs : List Value) (o : ℕ) (s : Known) (r : Reading) → Behind g l Scanned u vs s r [] (NoLongText s.mode) → Behind g l Scanned u vs s r [] (ApartAt o s r)
   open_at u vs o s r b = record {
     front = b.front;
     item = b.item;
@@ -166,13 +166,13 @@ module _ (g : Catalog) (l : Limits) where
     fine = b.fine;
   }
     where
-      go : IsLongNow r.now ⊎ Open s.mode → IsLongNow r.now ⊎ ApartAt o s r
+      go : IsLongNow r.now ⊎ NoLongText s.mode → IsLongNow r.now ⊎ ApartAt o s r
       go (inl h) = inl h
       go (inr h) = inr (open_apart (is_top r.frames) (place r) s o b.sane b.fine h)
 
   -- what stands for octets, between two of them
   abbrev pub Stood : List ℕ → List Value → State → Type 0
-  Stood u vs m = Behind g l Scanned u vs m.scan m.reading [] (Open m.scan.mode)
+  Stood u vs m = Behind g l Scanned u vs m.scan m.reading [] (NoLongText m.scan.mode)
 
   -- An octet leads to what stands for the octets with it.
   pub eats_after : (u : List ℕ) (vs : List Value) (m : State) (o : ℕ) → Stood u vs m → After u vs o (eats g l m o)
@@ -183,27 +183,27 @@ module _ (g : Catalog) (l : Limits) where
   HasPieces vs = (ts : List Placed) × (c : List Slot) × Pieces g l ts vs c
 
   -- what octets led to
-  abbrev pub Ran : List ℕ → List Value → Run → Type 0
-  Ran u vs r = NowRan r.now
+  abbrev pub StoodBehind : List ℕ → List Value → Run → Type 0
+  StoodBehind u vs r = NowRan r.now
     where
       NowRan : Result State Refusal → Type 0
       NowRan (Ok n) = Stood u (vs ++ plain r.given) n
       NowRan (Err e) = HasPieces (vs ++ plain r.given)
 
-  ran_more : (u : List ℕ) (vs : List Value) (v : Value) (to : ℕ) (r : Run) → Ran u (vs ++ v ∷ []) r → Ran u vs (with_value v to r)
+  ran_more : (u : List ℕ) (vs : List Value) (v : Value) (to : ℕ) (r : Run) → StoodBehind u (vs ++ v ∷ []) r → StoodBehind u vs (with_value v to r)
   ran_more u vs v to r h = go r.now h
     where
-      go : (n : Result State Refusal) → Ran u (vs ++ v ∷ []) (record { given = r.given; now = n }) → Ran u vs (record { given = (v, to) ∷ r.given; now = n })
+      go : (n : Result State Refusal) → StoodBehind u (vs ++ v ∷ []) (record { given = r.given; now = n }) → StoodBehind u vs (record { given = (v, to) ∷ r.given; now = n })
       go (Ok n) h = subst (λ x. Stood u x n) (append_assoc vs (v ∷ []) (plain r.given)) h
       go (Err e) h = subst HasPieces (append_assoc vs (v ∷ []) (plain r.given)) h
 
-  more_ran : (u w : List ℕ) (vs : List Value) (to o : ℕ) (rest : State → Run) → ((xs : List Value) (n : State) → Stood (u ++ o ∷ []) xs n → Ran w xs (rest n)) → (x : Effect) → HasPieces vs → After u vs o x → Ran w vs (once_more to rest x)
+  more_ran : (u w : List ℕ) (vs : List Value) (to o : ℕ) (rest : State → Run) → ((xs : List Value) (n : State) → Stood (u ++ o ∷ []) xs n → StoodBehind w xs (rest n)) → (x : Effect) → HasPieces vs → After u vs o x → StoodBehind w vs (once_more to rest x)
   more_ran u w vs to o rest f (uses m) p h = f vs m h
   more_ran u w vs to o rest f (tells v m) p h = ran_more w vs v (to + 1) (rest m) (f (vs ++ v ∷ []) m h)
   more_ran u w vs to o rest f (leaves v m) p h = subst HasPieces (sym (append-nil vs)) p
   more_ran u w vs to o rest f (fails e) p h = subst HasPieces (sym (append-nil vs)) p
 
-  octet_ran : (u w : List ℕ) (vs : List Value) (to o : ℕ) (rest : State → Run) → ((xs : List Value) (n : State) → Stood (u ++ o ∷ []) xs n → Ran w xs (rest n)) → (x : Effect) → HasPieces vs → After u vs o x → Ran w vs (run_on to (λ n. eats g l n o) rest x)
+  octet_ran : (u w : List ℕ) (vs : List Value) (to o : ℕ) (rest : State → Run) → ((xs : List Value) (n : State) → Stood (u ++ o ∷ []) xs n → StoodBehind w xs (rest n)) → (x : Effect) → HasPieces vs → After u vs o x → StoodBehind w vs (run_on to (λ n. eats g l n o) rest x)
   octet_ran u w vs to o rest f (uses m) p h = f vs m h
   octet_ran u w vs to o rest f (tells v m) p h = ran_more w vs v (to + 1) (rest m) (f (vs ++ v ∷ []) m h)
   octet_ran u w vs to o rest f (leaves v m) p h =
@@ -212,15 +212,15 @@ module _ (g : Catalog) (l : Limits) where
   octet_ran u w vs to o rest f (fails e) p h = subst HasPieces (sym (append-nil vs)) p
 
   -- Octets lead from what stands for those before to what stands for all.
-  pub run_ran : (os : List ℕ) (u : List ℕ) (vs : List Value) (to : ℕ) (m : State) → Stood u vs m → Ran (u ++ os) vs (run g l to m os)
+  pub run_ran : (os : List ℕ) (u : List ℕ) (vs : List Value) (to : ℕ) (m : State) → Stood u vs m → StoodBehind (u ++ os) vs (run g l to m os)
   run_ran [] u vs to m b = subst (λ x. Stood x (vs ++ []) m) (sym (append-nil u)) (subst (λ x. Stood u x m) (sym (append-nil vs)) b)
   run_ran (o ∷ os) u vs to m b =
       octet_ran u (u ++ o ∷ os) vs to o (λ n. run g l (to + 1) n os)
-      (λ xs n h. subst (λ x. Ran x xs (run g l (to + 1) n os)) (append_assoc u (o ∷ []) os) (run_ran os (u ++ o ∷ []) xs (to + 1) n h))
+      (λ xs n h. subst (λ x. StoodBehind x xs (run g l (to + 1) n os)) (append_assoc u (o ∷ []) os) (run_ran os (u ++ o ∷ []) xs (to + 1) n h))
       (eats g l m o) (b.front, m.reading.context, b.pieces) (eats_after u vs m o b)
 
   pub begun_stood : Stood [] [] begun
   begun_stood =
-      nothing_open g l Scanned [] [] initial system_slots [] [] (Open initial.mode)
+      nothing_open g l Scanned [] [] initial system_slots [] [] (NoLongText initial.mode)
       (record { behind = initial; front = []; left = []; since = []; told = Begun; pass = tt; ran = refl; cut = refl; next = inl (refl, refl) })
       begins (λ e. absurd cc) refl (record { enough = omega arith })

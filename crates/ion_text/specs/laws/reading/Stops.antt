@@ -21,7 +21,7 @@ use Rattle.ion_text.specs.Grammar.{Document}
 use Rattle.ion_text.specs.machine.EachToken.{Reading, Turn, goes, gives, refuses, late, place, settle, turn}
 use Rattle.ion_text.specs.machine.Run.{State, Effect, uses, tells, leaves, fails, begun, eats, Run, run, run_on, once_more, trace, ends_of, refused_of, cut_short, end_late, end_settled, end_turned, end_said, end_waiting, end_ready, end_now, is_fresh, token_of}
 use Rattle.ion_text.specs.machine.Pieces.{run-append, on_now, grows}
-use Rattle.ion_text.specs.laws.reading.Steps.{Stood, Ran, run_ran, begun_stood}
+use Rattle.ion_text.specs.laws.reading.Steps.{Stood, StoodBehind, run_ran, begun_stood}
 use Rattle.ion_text.specs.laws.reading.Admits.{stood_accepted}
 use Rattle.ion_text.specs.laws.reading.Accepts.{accepts}
 use Rattle.ion_text.specs.laws.reading.ValuesKept.{pieces_values}
@@ -191,7 +191,7 @@ module _ (g : Catalog) (l : Limits) where
   now_offset used n x nows.Name r h = ready_offset used n x r h
   now_offset used n x (nows.Keyed k) r h = ready_offset used n x r h
 
-  unfinished_now : (u : List ℕ) (given : List (Value × ℕ)) (now : Result State Refusal) (r : Refusal) → Ran g l u [] (record { given = given; now = now }) → refused_of now ≡ None → ends_of g l now ≡ Err r → r.offset ≡ length u
+  unfinished_now : (u : List ℕ) (given : List (Value × ℕ)) (now : Result State Refusal) (r : Refusal) → StoodBehind g l u [] (record { given = given; now = now }) → refused_of now ≡ None → ends_of g l now ≡ Err r → r.offset ≡ length u
   unfinished_now u given (Ok m) r b h e = now_offset m.scan.used m.reading (at_end (place m.reading) m.scan) m.reading.now r e ∙ stood_used u (plain given) m b
   unfinished_now u given (Err q) r b h e = absurd cc
 
@@ -204,11 +204,11 @@ module _ (g : Catalog) (l : Limits) where
   front_values (w ∷ s) v h = let k = front_values s v h.1 in ((h.0, k.0), k.1)
 
   -- behind octets, refused or not, the values given are those of whole pieces
-  given_values : (u : List ℕ) (given : List (Value × ℕ)) (now : Result State Refusal) → Ran g l u [] (record { given = given; now = now }) → NoTables (plain given)
+  given_values : (u : List ℕ) (given : List (Value × ℕ)) (now : Result State Refusal) → StoodBehind g l u [] (record { given = given; now = now }) → NoTables (plain given)
   given_values u given (Ok m) b = pieces_values g l b.front (plain given) m.reading.context b.pieces
   given_values u given (Err e) b = pieces_values g l b.0 (plain given) b.1 b.2
 
-  last_value : (u : List ℕ) (given : List (Value × ℕ)) (now : Result State Refusal) (v : Value) → Ran g l u [] (record { given = given; now = now }) → ends_of g l now ≡ Ok (Some v) → is_table v ≡ false
+  last_value : (u : List ℕ) (given : List (Value × ℕ)) (now : Result State Refusal) (v : Value) → StoodBehind g l u [] (record { given = given; now = now }) → ends_of g l now ≡ Ok (Some v) → is_table v ≡ false
   last_value u given (Ok m) v b e = let d = stood_accepted g l u (plain given) m (Some v) b e in (front_values (plain given) v (pieces_values g l d.tokens (plain given ++ v ∷ []) d.context d.pieces)).1
   last_value u given (Err q) v b e = absurd cc
 

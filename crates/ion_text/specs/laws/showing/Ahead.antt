@@ -16,7 +16,7 @@ use Rattle.ion_tokens.proofs.Wholes.{run_behind}
 use Rattle.ion_text.specs.Grammar.{BlankThen}
 use Rattle.ion_text.specs.machine.Pieces.{followed}
 use Rattle.ion_text.specs.laws.reading.Found.{next_is}
-use Rattle.ion_text.specs.laws.reading.Held.{Apart, Open}
+use Rattle.ion_text.specs.laws.reading.Held.{NoSegment, NoLongText}
 use Rattle.ion_text.specs.laws.reading.Meets.{LongOn, is_long_text, follows_as}
 use Rattle.ion_text.specs.laws.showing.Cuts.{begun_kept, parts_meet}
 use Rattle.ion_text.specs.laws.showing.Firsts.{long_run}
@@ -52,8 +52,8 @@ last_fed p xs o s t u e f =
     x.1 ∙ ap Next (next_is x.0 u x.2)
 
 -- a token that has begun and isn't one in quotes stays so
-open_kept : (p : Place) (os : List ℕ) (s t : Known) → is_sane s.mode ≡ true → Open s.mode → run p os s ≡ Next t → Open t.mode
-open_kept p [] s t h i e = subst (λ (x : Known). Open x.mode) (next_is s t e) i
+open_kept : (p : Place) (os : List ℕ) (s t : Known) → is_sane s.mode ≡ true → NoLongText s.mode → run p os s ≡ Next t → NoLongText t.mode
+open_kept p [] s t h i e = subst (λ (x : Known). NoLongText x.mode) (next_is s t e) i
 open_kept p (o ∷ os) s t h i e =
     let x = followed (feed p s o) (λ n. run p os n) t e in
     let f = follows_as p s o (Next x.0) h x.1 in
@@ -107,7 +107,7 @@ module _ (p : Place) (k : ℕ) (since : List ℕ) (s : Known) (o : ℕ) (sane : 
       ]
 
   -- Nor is one in the front of `''` that goes on with no long string.
-  pub octet_quotes : (colon : Bool) → run p since (at modes.Blank [] colon k k) ≡ Next s → Apart true (feed p s o) → is_long_text s.mode ≡ false → (following : List ℕ) → BlankThen (codes "''") (since ++ o ∷ following) → ⊥
+  pub octet_quotes : (colon : Bool) → run p since (at modes.Blank [] colon k k) ≡ Next s → NoSegment true (feed p s o) → is_long_text s.mode ≡ false → (following : List ℕ) → BlankThen (codes "''") (since ++ o ∷ following) → ⊥
   octet_quotes colon ran apart bare following (w, more, is, e) = by (parts_meet (since ++ o ∷ []) following (w ++ 39 ∷ []) (39 ∷ more) same)
     where
       same : (since ++ o ∷ []) ++ following ≡ (w ++ 39 ∷ []) ++ 39 ∷ more
@@ -132,11 +132,11 @@ module _ (p : Place) (k : ℕ) (since : List ℕ) (s : Known) (o : ℕ) (sane : 
       within' z f =
           let m = run_parted p (since ++ o ∷ []) z (at modes.Blank [] colon k k) one (ap (λ x. run p x (at modes.Blank [] colon k k)) (sym f) ∙ reached) in
           let fed = last_fed p since o (at modes.Blank [] colon k k) s m.0 ran m.1 in
-          let opened : Open (m.0).mode = subst (Apart true) fed apart in
+          let opened : NoLongText (m.0).mode = subst (NoSegment true) fed apart in
           never true (open_kept p z m.0 one (follows_as p s o (Next m.0) sane fed).0 opened m.2).1 refl
 
       -- behind two quotes
-      at_two : (b : Bool) → (o == 39) ≡ b → Apart true (acts p two o (if b then go_on (modes.Text styles.LongString within.Plain) else before kinds.QuotedSymbol)) → ⊥
+      at_two : (b : Bool) → (o == 39) ≡ b → NoSegment true (acts p two o (if b then go_on (modes.Text styles.LongString within.Plain) else before kinds.QuotedSymbol)) → ⊥
       at_two true f h = let z : true ≡ false = h.1 in cc
       at_two false f h = let z : true ≡ false = h in cc
 
@@ -148,14 +148,14 @@ module _ (p : Place) (k : ℕ) (since : List ℕ) (s : Known) (o : ℕ) (sane : 
       third c y false f h = cc
 
       behind_two : (y : List ℕ) → run p y two ≡ Next s → ⊥
-      behind_two [] h = at_two (o == 39) refl (subst (λ x. Apart true (feed p x o)) (sym (next_is two s h)) apart)
+      behind_two [] h = at_two (o == 39) refl (subst (λ x. NoSegment true (feed p x o)) (sym (next_is two s h)) apart)
       behind_two (c ∷ y) h = third c y (c == 39) refl h
 
       beyond : (y : List ℕ) → since ≡ (w ++ 39 ∷ []) ++ y → (y ++ o ∷ []) ++ following ≡ 39 ∷ more → ⊥
       beyond [] f g =
           let here : s ≡ one = next_is s one (sym ran ∙ (ap (λ x. run p x (at modes.Blank [] colon k k)) (f ∙ append-nil (w ++ 39 ∷ [])) ∙ reached)) in
           let quote : o ≡ 39 = cc in
-          let n : Open modes.Quotes = subst (λ x. Apart true (feed p one x)) quote (subst (λ x. Apart true (feed p x o)) here apart) in
+          let n : NoLongText modes.Quotes = subst (λ x. NoSegment true (feed p one x)) quote (subst (λ x. NoSegment true (feed p x o)) here apart) in
           let z : true ≡ false = n.1 in cc
       beyond (a ∷ y) f g =
           let quote : a ≡ 39 = cc in

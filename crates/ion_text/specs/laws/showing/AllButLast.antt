@@ -21,13 +21,13 @@ use Rattle.ion_tokens.specs.Lexed.{Placed, BeginsWith, LexesTo, colon_behind}
 use Rattle.ion_text.specs.Grammar.{Whole, ends_long}
 use Rattle.ion_text.specs.machine.EachToken.{Reading, Turn, goes, gives, refuses, late, fresh, settle}
 use Rattle.ion_text.specs.machine.Run.{State, begun, run, trace, ends_of, token_of}
-use Rattle.ion_text.specs.machine.TokenLists.{Walk, walked, stopped, adds, done, on_turn, then_walk, continues, reads, reads-append}
+use Rattle.ion_text.specs.machine.TokenLists.{Walk, walked, stopped, adds_values, done, on_turn, then_walk, continues, reads, reads-append}
 use Rattle.ion_text.specs.machine.Passed.{said_body}
 use Rattle.ion_text.specs.laws.reading.Complete.{segment_kind}
 use Rattle.ion_text.specs.laws.reading.Pieces.{GoesOn, ReadSoFar, pieces_read, quoted_kind}
 use Rattle.ion_text.specs.laws.reading.Going.{Going, TurnGoes, going_said, going_settle}
 use Rattle.ion_text.specs.laws.reading.Accepts.{accepts}
-use Rattle.ion_text.specs.laws.reading.Steps.{Ran, run_ran, begun_stood}
+use Rattle.ion_text.specs.laws.reading.Steps.{StoodBehind, run_ran, begun_stood}
 use Rattle.ion_text.specs.laws.showing.Alone.{whole_document}
 use Rattle.ion_text.specs.laws.showing.Compare.{Found', TopFirst, Compared, compare, lexes_once, begins_after}
 use Rattle.ion_text.specs.laws.showing.Cuts.{lexed_front, parted}
@@ -66,7 +66,7 @@ reading_in d (walked vs r) = r
 reading_in d stopped = d
 
 -- what comes of a walk behind values
-added : (us vs : List Value) (n : Reading) (w : Walk) → adds us w ≡ walked vs n → (ws : List Value) × (w ≡ walked ws n) × (vs ≡ us ++ ws)
+added : (us vs : List Value) (n : Reading) (w : Walk) → adds_values us w ≡ walked vs n → (ws : List Value) × (w ≡ walked ws n) × (vs ≡ us ++ ws)
 unfolding values_in reading_in
 added us vs n (walked ws m) e = (ws, ap (walked ws) (ap (reading_in n) e), sym (ap values_in e))
 added us vs n stopped e = cc
@@ -111,7 +111,7 @@ module _ (g : Catalog) (l : Limits) where
       -- tokens that begin with it give their values behind those of the pieces
       more_values : (xs : List Placed) (t : List Value) → Going g l (fresh system_slots) (a.tokens ++ x ∷ xs) t → (more : List Value) × (t ≡ s ++ more)
       more_values xs t d =
-          let walk : adds so_far.given (reads g l so_far.now (x ∷ xs)) ≡ walked d.vs d.n =
+          let walk : adds_values so_far.given (reads g l so_far.now (x ∷ xs)) ≡ walked d.vs d.n =
           sym (ap (λ w. then_walk w (λ k. reads g l k (x ∷ xs))) so_far.read) ∙ sym (reads-append g l a.tokens (x ∷ xs) (fresh system_slots)) ∙ d.read in
           let w = added so_far.given d.vs d.n (reads g l so_far.now (x ∷ xs)) walk in
           let on : Going g l so_far.now (x ∷ xs) (w.0 ++ d.later) = record { vs = w.0; later = d.later; n = d.n; c = d.c; read = w.1; ends = d.ends; whole = refl } in
@@ -177,7 +177,7 @@ module _ (g : Catalog) (l : Limits) where
       let x = run g l 0 begun u in
       by x.given x.now (run_ran g l u [] [] 0 begun (begun_stood g l)) (run_still g l u [] [] 0 begun (begun_stood g l) (λ f c. absurd (let n : false ≡ true = c in cc))) h.ends h.values
     where
-      by : (given : List (Value × ℕ)) (now : Result State Refusal) → Ran g l u [] (record { given = given; now = now }) → EndsStill g l now → ends_of g l now ≡ Ok h.last → s ≡ plain given ++ option_to_list h.last → AllButOne u s
+      by : (given : List (Value × ℕ)) (now : Result State Refusal) → StoodBehind g l u [] (record { given = given; now = now }) → EndsStill g l now → ends_of g l now ≡ Ok h.last → s ≡ plain given ++ option_to_list h.last → AllButOne u s
       by given (Err e) ran still ends values = cc
       by given (Ok m) ran still ends values =
           let f = stood_front g l u (plain given) m ran still in

@@ -178,7 +178,7 @@ same_front : (x y f : List ℕ) → x ++ f ≡ y ++ f → x ≡ y
 same_front x y f e = (parts_same x f y f e (omega (arith, ap length e, length-append x f, length-append y f))).0
 
 -- tokens that stand in octets before f: the blank and the octets of the first, and what is left before f
-record First (colon : Bool) (x f : List ℕ) (t : Placed) : Type 0 where
+record FirstToken (colon : Bool) (x f : List ℕ) (t : Placed) : Type 0 where
   blank : List ℕ
   token : List ℕ
   left : List ℕ
@@ -187,7 +187,7 @@ record First (colon : Bool) (x f : List ℕ) (t : Placed) : Type 0 where
   some : 0 < length token
   is : IsLexeme t.place colon token (left ++ f) t.lexeme.kind t.lexeme.octets
 
-first_token : (colon : Bool) (before : ℕ) (x f : List ℕ) (t : Placed) (ts : List Placed) (after : Bool) (end : ℕ) (blank : List ℕ) → Fronts colon before x f (t ∷ ts) after end blank → First colon x f t
+first_token : (colon : Bool) (before : ℕ) (x f : List ℕ) (t : Placed) (ts : List Placed) (after : Bool) (end : ℕ) (blank : List ℕ) → Fronts colon before x f (t ∷ ts) after end blank → FirstToken colon x f t
 first_token colon before x f t ts after end blank ((q, b, h), k) =
     let p = lexed_front ts (colon_behind t) t.lexeme.end q after end (blank ++ f) h in
     let left = p.0 ++ blank in
@@ -211,7 +211,7 @@ slash_last : (colon : Bool) (before : ℕ) (o : ℕ) (f : List ℕ) (ts : List P
 slash_last colon before o f [] after end blank (h, k) c = lone_slash (subst (λ x. IsBlank x) (sym (same_front (o ∷ []) blank f h.2) ∙ ap (λ y. y ∷ []) (slash_is o f c)) k)
 slash_last colon before o f (t ∷ ts) after end blank h c = go n.blank n.token n.left n.cut n.some n.is
   where
-    n : First colon (o ∷ []) f t
+    n : FirstToken colon (o ∷ []) f t
     n = first_token colon before (o ∷ []) f t ts after end blank h
 
     go : (front token left : List ℕ) → o ∷ [] ≡ front ++ (token ++ left) → 0 < length token → IsLexeme t.place colon token (left ++ f) t.lexeme.kind t.lexeme.octets → ⊥

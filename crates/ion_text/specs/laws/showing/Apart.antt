@@ -19,7 +19,7 @@ use Rattle.ion_tokens.specs.Lexed.{Placed, BeginsWith, LexesTo, colon_behind}
 use Rattle.ion_text.specs.Grammar.{Whole, ends_long, begins_as_long, is_two_quotes, is_long}
 use Rattle.ion_text.specs.machine.EachToken.{Reading, Turn, goes, gives, refuses, late, fresh, place, settle, turn}
 use Rattle.ion_text.specs.machine.Run.{token_of}
-use Rattle.ion_text.specs.machine.TokenLists.{walked, adds, done, on_turn, continues, reads}
+use Rattle.ion_text.specs.machine.TokenLists.{walked, adds_values, done, on_turn, continues, reads}
 use Rattle.ion_text.specs.machine.Passed.{said_body}
 use Rattle.ion_text.specs.laws.reading.Places.{Leading, settle_still}
 use Rattle.ion_text.specs.laws.reading.Complete.{Begins}
@@ -186,9 +186,9 @@ module _ (g : Catalog) (l : Limits) (front following : List ℕ) (s : List Value
     pub goes_behind : (more : List Value) × (all ≡ s ++ more) × Going g l (fresh w.context) (y ∷ ys) more
     goes_behind =
         let first : Begins g l places.Top (y ∷ ys) = record { first = y; later = ys; said = content; cut = refl; says = record { place = top; body = body }; no_colons = no_colons } in
-        let read : adds s (reads g l (fresh w.context) (y ∷ ys)) ≡ walked d.vs d.n = sym (more_read g l w.tokens (y ∷ ys) s w.context so_far first shut) ∙ d.read in
+        let read : adds_values s (reads g l (fresh w.context) (y ∷ ys)) ≡ walked d.vs d.n = sym (more_read g l w.tokens (y ∷ ys) s w.context so_far first shut) ∙ d.read in
         let there = adds_is g l s d.vs d.n (reads g l (fresh w.context) (y ∷ ys)) read in
-        let same = walked_now g l (s ++ there.0) d.vs d.n d.n (sym (ap (adds s) there.1) ∙ read) in (
+        let same = walked_now g l (s ++ there.0) d.vs d.n d.n (sym (ap (adds_values s) there.1) ∙ read) in (
           there.0 ++ d.later,
           d.whole ∙ (ap (λ x. x ++ d.later) (sym same.0) ∙ append_assoc s there.0 d.later),
           record { vs = there.0; later = d.later; n = d.n; c = d.c; read = there.1; ends = d.ends; whole = refl },

@@ -44,18 +44,18 @@ use Rattle.ion_text.specs.machine.EachToken.{Reading, Turn, goes, gives, refuses
 use Rattle.ion_text.specs.machine.Pieces.{run-append, then_run}
 use Rattle.ion_text.specs.machine.Run.{State, Effect, uses, tells, leaves, fails, Run, begun, is_top, is_fresh, shut, noticed, or_worse, token_of, with_scan, behind_given, behind_left, on_said, on_scan, on_settled, on_octet, unsettled, takes, eats, run, run_on, end_settled, end_turned, end_said, end_waiting, end_ready, ends, ends_of, reaches, trace}
 use Rattle.ion_text.specs.laws.reading.Admits.{late_never}
-use Rattle.ion_text.specs.laws.reading.Steps.{Ran, run_ran, begun_stood}
+use Rattle.ion_text.specs.laws.reading.Steps.{StoodBehind, run_ran, begun_stood}
 use Rattle.ion_text.specs.laws.showing.Unused.{is_plain, IsUntold, takes_untold, top_now, no_value, waiting_end, StandsSo, ends_so}
 
 -- 1. Where the end gives a value, the next octet gives no other one first.
 
-abbrev IsValue : Value → Effect → Type 0
-IsValue v (leaves w m) = w ≡ v
-IsValue v (uses m) = Unit {0}
-IsValue v (tells w m) = Unit {0}
-IsValue v (fails e) = Unit {0}
+abbrev LeavesValue : Value → Effect → Type 0
+LeavesValue v (leaves w m) = w ≡ v
+LeavesValue v (uses m) = Unit {0}
+LeavesValue v (tells w m) = Unit {0}
+LeavesValue v (fails e) = Unit {0}
 
-worse_value : (v : Value) (e : Reason) (x : Effect) → IsValue v (or_worse e x)
+worse_value : (v : Value) (e : Reason) (x : Effect) → LeavesValue v (or_worse e x)
 worse_value v e (fails f) = tt
 worse_value v e (uses m) = tt
 worse_value v e (tells w m) = tt
@@ -224,89 +224,89 @@ module _ (g : Catalog) (l : Limits) (used : ℕ) (v : Value) where
   this_end (refuses e) h = absurd cc
   this_end (late e r) h = absurd (late_never g l used e (Some v) h)
 
-  noticed_value : (r : Reading) (s : Known) → IsValue v (noticed l r s)
+  noticed_value : (r : Reading) (s : Known) → LeavesValue v (noticed l r s)
   noticed_value r s = go (shut r.now && not (is_idle s.mode)) (nat_le (reaches r.frames r s) l.item)
     where
-      go : (a b : Bool) → IsValue v (if a then fails reasons.Unexpected else (if b then uses (record { scan = s; reading = r }) else fails reasons.ItemTooLong))
+      go : (a b : Bool) → LeavesValue v (if a then fails reasons.Unexpected else (if b then uses (record { scan = s; reading = r }) else fails reasons.ItemTooLong))
       go true b = tt
       go false true = tt
       go false false = tt
 
-  given_value : (s : Known) (t : Turn) → IsValue v (behind_given l s t)
+  given_value : (s : Known) (t : Turn) → LeavesValue v (behind_given l s t)
   given_value s (goes r) = noticed_value r s
   given_value s (gives w r) = tt
   given_value s (refuses e) = tt
   given_value s (late e r) = worse_value v e (noticed l r s)
 
-  said_value : (s : Known) (r : Reading) (x : Lexeme) (c : Result Content Reason) → IsValue v (on_said c (λ c. behind_given l s (turn g l r (token_of x c))))
+  said_value : (s : Known) (r : Reading) (x : Lexeme) (c : Result Content Reason) → LeavesValue v (on_said c (λ c. behind_given l s (turn g l r (token_of x c))))
   said_value s r x (Ok c) = given_value s (turn g l r (token_of x c))
   said_value s r x (Err e) = tt
 
-  scan_value : (again : State → Effect) (r : Reading) (x : Outcome) → NoneLeft x → IsValue v (on_scan g l again r x)
+  scan_value : (again : State → Effect) (r : Reading) (x : Outcome) → NoneLeft x → LeavesValue v (on_scan g l again r x)
   scan_value again r (Next s) h = noticed_value r s
   scan_value again r (Given x s) h = said_value s r x (said x.kind x.octets)
   scan_value again r (Left x s) h = absurd h
   scan_value again r (Refused n e) h = tt
 
-  settled_value : (again : State → Effect) (s : Known) (x : Outcome) (t : Turn) → GivesThis v t → IsValue v (on_settled g l again s x t)
+  settled_value : (again : State → Effect) (s : Known) (x : Outcome) (t : Turn) → GivesThis v t → LeavesValue v (on_settled g l again s x t)
   settled_value again s x (gives w r) h = h
   settled_value again s x (goes r) h = absurd h
   settled_value again s x (refuses e) h = absurd h
   settled_value again s x (late e r) h = absurd h
 
   -- what waits is that value, and no token is open
-  still_value : (again : State → Effect) (m : State) (x : Outcome) → NoneLeft x → end_settled used (settle g l m.reading) ≡ Ok (Some v) → IsValue v (on_octet g l again m x)
+  still_value : (again : State → Effect) (m : State) (x : Outcome) → NoneLeft x → end_settled used (settle g l m.reading) ≡ Ok (Some v) → LeavesValue v (on_octet g l again m x)
   still_value again m x h e = go (unsettled m.scan m.reading x)
     where
-      go : (b : Bool) → IsValue v (if b then on_scan g l again m.reading x else on_settled g l again m.scan x (settle g l m.reading))
+      go : (b : Bool) → LeavesValue v (if b then on_scan g l again m.reading x else on_settled g l again m.scan x (settle g l m.reading))
       go true = scan_value again m.reading x h
       go false = settled_value again m.scan x (settle g l m.reading) (this_end (settle g l m.reading) e)
 
-  still_takes : (n o : ℕ) (m : State) → is_still m.scan.mode ≡ true → end_settled used (settle g l m.reading) ≡ Ok (Some v) → IsValue v (takes g l n m o)
+  still_takes : (n o : ℕ) (m : State) → is_still m.scan.mode ≡ true → end_settled used (settle g l m.reading) ≡ Ok (Some v) → LeavesValue v (takes g l n m o)
   still_takes zero o m h e = tt
   still_takes (suc n) o m h e = still_value (λ k. takes g l n k o) m (feed (place m.reading) m.scan o) (still_none (place m.reading) m.scan o h) e
 
   -- the open token is that value
-  left_value : (n o : ℕ) (s : Known) (t : Turn) → is_still s.mode ≡ true → end_turned g l used t ≡ Ok (Some v) → IsValue v (behind_left (λ k. takes g l n k o) s t)
+  left_value : (n o : ℕ) (s : Known) (t : Turn) → is_still s.mode ≡ true → end_turned g l used t ≡ Ok (Some v) → LeavesValue v (behind_left (λ k. takes g l n k o) s t)
   left_value n o s (goes r) h e = still_takes n o (with_scan s r) h e
   left_value n o s (gives w r) h e = let same : w ≡ v = cc in same
   left_value n o s (refuses f) h e = tt
   left_value n o s (late f r) h e = worse_value v f (takes g l n (with_scan s r) o)
 
-  token_value : (n o : ℕ) (r : Reading) (x : Lexeme) (c : Content) (y : Outcome) → IsLeft x y → said x.kind x.octets ≡ Ok c → end_turned g l used (turn g l r (token_of x c)) ≡ Ok (Some v) → IsValue v (on_scan g l (λ k. takes g l n k o) r y)
+  token_value : (n o : ℕ) (r : Reading) (x : Lexeme) (c : Content) (y : Outcome) → IsLeft x y → said x.kind x.octets ≡ Ok c → end_turned g l used (turn g l r (token_of x c)) ≡ Ok (Some v) → LeavesValue v (on_scan g l (λ k. takes g l n k o) r y)
   token_value n o r x c (Next s) h k e = noticed_value r s
   token_value n o r x c (Given y s) h k e = said_value s r y (said y.kind y.octets)
   token_value n o r x c (Refused m f) h k e = tt
   token_value n o r x c (Left y s) h k e =
-      subst (λ (z : Lexeme). IsValue v (on_said (said z.kind z.octets) (λ d. behind_left (λ k. takes g l n k o) s (turn g l r (token_of z d))))) (sym h.0)
-      (subst (λ z. IsValue v (on_said z (λ d. behind_left (λ k. takes g l n k o) s (turn g l r (token_of x d))))) (sym k)
+      subst (λ (z : Lexeme). LeavesValue v (on_said (said z.kind z.octets) (λ d. behind_left (λ k. takes g l n k o) s (turn g l r (token_of z d))))) (sym h.0)
+      (subst (λ z. LeavesValue v (on_said z (λ d. behind_left (λ k. takes g l n k o) s (turn g l r (token_of x d))))) (sym k)
       (left_value n o s (turn g l r (token_of x c)) h.1 e))
 
   ready_value : (o start : ℕ) (c : List Slot) (fs : List Frame) (ss : Symbols) (s : Known) → is_top fs ≡ true → is_plain s.mode ≡ true
-      → end_ready g l used (at start c fs ss nows.Ready) (at_end (place (at start c fs ss nows.Ready)) s) ≡ Ok (Some v) → IsValue v (eats g l (record { scan = s; reading = at start c fs ss nows.Ready }) o)
+      → end_ready g l used (at start c fs ss nows.Ready) (at_end (place (at start c fs ss nows.Ready)) s) ≡ Ok (Some v) → LeavesValue v (eats g l (record { scan = s; reading = at start c fs ss nows.Ready }) o)
   ready_value o start c (f ∷ fs) ss s top plain h = absurd cc
   ready_value o start c [] ss s top plain h = go (at_end places.Top s) refl h
     where
       r : Reading
       r = at start c [] ss nows.Ready
 
-      said_so : (x : Lexeme) → at_end places.Top s ≡ Ok (Some x) → (d : Result Content Reason) → said x.kind x.octets ≡ d → end_said g l used r x d ≡ Ok (Some v) → IsValue v (eats g l (record { scan = s; reading = r }) o)
+      said_so : (x : Lexeme) → at_end places.Top s ≡ Ok (Some x) → (d : Result Content Reason) → said x.kind x.octets ≡ d → end_said g l used r x d ≡ Ok (Some v) → LeavesValue v (eats g l (record { scan = s; reading = r }) o)
       said_so x e (Ok d) k h = token_value 2 o r x d (feed places.Top s o) (same_left places.Top s o x d refl plain e k) k h
       said_so x e (Err f) k h = absurd cc
 
-      go : (x : Result (Option Lexeme) Reason) → at_end places.Top s ≡ x → end_ready g l used r x ≡ Ok (Some v) → IsValue v (eats g l (record { scan = s; reading = r }) o)
+      go : (x : Result (Option Lexeme) Reason) → at_end places.Top s ≡ x → end_ready g l used r x ≡ Ok (Some v) → LeavesValue v (eats g l (record { scan = s; reading = r }) o)
       go (Ok None) e h = absurd (no_value g l (is_fresh r) used v h)
       go (Ok (Some x)) e h = said_so x e (said x.kind x.octets) refl h
       go (Err f) e h = absurd cc
 
-  waits_value : (o : ℕ) (m : State) → end_waiting g l used (at_end (place m.reading) m.scan) (settle g l m.reading) ≡ Ok (Some v) → IsValue v (eats g l m o)
+  waits_value : (o : ℕ) (m : State) → end_waiting g l used (at_end (place m.reading) m.scan) (settle g l m.reading) ≡ Ok (Some v) → LeavesValue v (eats g l m o)
   waits_value o m h =
       let w = waiting_end g l used (at_end (place m.reading) m.scan) (settle g l m.reading) v h in
       still_takes 3 o m (blank_still (place m.reading) m.scan w.0) (subst (λ x. end_waiting g l used x (settle g l m.reading) ≡ Ok (Some v)) w.0 h)
 
 module _ (g : Catalog) (l : Limits) where
   ends_value : (o : ℕ) (s : Known) (start : ℕ) (c : List Slot) (fs : List Frame) (ss : Symbols) (now : Now) (v : Value) → StandsSo g l s (at start c fs ss now)
-      → ends g l (record { scan = s; reading = at start c fs ss now }) ≡ Ok (Some v) → IsValue v (eats g l (record { scan = s; reading = at start c fs ss now }) o)
+      → ends g l (record { scan = s; reading = at start c fs ss now }) ≡ Ok (Some v) → LeavesValue v (eats g l (record { scan = s; reading = at start c fs ss now }) o)
   ends_value o s start c fs ss (nows.Pending k e) v so h = waits_value g l s.used v o (record { scan = s; reading = at start c fs ss (nows.Pending k e) }) h
   ends_value o s start c fs ss (nows.Long w e) v so h = waits_value g l s.used v o (record { scan = s; reading = at start c fs ss (nows.Long w e) }) h
   ends_value o s start c fs ss nows.Ready v so h = ready_value g l s.used v o start c fs ss s so.1.0 so.0 h
@@ -324,13 +324,13 @@ module _ (g : Catalog) (l : Limits) (u : List ℕ) (o : ℕ) (v w : Value) (tota
   effect_total to again rest (leaves x n) i none h = let same : Path (Value × ℕ) (x, to) (w, total) = cc in sym (ap (λ (y : Value × ℕ). y.1) same)
   effect_total to again rest (fails e) i none h = absurd cc
 
-  effect_value : (to : ℕ) (again : State → Effect) (rest : State → Run) (e : Effect) → IsUntold e → IsValue v e → ((n : State) → (rest n).given ≡ []) → (run_on to again rest e).given ≡ (w, total) ∷ later → w ≡ v
+  effect_value : (to : ℕ) (again : State → Effect) (rest : State → Run) (e : Effect) → IsUntold e → LeavesValue v e → ((n : State) → (rest n).given ≡ []) → (run_on to again rest e).given ≡ (w, total) ∷ later → w ≡ v
   effect_value to again rest (uses n) i j none h = absurd (let never : [] ≡ (w, total) ∷ later = sym (none n) ∙ h in cc)
   effect_value to again rest (tells x n) i j none h = absurd i
   effect_value to again rest (leaves x n) i j none h = let same : Path (Value × ℕ) (x, to) (w, total) = cc in sym (ap (λ (y : Value × ℕ). y.0) same) ∙ j
   effect_value to again rest (fails e) i j none h = absurd cc
 
-  unused_now : (given : List (Value × ℕ)) (now : Result State Refusal) → Ran g l u [] (record { given = given; now = now }) → run g l 0 begun u ≡ record { given = given; now = now } → ends_of g l now ≡ Ok (Some v)
+  unused_now : (given : List (Value × ℕ)) (now : Result State Refusal) → StoodBehind g l u [] (record { given = given; now = now }) → run g l 0 begun u ≡ record { given = given; now = now } → ends_of g l now ≡ Ok (Some v)
       → (run g l 0 begun (u ++ o ∷ [])).given ≡ given ++ (w, total) ∷ later → (total ≡ length u) × (w ≡ v)
   unused_now given (Err e) b ran h k = absurd cc
   unused_now given (Ok m) b ran h k =

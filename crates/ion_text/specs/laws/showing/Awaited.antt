@@ -18,15 +18,15 @@ use Rattle.ion_text.specs.machine.Run.{in_segment, is_top, unsettled, waits, wai
 use Rattle.ion_text.specs.laws.reading.Complete.{ends_behind, segments_long}
 use Rattle.ion_text.specs.laws.reading.Held.{ApartAt}
 use Rattle.ion_text.specs.laws.reading.Meets.{is_long_text}
-use Rattle.ion_text.specs.laws.reading.Sound.{LongFor, NowStands, end_now}
+use Rattle.ion_text.specs.laws.reading.Sound.{LongFor, NowStands, end_of_now}
 use Rattle.ion_text.specs.laws.reading.Spans.{IsWaiting, settle_spans}
 use Rattle.ion_text.specs.laws.reading.Going.{Going, TurnEnds, going_ends, settled_bound}
 use Rattle.ion_text.specs.laws.reading.Segments.{in_text}
-use Rattle.ion_text.specs.laws.showing.Cuts.{Behind, behind_tokens}
+use Rattle.ion_text.specs.laws.showing.Cuts.{OpenBehind, behind_tokens}
 use Rattle.ion_text.specs.laws.showing.Opened.{going_behind, inside_place, waits_there, no_colons, no_quotes}
 use Rattle.ion_text.specs.laws.showing.Told.{given_colons, given_segment, left_quotes, long_fits, next_segment, text_quotes, waits_fits}
 use Rattle.ion_text.specs.laws.showing.Halting.{follows}
-use Rattle.ion_text.specs.laws.showing.Halts.{Halted, Ends, Stops, StopsAt}
+use Rattle.ion_text.specs.laws.showing.Halts.{Halted, TurnRefuses, ScanRefused, StopsAt}
 use Rattle.ion_text.specs.laws.showing.Unended.{used, waited}
 
 module _ (g : Catalog) (l : Limits) (u : List ℕ) (o : ℕ) (vs : List Value) (h : Halted g l u o vs) (x : Placed) (xs : List Placed) (some : h.b.item ≡ x ∷ xs) where
@@ -42,7 +42,7 @@ module _ (g : Catalog) (l : Limits) (u : List ℕ) (o : ℕ) (vs : List Value) (
   abbrev A : Type 0
   A = ApartAt o h.s h.r
 
-  abbrev k : Behind p s u (h.b.front ++ h.b.item) h.ahead
+  abbrev k : OpenBehind p s u (h.b.front ++ h.b.item) h.ahead
   k = behind_tokens p s u (h.b.front ++ h.b.item) h.ahead h.b.scanned
 
   module _ (following : List ℕ) (v rest : List ℕ) (t : List Value) (cut : u ≡ v ++ rest) (w : Whole g l v (rest ++ o ∷ following) t) (e : w.tokens ≡ h.b.front ++ h.b.item) where
@@ -65,8 +65,8 @@ module _ (g : Catalog) (l : Limits) (u : List ℕ) (o : ℕ) (vs : List Value) (
     ends = going_ends g l r on.0 on.1
 
     -- what waits ended within the limit
-    bound : end_now r.now 0 ≤ r.start + l.item
-    bound = settled_bound g l r.start (end_now r.now 0) r.frames (settle g l r) [] on.0 (ap is_top none_open) (settle_spans g l r.start r.context r.frames r.notes r.now 0 there.0) (inr ends)
+    bound : end_of_now r.now 0 ≤ r.start + l.item
+    bound = settled_bound g l r.start (end_of_now r.now 0) r.frames (settle g l r) [] on.0 (ap is_top none_open) (settle_spans g l r.start r.context r.frames r.notes r.now 0 there.0) (inr ends)
 
     shuts_colons : k.colon ≡ true → BlankThen (codes "::") (k.since ++ o ∷ following) → ⊥
     shuts_colons = no_colons g l u vs s r h.ahead A h.b (used g l u o vs h x xs some) x xs some (o ∷ following) (follows g l u o vs h following) v rest t cut w e
@@ -83,8 +83,8 @@ module _ (g : Catalog) (l : Limits) (u : List ℕ) (o : ℕ) (vs : List Value) (
           or_none true = refl
           or_none false = refl
 
-      symbol_stops : (y : Outcome) → feed p s o ≡ y → waits_now (is_top r.frames) (nows.Pending q end) y ≡ true → Stops g l r y → ⊥
-      symbol_stops (Next n) f i (z, m) = waits_fits l r n none_open q end now (subst (λ n. end_now n 0 ≤ r.start + l.item) now bound) z m
+      symbol_stops : (y : Outcome) → feed p s o ≡ y → waits_now (is_top r.frames) (nows.Pending q end) y ≡ true → ScanRefused g l r y → ⊥
+      symbol_stops (Next n) f i (z, m) = waits_fits l r n none_open q end now (subst (λ n. end_of_now n 0 ≤ r.start + l.item) now bound) z m
       symbol_stops (Given y n) f i m = let z = given_colons p k.colon k.end s k.since o k.holds y n f i in shuts_colons z.0 (z.1 following)
       symbol_stops (Left y n) f i m = absurd cc
       symbol_stops (Refused n z) f i m = absurd cc
@@ -100,17 +100,17 @@ module _ (g : Catalog) (l : Limits) (u : List ℕ) (o : ℕ) (vs : List Value) (
       quoted true b i = i
       quoted false b i = absurd cc
 
-      waiting : (y : Outcome) → feed p s o ≡ y → waits_now (is_top r.frames) (nows.Long q end) y ≡ true → Stops g l r y → ⊥
+      waiting : (y : Outcome) → feed p s o ≡ y → waits_now (is_top r.frames) (nows.Long q end) y ≡ true → ScanRefused g l r y → ⊥
       waiting (Next n) f i (z, m) = go (is_long_text n.mode) refl
         where
           go : (b : Bool) → is_long_text n.mode ≡ b → ⊥
           go true j = shuts_quotes long_there (next_segment p k.colon k.end s k.since o k.holds n f j following)
-          go false j = long_fits l r n none_open q end now (subst (λ n. end_now n 0 ≤ r.start + l.item) now bound) j z m
+          go false j = long_fits l r n none_open q end now (subst (λ n. end_of_now n 0 ≤ r.start + l.item) now bound) j z m
       waiting (Given y n) f i m = shuts_quotes long_there (given_segment p k.colon k.end s k.since o k.holds y n f i following)
       waiting (Left y n) f i m = shuts_quotes long_there (left_quotes p k.colon k.end s k.since o k.holds y n h.b.fine f (quoted (is_top r.frames) (is_quoted y.kind) i) following)
       waiting (Refused n z) f i m = absurd cc
 
-      long_stops : unsettled s r (feed p s o) ≡ true → Stops g l r (feed p s o) → ⊥
+      long_stops : unsettled s r (feed p s o) ≡ true → ScanRefused g l r (feed p s o) → ⊥
       long_stops i m = go (waits r (feed p s o)) refl (in_segment r.now s) refl i
         where
           go : (b : Bool) → waits r (feed p s o) ≡ b → (y : Bool) → in_segment r.now s ≡ y → (b || y) ≡ true → ⊥
@@ -118,7 +118,7 @@ module _ (g : Catalog) (l : Limits) (u : List ℕ) (o : ℕ) (vs : List Value) (
           go false f true j n = shuts_quotes long_there (text_quotes p k.colon k.end s k.since (o ∷ following) k.holds (in_text s q end (ap (λ m. in_segment m s) (sym now) ∙ j)))
           go false f false j n = absurd cc
 
-    ends_not : (y : Turn) → TurnEnds g l y on.0 → Ends g l y → ⊥
+    ends_not : (y : Turn) → TurnEnds g l y on.0 → TurnRefuses g l y → ⊥
     ends_not (goes m) i j = j
     ends_not (gives v' m) i j = j
     ends_not (refuses z) i j = i
@@ -130,7 +130,7 @@ module _ (g : Catalog) (l : Limits) (u : List ℕ) (o : ℕ) (vs : List Value) (
     settles_not : settle g l r ≡ goes r → ⊥
     settles_not i = let m = subst (λ y. TurnEnds g l y on.0) i ends in fresh_not (ap (λ (y : Reading). y.now) m.0.1)
 
-    unsettled_stops : unsettled s r (feed p s o) ≡ true → Stops g l r (feed p s o) → ⊥
+    unsettled_stops : unsettled s r (feed p s o) ≡ true → ScanRefused g l r (feed p s o) → ⊥
     unsettled_stops i m = go r.now refl there.0
       where
         go : (n : Now) → r.now ≡ n → IsWaiting g l n → ⊥

@@ -9,10 +9,10 @@ use Rattle.ion_tokens.specs.machine.Scanned.{Scanned}
 use Rattle.ion_tokens.specs.machine.Scanning.{start_of}
 use Rattle.ion_text.specs.Grammar.{Whole, OpenRest}
 use Rattle.ion_text.specs.machine.Run.{State, is_fresh}
-use Rattle.ion_text.specs.laws.reading.Held.{Open}
+use Rattle.ion_text.specs.laws.reading.Held.{NoLongText}
 use Rattle.ion_text.specs.laws.reading.Admits.{no_item}
 use Rattle.ion_text.specs.laws.reading.Steps.{Stood}
-use Rattle.ion_text.specs.laws.showing.Symbols.{Still}
+use Rattle.ion_text.specs.laws.showing.Symbols.{HasBegun}
 use Rattle.ion_text.specs.laws.showing.Fronts.{stood_front, no_tokens}
 use Rattle.ion_text.specs.laws.showing.Within.{Within}
 use Rattle.ion_text.specs.laws.showing.OpenRests.{open_rest}
@@ -20,7 +20,7 @@ use Rattle.ion_text.specs.laws.showing.Longest.{longest_between}
 use Rattle.ion_text.specs.laws.showing.Froms.{Waits}
 use Rattle.ion_text.specs.laws.showing.Opened.{longest_open}
 
-module _ (g : Catalog) (l : Limits) (u : List ℕ) (vs : List Value) (m : State) (b : Stood g l u vs m) (still : Still g l m.scan m.reading) where
+module _ (g : Catalog) (l : Limits) (u : List ℕ) (vs : List Value) (m : State) (b : Stood g l u vs m) (still : HasBegun g l m.scan m.reading) where
   -- no whole pieces at the front of the octets are longer than this
   abbrev NoneLonger : List ℕ → Type 0
   NoneLonger front = (v rest : List ℕ) (t : List Value) → u ≡ v ++ rest → ArePieces (Whole g l) v rest t → length v ≤ length front
@@ -29,14 +29,14 @@ module _ (g : Catalog) (l : Limits) (u : List ℕ) (vs : List Value) (m : State)
   between : is_fresh m.reading ≡ true → NoneLonger (stood_front g l u vs m b still).front
   between f v rest t e w =
       let x = stood_front g l u vs m b still in
-      let none = no_item g l Scanned u vs m.scan m.reading [] (Open m.scan.mode) b f in
+      let none = no_item g l Scanned u vs m.scan m.reading [] (NoLongText m.scan.mode) b f in
       let ends : length x.front ≡ start_of m.scan.mode m.scan.start m.scan.used = x.ends ∙ ap (λ (y : Bool). if y then start_of m.scan.mode m.scan.start m.scan.used else m.reading.start) f in
       let i = longest_between g l u vs m b none v rest t e w in
       omega (arith, i, ends)
 
   -- in an item, they are too
   within_item : Waits g l m.scan m.reading.now → is_fresh m.reading ≡ false → (item : List Placed) → b.item ≡ item → NoneLonger (stood_front g l u vs m b still).front
-  within_item wait f [] e = between (no_tokens g l u vs m.scan m.reading [] [] (Open m.scan.mode) b ([], refl) e).0
+  within_item wait f [] e = between (no_tokens g l u vs m.scan m.reading [] [] (NoLongText m.scan.mode) b ([], refl) e).0
   within_item wait f (t ∷ ts) e = λ v rest s i w.
       let x = stood_front g l u vs m b still in
       let ends : length x.front ≡ m.reading.start = x.ends ∙ ap (λ (y : Bool). if y then start_of m.scan.mode m.scan.start m.scan.used else m.reading.start) f in

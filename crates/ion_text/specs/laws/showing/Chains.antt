@@ -23,7 +23,7 @@ use Rattle.ion_text.specs.machine.Run.{State, Effect, takes, waits, waits_now, i
 use Rattle.ion_text.specs.laws.reading.Places.{Leading, settle_same, settle_still}
 use Rattle.ion_text.specs.machine.Passed.{said_body}
 use Rattle.ion_text.specs.laws.reading.Sound.{IsStruct, NowStands}
-use Rattle.ion_text.specs.laws.reading.Held.{Reads, ApartAt, Open, IsLongNow, or_parts, settled_read}
+use Rattle.ion_text.specs.laws.reading.Held.{Reads, ApartAt, NoLongText, IsLongNow, or_parts, settled_read}
 use Rattle.ion_text.specs.laws.reading.Admits.{no_item}
 use Rattle.ion_text.specs.laws.reading.Meets.{is_long_text}
 use Rattle.ion_text.specs.laws.reading.Segments.{never, no_text}
@@ -32,27 +32,27 @@ use Rattle.ion_text.specs.laws.reading.Going.{top_place}
 use Rattle.ion_text.specs.laws.reading.Accepts.{mark_said}
 use Rattle.ion_text.specs.laws.reading.Fuel.{NotLeaves, noticed_stays, given_stays, said_stays}
 use Rattle.ion_text.specs.laws.reading.Steps.{Stood, open_at}
-use Rattle.ion_text.specs.laws.showing.Symbols.{Still}
+use Rattle.ion_text.specs.laws.showing.Symbols.{HasBegun}
 use Rattle.ion_text.specs.laws.showing.Froms.{Waits, IsFree, fresh_parts, free_waits, settle_free}
 use Rattle.ion_text.specs.laws.showing.Cuts.{behind_tokens}
 use Rattle.ion_text.specs.laws.showing.Exacts.{exact_at, long_colon, behind_used, top_none}
-use Rattle.ion_text.specs.laws.showing.Halts.{Again, Before, Chain, Ends, Enough, Gave, Kept, NotColons, idle_colon, idle_no_text, mark_colons, quoting_no_text, scan_chain, symbol_colons, worse_chain}
+use Rattle.ion_text.specs.laws.showing.Halts.{ChainsAgain, Before, Chain, TurnRefuses, Enough, GaveBefore, Kept, NotColons, idle_colon, idle_no_text, mark_colons, quoting_no_text, scan_chain, symbol_colons, worse_chain}
 
 module _ (g : Catalog) (l : Limits) where
   module _ (u : List ℕ) (o : ℕ) where
     module _ (vs : List Value) where
       -- where it was settled before the octet
-      module _ (n : ℕ) (again : Again g l u o vs n) (s : Known) (r : Reading) (ahead : List ℕ) (next : Continues (o ∷ []) ahead) (b : Before g l u o vs s r ahead) (kept : Kept g l u o vs s r ahead b) (enough : Enough (suc n) s o) (shut : unsettled s r (feed (place r) s o) ≡ false) where
+      module _ (n : ℕ) (again : ChainsAgain g l u o vs n) (s : Known) (r : Reading) (ahead : List ℕ) (next : Continues (o ∷ []) ahead) (b : Before g l u o vs s r ahead) (kept : Kept g l u o vs s r ahead b) (enough : Enough (suc n) s o) (shut : unsettled s r (feed (place r) s o) ≡ false) where
         abbrev not_waiting : waits r (feed (place r) s o) ≡ false
         not_waiting = (or_parts (waits r (feed (place r) s o)) (in_segment r.now s) shut).0
 
         -- what is known of the octet where something waited at the top level
-        record Shows : Type 0 where
+        record ShownAtTop : Type 0 where
           colons : is_top r.frames ≡ true → s.colon ≡ true → NotColons (feed (place r) s o)
           bare : is_top r.frames ≡ true → is_long_text s.mode ≡ false
           colon : is_top r.frames ≡ true → (y : Lexeme) (t : Known) → feed (place r) s o ≡ Left y t → y.kind ≡ kinds.Mark marks.Colon
 
-        settled : Shows → (z : Turn) → settle g l r ≡ z → Reads g l Scanned u vs s ahead (λ n. ApartAt o s n) z → Leading g l (λ n. (place n ≡ place r) × (is_top n.frames ≡ is_top r.frames)) z
+        settled : ShownAtTop → (z : Turn) → settle g l r ≡ z → Reads g l Scanned u vs s ahead (λ n. ApartAt o s n) z → Leading g l (λ n. (place n ≡ place r) × (is_top n.frames ≡ is_top r.frames)) z
             → Leading g l (λ n. IsFree g l n.now) z → Leading g l (λ n. settle g l n ≡ goes n) z → Chain g l u o vs (on_settled g l (λ k. takes g l n k o) s (feed (place r) s o) z)
         settled sh (goes m) f h i j q =
             subst (λ p. Chain g l u o vs (on_scan g l (λ k. takes g l n k o) m (feed p s o))) i.0
@@ -75,11 +75,11 @@ module _ (g : Catalog) (l : Limits) where
               fresh = h.1;
               colon = λ y t e. sh.colon top y t (ap (λ p. feed p s o) (sym i.0) ∙ e);
             }
-        settled sh (refuses z) f h i j q = record { s = s; r = r; ahead = ahead; next = next; b = b; kept = kept; stops = inr (shut, subst (Ends g l) (sym f) tt) }
+        settled sh (refuses z) f h i j q = record { s = s; r = r; ahead = ahead; next = next; b = b; kept = kept; stops = inr (shut, subst (TurnRefuses g l) (sym f) tt) }
         settled sh (late z m) f h i j q =
-            worse_chain g l u o vs z (on_scan g l (λ k. takes g l n k o) m (feed (place r) s o)) (record { s = s; r = r; ahead = ahead; next = next; b = b; kept = kept; stops = inr (shut, subst (Ends g l) (sym f) tt) })
+            worse_chain g l u o vs z (on_scan g l (λ k. takes g l n k o) m (feed (place r) s o)) (record { s = s; r = r; ahead = ahead; next = next; b = b; kept = kept; stops = inr (shut, subst (TurnRefuses g l) (sym f) tt) })
 
-        waited : Shows → Chain g l u o vs (on_settled g l (λ k. takes g l n k o) s (feed (place r) s o) (settle g l r))
+        waited : ShownAtTop → Chain g l u o vs (on_settled g l (λ k. takes g l n k o) s (feed (place r) s o) (settle g l r))
         waited sh =
             settled sh (settle g l r) refl (settled_read g l Scanned u vs s ahead o r.start r.context r.frames r.notes r.now b not_waiting) (settle_same g l r.start r.context r.frames r.notes r.now)
             (settle_free g l r.start r.context r.frames r.notes r.now) (settle_still g l r.start r.context r.frames r.notes r.now)
@@ -134,19 +134,19 @@ module _ (g : Catalog) (l : Limits) where
             go nows.Name e = still (same nows.Name e refl)
             go (nows.Keyed k) e = still (same (nows.Keyed k) e refl)
 
-      octet_chain : (n : ℕ) → Again g l u o vs n → (s : Known) (r : Reading) (ahead : List ℕ) → Continues (o ∷ []) ahead → (b : Before g l u o vs s r ahead) → Kept g l u o vs s r ahead b → Enough (suc n) s o → Chain g l u o vs (on_octet g l (λ k. takes g l n k o) (with_scan s r) (feed (place r) s o))
+      octet_chain : (n : ℕ) → ChainsAgain g l u o vs n → (s : Known) (r : Reading) (ahead : List ℕ) → Continues (o ∷ []) ahead → (b : Before g l u o vs s r ahead) → Kept g l u o vs s r ahead b → Enough (suc n) s o → Chain g l u o vs (on_octet g l (λ k. takes g l n k o) (with_scan s r) (feed (place r) s o))
       octet_chain n again s r ahead next b kept enough = go (unsettled s r (feed (place r) s o)) refl
         where
           go : (w : Bool) → unsettled s r (feed (place r) s o) ≡ w → Chain g l u o vs (if w then on_scan g l (λ k. takes g l n k o) r (feed (place r) s o) else on_settled g l (λ k. takes g l n k o) s (feed (place r) s o) (settle g l r))
           go true e = scan_chain g l u o vs n again s r ahead next b kept enough (inl e) (feed (place r) s o) refl
           go false e = settle_chain n again s r ahead next b kept enough e
 
-      takes_chain : (n : ℕ) → Again g l u o vs n
+      takes_chain : (n : ℕ) → ChainsAgain g l u o vs n
       takes_chain zero s r ahead next b kept enough = absurd enough
       takes_chain (suc n) s r ahead next b kept enough = octet_chain n (takes_chain n) s r ahead next b kept enough
 
     -- What an octet does behind octets of which none is refused.
-    pub eats_chain : (vs : List Value) (m : State) → Stood g l u vs m → Still g l m.scan m.reading → Waits g l m.scan m.reading.now → Chain g l u o vs (takes g l 3 m o)
+    pub eats_chain : (vs : List Value) (m : State) → Stood g l u vs m → HasBegun g l m.scan m.reading → Waits g l m.scan m.reading.now → Chain g l u o vs (takes g l 3 m o)
     unfolding open_at
     eats_chain vs m b begun_still wait = takes_chain vs 3 m.scan m.reading [] (o ∷ [], refl) (open_at g l u vs o m.scan m.reading b) (record { colons = colons; waits = λ top. wait; bare = bare }) tt
       where
@@ -163,18 +163,18 @@ module _ (g : Catalog) (l : Limits) where
             go (Refused n e) k = tt
 
         bare : is_fresh m.reading ≡ true → ends_long b.front ≡ true → is_long_text m.scan.mode ≡ false
-        bare f h = by (b.apart (ap ends_long (ap (λ y. b.front ++ y) (no_item g l Scanned u vs m.scan m.reading [] (Open m.scan.mode) b f) ∙ append-nil b.front) ∙ h))
+        bare f h = by (b.apart (ap ends_long (ap (λ y. b.front ++ y) (no_item g l Scanned u vs m.scan m.reading [] (NoLongText m.scan.mode) b f) ∙ append-nil b.front) ∙ h))
           where
-            by : IsLongNow m.reading.now ⊎ Open m.scan.mode → is_long_text m.scan.mode ≡ false
+            by : IsLongNow m.reading.now ⊎ NoLongText m.scan.mode → is_long_text m.scan.mode ≡ false
             by (inl i) = absurd (subst IsLongNow (fresh_parts m.reading.start m.reading.context m.reading.frames m.reading.notes m.reading.now f).2 i)
             by (inr i) = quoting_no_text m.scan.mode i.1
 
     -- and behind a value that it showed to be whole
-    pub again_chain : (vs : List Value) (m : State) → Gave g l u o vs m → Chain g l u o vs (takes g l 3 m o)
+    pub again_chain : (vs : List Value) (m : State) → GaveBefore g l u o vs m → Chain g l u o vs (takes g l 3 m o)
     again_chain vs m h = takes_chain vs 3 m.scan m.reading h.ahead h.next h.b h.kept tt
 
     -- It shows the end of one value alone.
-    pub gives_once : (vs : List Value) (m : State) → Gave g l u o vs m → NotLeaves g l (takes g l 3 m o)
+    pub gives_once : (vs : List Value) (m : State) → GaveBefore g l u o vs m → NotLeaves g l (takes g l 3 m o)
     gives_once vs m h = octet (unsettled m.scan m.reading (feed (place m.reading) m.scan o))
       where
         parts : (m.reading.frames ≡ []) × (m.reading.notes ≡ []) × (m.reading.now ≡ nows.Ready)

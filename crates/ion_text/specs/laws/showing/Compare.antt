@@ -33,22 +33,22 @@ use Rattle.ion_text.specs.laws.showing.Cuts.{Keeps, feed_keeps, Is, one_found, p
 -- 1. Where the next token begins.
 
 -- a token that is open behind octets, or ends in them, begins no earlier
-abbrev pub From : ℕ → Outcome → Type 0
-From n (Next t) = n ≤ start_of t.mode t.start t.used
-From n (Given x t) = n ≤ x.start
-From n (Left x t) = n ≤ x.start
-From n (Refused k e) = Unit {0}
+abbrev pub TokenFrom : ℕ → Outcome → Type 0
+TokenFrom n (Next t) = n ≤ start_of t.mode t.start t.used
+TokenFrom n (Given x t) = n ≤ x.start
+TokenFrom n (Left x t) = n ≤ x.start
+TokenFrom n (Refused k e) = Unit {0}
 
 start_from : (n : ℕ) (m : Mode) (start used : ℕ) → n ≤ start → n + 1 ≤ used → n ≤ start_of m start used
 start_from n modes.Blank start used h k = omega (arith, k)
 start_from n modes.Slash start used h k = omega (arith, k)
 start_from n _ start used h k = h
 
-pub run_from : (p : Place) (os : List ℕ) (n : ℕ) (s : Known) → Fine s → n ≤ start_of s.mode s.start s.used → From n (run p os s)
+pub run_from : (p : Place) (os : List ℕ) (n : ℕ) (s : Known) → Fine s → n ≤ start_of s.mode s.start s.used → TokenFrom n (run p os s)
 run_from p [] n s f h = h
 run_from p (o ∷ os) n s f h = go (feed p s o) refl (feed_keeps p s o) (λ t i k. run_from p os n t i k)
   where
-    go : (x : Outcome) → feed p s o ≡ x → Keeps p s x → ((t : Known) → Fine t → n ≤ start_of t.mode t.start t.used → From n (run p os t)) → From n (follow x (λ t. run p os t))
+    go : (x : Outcome) → feed p s o ≡ x → Keeps p s x → ((t : Known) → Fine t → n ≤ start_of t.mode t.start t.used → TokenFrom n (run p os t)) → TokenFrom n (follow x (λ t. run p os t))
     go (Next t) e k more =
         let used = feed_used p s t o e in
         more t (finely_as p s o (Next t) f e) (start_from n t.mode t.start t.used (omega (arith, h, k.0)) (let i = f.enough in omega (arith, h, i, used)))
@@ -56,7 +56,7 @@ run_from p (o ∷ os) n s f h = go (feed p s o) refl (feed_keeps p s o) (λ t i 
     go (Left x t) e k more = omega (arith, h, k.0)
     go (Refused i y) e k more = tt
 
-pub is_from : (p : Place) (n : ℕ) (x : Lexeme) (o : Outcome) → From n o → Is p x o → (x.kind ≡ kinds.Operator → ⊥) → n ≤ x.start
+pub is_from : (p : Place) (n : ℕ) (x : Lexeme) (o : Outcome) → TokenFrom n o → Is p x o → (x.kind ≡ kinds.Operator → ⊥) → n ≤ x.start
 is_from p n x (Next t) f (inl e) k = let i = end_spans t (end_of p t.mode) x e in omega (arith, f, i.0)
 is_from p n x (Next t) f (inr e) k = absurd (k e.1)
 is_from p n x (Given y t) f e k = omega (arith, f, ap (λ (z : Lexeme). z.start) e)
@@ -193,8 +193,8 @@ module _ (R : Known → List ℕ → Type 0) where
 
     -- the other list of tokens, where the first one goes on with a token that was given or left
     module _ (s s' : Known) (octets : List ℕ) (t : Placed) (ts : List Placed) (r : Reading) (a b : List Value) (ops : Operators (t ∷ ts)) (d : Going g l r (t ∷ ts) a) (x : Outcome) (ran : run t.place octets s ≡ x) where
-      abbrev Rest : Type 0
-      Rest = (ws : List Placed) → Found' s' (drop (s'.used - s.used) octets) ws → Operators ws → Same ts ws
+      abbrev RestSame : Type 0
+      RestSame = (ws : List Placed) → Found' s' (drop (s'.used - s.used) octets) ws → Operators ws → Same ts ws
 
       here : (u : Placed) (us : List Placed) → Going g l r (u ∷ us) b → t.place ≡ u.place
       here u us e = (going_said g l r t ts a d).0 ∙ sym (going_said g l r u us b e).0
@@ -202,7 +202,7 @@ module _ (R : Known → List ℕ → Type 0) where
       there : (u : Placed) (us : List Placed) (y : Outcome) → Going g l r (u ∷ us) b → run u.place octets s ≡ y → x ≡ y
       there u us y e f = sym ran ∙ (ap (λ p. run p octets s) (here u us e) ∙ f)
 
-      matched : Rest → (u : Placed) (us : List Placed) (s'' : Known) → t.lexeme ≡ u.lexeme → s'' ≡ s' → Found' s'' (drop (s''.used - s.used) octets) us → Operators us → Going g l r (u ∷ us) b → Compared (t ∷ ts) (u ∷ us)
+      matched : RestSame → (u : Placed) (us : List Placed) (s'' : Known) → t.lexeme ≡ u.lexeme → s'' ≡ s' → Found' s'' (drop (s''.used - s.used) octets) us → Operators us → Going g l r (u ∷ us) b → Compared (t ∷ ts) (u ∷ us)
       matched rest u us s'' i j f ops' e =
           subst (λ z. Compared (t ∷ ts) (z ∷ us)) (placed_same t u (here u us e) i) (token_once t ts us (rest us (subst (λ (z : Known). Found' z (drop (z.used - s.used) octets) us) j f) ops') r a b d
           (subst (λ z. Going g l r (z ∷ us) b) (sym (placed_same t u (here u us e) i)) e))

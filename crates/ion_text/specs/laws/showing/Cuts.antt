@@ -76,7 +76,7 @@ parts_same (x ∷ xs) ys (z ∷ zs) ws e n =
     (ap (λ l. x ∷ l) p.0 ∙ ap (λ o. o ∷ zs) head, p.1)
 
 -- the blank in front of what is open, which ends where a token begins that is open behind the next octet
-pub record Fronted (k : ℕ) (m : Mode) (start used : ℕ) (since : List ℕ) : Type 0 where
+pub record BlankInFront (k : ℕ) (m : Mode) (start used : ℕ) (since : List ℕ) : Type 0 where
   pub blank : List ℕ
   pub open' : List ℕ
   pub cut : since ≡ blank ++ open'
@@ -84,7 +84,7 @@ pub record Fronted (k : ℕ) (m : Mode) (start used : ℕ) (since : List ℕ) : 
   pub at : start_of m start used ≡ k + length blank
 
 -- the same where it was so before the last octet
-record Before (k start : ℕ) (since : List ℕ) : Type 0 where
+record FrontedBefore (k start : ℕ) (since : List ℕ) : Type 0 where
   blank : List ℕ
   open' : List ℕ
   cut : since ≡ blank ++ open'
@@ -123,36 +123,36 @@ pub next_start : (p : Place) (s t : Known) (o : ℕ) → feed p s o ≡ Next t �
 next_start p s t o e = (subst (Keeps p s) e (feed_keeps p s o)).0
 
 module _ (p : Place) (colon : Bool) (k : ℕ) where
-  fronted_mode : (m : Mode) (kept : List ℕ) (start used : ℕ) (since : List ℕ) → InMode p colon k m kept start since → used ≡ k + length since → Before k start since → Fronted k m start used since
+  fronted_mode : (m : Mode) (kept : List ℕ) (start used : ℕ) (since : List ℕ) → InMode p colon k m kept start since → used ≡ k + length since → FrontedBefore k start since → BlankInFront k m start used since
   fronted_mode modes.Blank kept start used since (e, b) u d = record { blank = since; open' = []; cut = sym (append-nil since); is_blank = b; at = u }
   fronted_mode modes.Slash kept start used since (e, front, b, c) u d = record { blank = front; open' = 47 ∷ []; cut = c; is_blank = b; at = omega (arith, u, ap length c, length-append front (47 ∷ [])) }
   fronted_mode _ kept start used since h u d = record { blank = d.blank; open' = d.open'; cut = d.cut; is_blank = d.is_blank; at = d.at }
 
-  pub fronted_run : (os : List ℕ) (s t : Known) (since : List ℕ) → Holds p colon k s since → Fronted k s.mode s.start s.used since → run p os s ≡ Next t → Fronted k t.mode t.start t.used (since ++ os)
+  pub fronted_run : (os : List ℕ) (s t : Known) (since : List ℕ) → Holds p colon k s since → BlankInFront k s.mode s.start s.used since → run p os s ≡ Next t → BlankInFront k t.mode t.start t.used (since ++ os)
   fronted_run [] s t since h f e =
-      subst (λ (x : Known). Fronted k x.mode x.start x.used (since ++ [])) (next_is s t e) (subst (Fronted k s.mode s.start s.used) (sym (append-nil since)) f)
+      subst (λ (x : Known). BlankInFront k x.mode x.start x.used (since ++ [])) (next_is s t e) (subst (BlankInFront k s.mode s.start s.used) (sym (append-nil since)) f)
   fronted_run (o ∷ os) s t since h f e =
       let x = followed (feed p s o) (λ n. run p os n) t e in
       let there : Holds p colon k x.0 (since ++ o ∷ []) = subst (λ y. Sound p colon k since o y) x.1 (feed_sound p colon k s since o h) in
-      let kept : Before k (x.0).start (since ++ o ∷ []) = record {
+      let kept : FrontedBefore k (x.0).start (since ++ o ∷ []) = record {
         blank = f.blank;
         open' = f.open' ++ o ∷ [];
         cut = ap (λ l. l ++ o ∷ []) f.cut ∙ append_assoc f.blank f.open' (o ∷ []);
         is_blank = f.is_blank;
         at = next_start p s x.0 o x.1 ∙ f.at;
       } in
-      subst (Fronted k t.mode t.start t.used) (append_assoc since (o ∷ []) os)
+      subst (BlankInFront k t.mode t.start t.used) (append_assoc since (o ∷ []) os)
       (fronted_run os x.0 t (since ++ o ∷ []) there (fronted_mode (x.0).mode (x.0).kept (x.0).start (x.0).used (since ++ o ∷ []) there.mode there.used kept) x.2)
 
 -- what the scanner holds behind the tokens told, before all that may come next
-pub record Behind (p : Place) (s : Known) (u : List ℕ) (ts : List Placed) (ahead : List ℕ) : Type 0 where
+pub record OpenBehind (p : Place) (s : Known) (u : List ℕ) (ts : List Placed) (ahead : List ℕ) : Type 0 where
   pub colon : Bool
   pub end : ℕ
   pub since : List ℕ
   pub lexes : (r : List ℕ) → Continues r ahead → LexesTo false 0 (u ++ r) ts colon end (since ++ r)
   pub holds : Holds p colon end s since
   pub reached : run p since (at modes.Blank [] colon end end) ≡ Next s
-  pub fronted : Fronted end s.mode s.start s.used since
+  pub fronted : BlankInFront end s.mode s.start s.used since
 
 module _ (p : Place) (s : Known) (u : List ℕ) (ts : List Placed) (ahead : List ℕ) (h : Scanned p s u ts ahead) where
   continued : (r : List ℕ) → Continues r ahead → Continues (h.since ++ r) h.left
@@ -162,7 +162,7 @@ module _ (p : Place) (s : Known) (u : List ℕ) (ts : List Placed) (ahead : List
       by (inl (none, same)) = (more, ap (λ l. l ++ r) none ∙ c ∙ ap (λ l. l ++ more) same)
       by (inr (front, since, none)) = (front ++ r, ap (λ l. l ++ r) since ∙ append_assoc h.left front r)
 
-  pub behind_tokens : Behind p s u ts ahead
+  pub behind_tokens : OpenBehind p s u ts ahead
   behind_tokens =
       let tells = stands_tells h.behind h.front ts h.left h.told h.pass in
       let reached : run p (tells.since ++ h.since) (at modes.Blank [] tells.colon tells.end tells.end) ≡ Next s = run_behind p tells.since h.since (at modes.Blank [] tells.colon tells.end tells.end) h.behind (tells.again p) ∙ h.ran in

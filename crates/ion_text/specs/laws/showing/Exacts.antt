@@ -17,7 +17,7 @@ use Rattle.ion_text.specs.laws.reading.Exact.{Exact, exact}
 use Rattle.ion_text.specs.declared.state.Frame.{Frame}
 use Rattle.ion_text.specs.machine.EachToken.{Reading, place}
 use Rattle.ion_text.specs.machine.Run.{is_top}
-use Rattle.ion_text.specs.laws.reading.Held.{Behind as Stands}
+use Rattle.ion_text.specs.laws.reading.Held.{Behind}
 use Rattle.ion_text.specs.laws.reading.Sound.{NowStands, LongFor}
 use Rattle.ion_text.specs.laws.showing.Cuts.{behind_tokens, lexed_front}
 use Rattle.ion_text.specs.laws.showing.Opened.{colon_last, segments_last}
@@ -32,7 +32,7 @@ exact_at p colon k s since h = record { is = go s.mode h.mode }
     go _ i = tt
 
 -- behind a long string that waits at the top level no colon may stand
-pub long_colon : (g : Catalog) (l : Limits) (u : List ℕ) (vs : List Value) (s : Known) (r : Reading) (ahead : List ℕ) (A : Type 0) (b : Stands g l Scanned u vs s r ahead A) → s.used ≡ length u → (w : List ℕ) (end : ℕ) → r.now ≡ nows.Long w end → r.frames ≡ [] → s.colon ≡ false
+pub long_colon : (g : Catalog) (l : Limits) (u : List ℕ) (vs : List Value) (s : Known) (r : Reading) (ahead : List ℕ) (A : Type 0) (b : Behind g l Scanned u vs s r ahead A) → s.used ≡ length u → (w : List ℕ) (end : ℕ) → r.now ≡ nows.Long w end → r.frames ≡ [] → s.colon ≡ false
 long_colon g l u vs s r ahead A b used w end e top = go b.item refl
   where
     d : LongFor r.context [] r.notes w b.item
@@ -57,7 +57,7 @@ long_colon g l u vs s r ahead A b used w end e top = go b.item refl
         ∙ (ap (λ q. takes_colon q (last.1).lexeme.kind) last.3 ∙ ap (takes_colon places.Top) last.4))
 
 -- the octets used are those before
-pub behind_used : (g : Catalog) (l : Limits) (u : List ℕ) (vs : List Value) (s : Known) (r : Reading) (ahead : List ℕ) (A : Type 0) → Stands g l Scanned u vs s r ahead A → s.used ≡ length u
+pub behind_used : (g : Catalog) (l : Limits) (u : List ℕ) (vs : List Value) (s : Known) (r : Reading) (ahead : List ℕ) (A : Type 0) → Behind g l Scanned u vs s r ahead A → s.used ≡ length u
 behind_used g l u vs s r ahead A b =
     let k = behind_tokens (place r) s u (b.front ++ b.item) ahead b.scanned in
     let x = lexed_front (b.front ++ b.item) false 0 (u ++ (ahead ++ [])) k.colon k.end (k.since ++ (ahead ++ [])) (k.lexes (ahead ++ []) ([], refl)) in

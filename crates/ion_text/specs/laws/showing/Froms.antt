@@ -25,7 +25,7 @@ use Rattle.ion_text.specs.declared.state.Frame.TheVariants as frames
 use Rattle.ion_text.specs.machine.EachToken.{Spot, under, spot_at, Reading, Turn, goes, gives, refuses, late, Token, Symbols, at, fresh, place, settle, turn, turned, ended, paid, released, held_payload, within}
 use Rattle.ion_text.specs.machine.Run.{State, Effect, uses, tells, leaves, fails, eats, takes, waits, waits_now, unsettled, noticed, on_octet, on_scan, on_settled, on_said, behind_given, behind_left, or_worse, with_scan, token_of, is_top, is_fresh, shut, reaches, run, run_on, once_more}
 use Rattle.ion_text.specs.laws.reading.Segments.{NotRefused, unsettled_waits}
-use Rattle.ion_text.specs.machine.TokenLists.{Walk, walked, stopped, adds, on_turn, on_placed, on_judged, continues, reads}
+use Rattle.ion_text.specs.machine.TokenLists.{Walk, walked, stopped, adds_values, on_turn, on_placed, on_judged, continues, reads}
 use Rattle.ion_text.specs.laws.reading.Places.{Leading, same_place, settle_same}
 use Rattle.ion_text.specs.laws.reading.Quotes.{Fine}
 use Rattle.ion_text.specs.laws.reading.Meets.{finely_as}
@@ -175,7 +175,7 @@ module _ (g : Catalog) (l : Limits) where
   WalkFrom n (walked vs r) = From n r
   WalkFrom n stopped = Unit {0}
 
-  adds_from : (n : ℕ) (vs : List Value) (w : Walk) → WalkFrom n w → WalkFrom n (adds vs w)
+  adds_from : (n : ℕ) (vs : List Value) (w : Walk) → WalkFrom n w → WalkFrom n (adds_values vs w)
   adds_from n vs (walked ws r) h = h
   adds_from n vs stopped h = tt
 
@@ -289,10 +289,10 @@ module _ (g : Catalog) (l : Limits) where
   given_waits s (late e r) i = worse_waits e (noticed l r s)
 
   module _ (o : ℕ) where
-    abbrev Again : (State → Effect) → Type 0
-    Again again = (k : State) → Fine k.scan → WaitsBehind (again k)
+    abbrev AgainWaits : (State → Effect) → Type 0
+    AgainWaits again = (k : State) → Fine k.scan → WaitsBehind (again k)
 
-    left_waits : (again : State → Effect) (s : Known) (t : Turn) → Again again → Fine s → WaitsBehind (behind_left again s t)
+    left_waits : (again : State → Effect) (s : Known) (t : Turn) → AgainWaits again → Fine s → WaitsBehind (behind_left again s t)
     left_waits again s (goes r) f h = f (with_scan s r) h
     left_waits again s (gives v r) f h = tt
     left_waits again s (refuses e) f h = tt
@@ -302,19 +302,19 @@ module _ (g : Catalog) (l : Limits) where
     said_waits (Ok c) f h = h c
     said_waits (Err e) f h = tt
 
-    scan_waits : (s : Known) (r : Reading) (again : State → Effect) → Again again → Fine s → (x : Outcome) → feed (place r) s o ≡ x → ((t : Known) → x ≡ Next t → Waits t r.now) → WaitsBehind (on_scan g l again r x)
+    scan_waits : (s : Known) (r : Reading) (again : State → Effect) → AgainWaits again → Fine s → (x : Outcome) → feed (place r) s o ≡ x → ((t : Known) → x ≡ Next t → Waits t r.now) → WaitsBehind (on_scan g l again r x)
     scan_waits s r again f h (Next t) e k = noticed_waits r t (k t refl)
     scan_waits s r again f h (Given x t) e k = said_waits (said x.kind x.octets) (λ c. behind_given l t (turn g l r (token_of x c))) (λ c. given_waits t (turn g l r (token_of x c)) (finely_as (place r) s o (Given x t) h e).3)
     scan_waits s r again f h (Left x t) e k = said_waits (said x.kind x.octets) (λ c. behind_left again t (turn g l r (token_of x c))) (λ c. left_waits again t (turn g l r (token_of x c)) f (finely_as (place r) s o (Left x t) h e).0)
     scan_waits s r again f h (Refused n y) e k = tt
 
-    settled_waits : (s : Known) (again : State → Effect) (r : Reading) → Again again → Fine s → (t : Turn) → Leading g l (λ n. IsFree n.now × (place n ≡ place r)) t → WaitsBehind (on_settled g l again s (feed (place r) s o) t)
+    settled_waits : (s : Known) (again : State → Effect) (r : Reading) → AgainWaits again → Fine s → (t : Turn) → Leading g l (λ n. IsFree n.now × (place n ≡ place r)) t → WaitsBehind (on_settled g l again s (feed (place r) s o) t)
     settled_waits s again r f h (goes n) k = scan_waits s n again f h (feed (place r) s o) (ap (λ p. feed p s o) k.1) (λ t e. free_waits t n.now k.0)
     settled_waits s again r f h (gives v n) k = tt
     settled_waits s again r f h (refuses e) k = tt
     settled_waits s again r f h (late e n) k = worse_waits e (on_scan g l again n (feed (place r) s o))
 
-    octet_waits : (s : Known) (r : Reading) (again : State → Effect) → Again again → Fine s → WaitsBehind (on_octet g l again (with_scan s r) (feed (place r) s o))
+    octet_waits : (s : Known) (r : Reading) (again : State → Effect) → AgainWaits again → Fine s → WaitsBehind (on_octet g l again (with_scan s r) (feed (place r) s o))
     octet_waits s r again f h = go (unsettled s r (feed (place r) s o)) refl
       where
         both : (t : Turn) → Leading g l (λ n. IsFree n.now) t → Leading g l (λ n. (place n ≡ place r) × (is_top n.frames ≡ is_top r.frames)) t → Leading g l (λ n. IsFree n.now × (place n ≡ place r)) t

@@ -18,13 +18,13 @@ use Rattle.ion_text.specs.declared.state.Frame.{Frame}
 use Rattle.ion_text.specs.Grammar.{Whole, BlankThen, ends_long, begins_as_long}
 use Rattle.ion_text.specs.machine.EachToken.{Reading, Symbols, at, place}
 use Rattle.ion_text.specs.machine.Run.{State, is_fresh}
-use Rattle.ion_text.specs.laws.reading.Held.{Behind as Stands, IsLongNow, IsFirst, Open, none_open}
+use Rattle.ion_text.specs.laws.reading.Held.{Behind, IsLongNow, IsFirst, NoLongText, none_open}
 use Rattle.ion_text.specs.laws.reading.Admits.{no_item}
 use Rattle.ion_text.specs.laws.reading.Sound.{NowStands}
 use Rattle.ion_text.specs.laws.reading.Steps.{Stood}
-use Rattle.ion_text.specs.laws.showing.Cuts.{Fronted as BlankFront, Parted, parted, lexed_front, parts_same, Behind, behind_tokens, begins_once, past_blank}
+use Rattle.ion_text.specs.laws.showing.Cuts.{BlankInFront, Parted, parted, lexed_front, parts_same, OpenBehind, behind_tokens, begins_once, past_blank}
 use Rattle.ion_text.specs.laws.showing.Firsts.{OpensItem, opens_item, now_first, colons_never, quotes_never, quotes_first}
-use Rattle.ion_text.specs.laws.showing.Symbols.{Still}
+use Rattle.ion_text.specs.laws.showing.Symbols.{HasBegun}
 
 -- where the whole pieces end and the blank behind them
 abbrev pub front_end : Known → Reading → ℕ
@@ -53,23 +53,23 @@ module _ (g : Catalog) (l : Limits) where
     pub whole : (following : List ℕ) → Whole g l front (rest ++ following) vs
 
   -- behind octets, and before `more`
-  module _ (u : List ℕ) (vs : List Value) (s : Known) (r : Reading) (ahead more : List ℕ) (A : Type 0) (b : Stands g l Scanned u vs s r ahead A) (next : Continues more ahead) where
+  module _ (u : List ℕ) (vs : List Value) (s : Known) (r : Reading) (ahead more : List ℕ) (A : Type 0) (b : Behind g l Scanned u vs s r ahead A) (next : Continues more ahead) where
     abbrev p : Place
     p = place r
 
-    abbrev pub k : Behind p s u (b.front ++ b.item) ahead
+    abbrev pub k : OpenBehind p s u (b.front ++ b.item) ahead
     k = behind_tokens p s u (b.front ++ b.item) ahead b.scanned
 
     pub continues : (following : List ℕ) → Continues (more ++ following) ahead
     continues following = (next.0 ++ following, ap (λ x. x ++ following) next.1 ∙ append_assoc ahead next.0 following)
 
     -- where nothing is open, `::` doesn't go on behind the last token
-    abbrev pub NoColons : Type 0
-    NoColons = is_fresh r ≡ true → k.colon ≡ true → (following : List ℕ) → BlankThen (codes "::") (k.since ++ (more ++ following)) → ⊥
+    abbrev pub NoColonsFollow : Type 0
+    NoColonsFollow = is_fresh r ≡ true → k.colon ≡ true → (following : List ℕ) → BlankThen (codes "::") (k.since ++ (more ++ following)) → ⊥
 
     -- nor does `''` behind a long string
-    abbrev pub NoQuotes : Type 0
-    NoQuotes = is_fresh r ≡ true → ends_long b.front ≡ true → (following : List ℕ) → BlankThen (codes "''") (k.since ++ (more ++ following)) → ⊥
+    abbrev pub NoQuotesFollow : Type 0
+    NoQuotesFollow = is_fresh r ≡ true → ends_long b.front ≡ true → (following : List ℕ) → BlankThen (codes "''") (k.since ++ (more ++ following)) → ⊥
 
     -- where no item is open
     pub no_tokens : b.item ≡ [] → (is_fresh r ≡ true) × (IsLongNow r.now → ⊥)
@@ -77,10 +77,10 @@ module _ (g : Catalog) (l : Limits) where
         let o = none_open r.context r.frames r.notes r.now (subst (λ x. NowStands r.context r.frames r.notes x r.now) none b.stands) in
         (fresh_is r.start r.context r.frames r.notes r.now o.0 o.1 o.2, λ h. subst IsLongNow o.2 h)
 
-    module _ (colons : NoColons) (quotes : NoQuotes) where
+    module _ (colons : NoColonsFollow) (quotes : NoQuotesFollow) where
       -- where none is open
       module _ (none : b.item ≡ []) where
-        f : BlankFront k.end s.mode s.start s.used k.since
+        f : BlankInFront k.end s.mode s.start s.used k.since
         f = k.fronted
 
         tokens : (following : List ℕ) → LexesTo false 0 (u ++ (more ++ following)) b.front k.colon k.end (k.since ++ (more ++ following))
@@ -217,26 +217,26 @@ module _ (g : Catalog) (l : Limits) where
           go (t ∷ ts) e = open_front t ts e
 
   -- where no octet is refused
-  module _ (u : List ℕ) (vs : List Value) (m : State) (b : Stood g l u vs m) (still : Still g l m.scan m.reading) where
+  module _ (u : List ℕ) (vs : List Value) (m : State) (b : Stood g l u vs m) (still : HasBegun g l m.scan m.reading) where
     abbrev open' : Type 0
-    open' = Open m.scan.mode
+    open' = NoLongText m.scan.mode
 
-    abbrev shut : Behind (place m.reading) m.scan u (b.front ++ b.item) []
+    abbrev shut : OpenBehind (place m.reading) m.scan u (b.front ++ b.item) []
     shut = k u vs m.scan m.reading [] [] open' b ([], refl)
 
-    begun_colons : NoColons u vs m.scan m.reading [] [] open' b ([], refl)
+    begun_colons : NoColonsFollow u vs m.scan m.reading [] [] open' b ([], refl)
     begun_colons fresh c following (w, more, is, e) =
         let begun = still fresh (shut.holds.flag ∙ c) in
         let x = past_blank (place m.reading) shut.colon shut.end shut.since following w (codes "::" ++ more) m.scan shut.reached b.sane begun is (e ∙ append_assoc w (codes "::") more) in
         colons_never (place m.reading) x.now (shut.end + length w) x.token following more m.scan x.same (subst (λ y. run (place m.reading) x.token (blank y x.now (shut.end + length w)) ≡ Next m.scan) c x.ran) begun
 
-    begun_quotes : NoQuotes u vs m.scan m.reading [] [] open' b ([], refl)
+    begun_quotes : NoQuotesFollow u vs m.scan m.reading [] [] open' b ([], refl)
     begun_quotes fresh h following (w, more, is, e) = by (b.apart (ap ends_long (ap (λ x. b.front ++ x) none ∙ append-nil b.front) ∙ h))
       where
         none : b.item ≡ []
         none = no_item g l Scanned u vs m.scan m.reading [] open' b fresh
 
-        by : IsLongNow m.reading.now ⊎ Open m.scan.mode → ⊥
+        by : IsLongNow m.reading.now ⊎ NoLongText m.scan.mode → ⊥
         by (inl i) = (no_tokens u vs m.scan m.reading [] [] open' b ([], refl) none).1 i
         by (inr i) =
             let x = past_blank (place m.reading) shut.colon shut.end shut.since following w (codes "''" ++ more) m.scan shut.reached b.sane i.0 is (e ∙ append_assoc w (codes "''") more) in

@@ -8,13 +8,13 @@ use Rattle.ion_symtab.specs.Trace.{plain}
 use Rattle.ion_symtab.specs.Promises.{Shows}
 use Rattle.ion_text.specs.Grammar.{Whole, OpenRest}
 use Rattle.ion_text.specs.machine.Run.{State, begun, run, trace, refused_of}
-use Rattle.ion_text.specs.laws.reading.Steps.{Ran, run_ran, begun_stood}
+use Rattle.ion_text.specs.laws.reading.Steps.{StoodBehind, run_ran, begun_stood}
 use Rattle.ion_text.specs.laws.showing.Symbols.{EndsStill, run_still}
 use Rattle.ion_text.specs.laws.showing.Between.{stood_shows}
 use Rattle.ion_text.specs.laws.showing.Froms.{EndsWaiting, run_waits}
 use Rattle.ion_text.specs.laws.showing.Within.{EndsWithin, begun_within}
 
-now_shows : (g : Catalog) (l : Limits) (u : List ℕ) (given : List (Value × ℕ)) (now : Result State Refusal) → Ran g l u [] (record { given = given; now = now }) → EndsStill g l now → EndsWaiting g l now → EndsWithin g l now → refused_of now ≡ None → Shows (Whole g l) (λ front rest. OpenRest l rest) u (plain given)
+now_shows : (g : Catalog) (l : Limits) (u : List ℕ) (given : List (Value × ℕ)) (now : Result State Refusal) → StoodBehind g l u [] (record { given = given; now = now }) → EndsStill g l now → EndsWaiting g l now → EndsWithin g l now → refused_of now ≡ None → Shows (Whole g l) (λ front rest. OpenRest l rest) u (plain given)
 now_shows g l u given (Ok m) b still wait within h = stood_shows g l u (plain given) m b still wait within
 now_shows g l u given (Err e) b still wait within h = absurd cc
 

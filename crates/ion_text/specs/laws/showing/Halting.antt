@@ -14,13 +14,13 @@ use Rattle.ion_tokens.proofs.Sounds.{feed_sound}
 use Rattle.ion_tokens.proofs.Holds.{Sound}
 use Rattle.ion_text.specs.machine.EachToken.{Reading, place}
 use Rattle.ion_text.specs.machine.Run.{is_top}
-use Rattle.ion_text.specs.laws.reading.Held.{Apart, ApartAt, IsLongNow}
+use Rattle.ion_text.specs.laws.reading.Held.{NoSegment, ApartAt, IsLongNow}
 use Rattle.ion_text.specs.laws.reading.Admits.{no_item}
 use Rattle.ion_tokens.specs.machine.Scanned.{Scanned, Continues}
 use Rattle.ion_text.specs.Grammar.{ends_long}
 use Rattle.ion_text.specs.laws.reading.Meets.{finely_as, one_given}
-use Rattle.ion_text.specs.laws.showing.Cuts.{Behind, Is, behind_tokens}
-use Rattle.ion_text.specs.laws.showing.Fronts.{Fronted, NoColons, NoQuotes, continues, front_before}
+use Rattle.ion_text.specs.laws.showing.Cuts.{OpenBehind, Is, behind_tokens}
+use Rattle.ion_text.specs.laws.showing.Fronts.{Fronted, NoColonsFollow, NoQuotesFollow, continues, front_before}
 use Rattle.ion_text.specs.laws.showing.Froms.{fresh_parts}
 use Rattle.ion_text.specs.laws.showing.Longest.{escaped}
 use Rattle.ion_text.specs.laws.showing.Halts.{Halted}
@@ -36,21 +36,21 @@ module _ (g : Catalog) (l : Limits) (u : List ℕ) (o : ℕ) (vs : List Value) (
   abbrev p : Place
   p = place h.r
 
-  abbrev pub k : Behind p s u (h.b.front ++ h.b.item) h.ahead
+  abbrev pub k : OpenBehind p s u (h.b.front ++ h.b.item) h.ahead
   k = behind_tokens p s u (h.b.front ++ h.b.item) h.ahead h.b.scanned
 
-  no_colons : NoColons g l u vs s r h.ahead (o ∷ []) (ApartAt o s r) h.b h.next
+  no_colons : NoColonsFollow g l u vs s r h.ahead (o ∷ []) (ApartAt o s r) h.b h.next
   no_colons fresh c following b =
       octet_colons p k.end k.since s o h.b.sane (subst (λ (x : Bool). run p k.since (at modes.Blank [] x k.end k.end) ≡ Next s) c k.reached) (h.kept.colons fresh (k.holds.flag ∙ c)) following b
 
-  no_quotes : NoQuotes g l u vs s r h.ahead (o ∷ []) (ApartAt o s r) h.b h.next
+  no_quotes : NoQuotesFollow g l u vs s r h.ahead (o ∷ []) (ApartAt o s r) h.b h.next
   no_quotes fresh c following b = by (h.b.apart (ap ends_long (ap (λ x. h.b.front ++ x) (no_item g l Scanned u vs s r h.ahead (ApartAt o s r) h.b fresh) ∙ append-nil h.b.front) ∙ c))
     where
       by : IsLongNow r.now ⊎ ApartAt o s r → ⊥
       by (inl i) = subst IsLongNow (fresh_parts r.start r.context r.frames r.notes r.now fresh).2 i
       by (inr i) =
           octet_quotes p k.end k.since s o h.b.sane k.colon k.reached
-          (subst (λ x. Apart x (feed p s o)) (ap is_top (fresh_parts r.start r.context r.frames r.notes r.now fresh).0) i) (h.kept.bare fresh c) following b
+          (subst (λ x. NoSegment x (feed p s o)) (ap is_top (fresh_parts r.start r.context r.frames r.notes r.now fresh).0) i) (h.kept.bare fresh c) following b
 
   -- Whole pieces stand in front of the octet, whatever follows it.
   pub halted_front : Fronted g l (u ++ o ∷ []) vs s r

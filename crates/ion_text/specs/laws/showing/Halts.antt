@@ -23,13 +23,13 @@ use Rattle.ion_text.specs.machine.Run.{State, Effect, uses, tells, leaves, fails
 use Rattle.ion_text.specs.laws.reading.Places.{Leading}
 use Rattle.ion_text.specs.laws.reading.Quotes.{Fine, Finely, is_close}
 use Rattle.ion_text.specs.machine.Passed.{said_body}
-use Rattle.ion_text.specs.laws.reading.Spans.{Closes, Spans, turn_spans}
+use Rattle.ion_text.specs.laws.reading.Spans.{IsClose, Spans, turn_spans}
 use Rattle.ion_text.specs.laws.reading.Sound.{start_now}
 use Rattle.ion_text.specs.laws.reading.Held.{Behind, Reads, ApartAt}
 use Rattle.ion_text.specs.laws.reading.Meets.{IdleLeft, idle_left, is_long_text, follows_as, finely_as}
 use Rattle.ion_text.specs.laws.reading.Segments.{never, long_quoting}
 use Rattle.ion_text.specs.laws.reading.Going.{top_place, never_top, closes_kind}
-use Rattle.ion_text.specs.laws.reading.Fuel.{Once, Twice, UsedThen, Leaving, feed_leaves, NotLeaves, noticed_stays, given_stays, said_stays}
+use Rattle.ion_text.specs.laws.reading.Fuel.{UsedHere, Twice, UsedThen, Leaving, feed_leaves, NotLeaves, noticed_stays, given_stays, said_stays}
 use Rattle.ion_text.specs.laws.reading.Steps.{left_reads}
 use Rattle.ion_text.specs.laws.showing.Symbols.{colon_free}
 use Rattle.ion_text.specs.laws.showing.Froms.{Waits, fresh_parts, idle_waits}
@@ -65,7 +65,7 @@ symbol_colons (Refused n e) h = tt
 -- so many tries are enough
 abbrev pub Enough : ℕ → Known → ℕ → Type 0
 Enough zero s o = ⊥
-Enough (suc zero) s o = Once s o
+Enough (suc zero) s o = UsedHere s o
 Enough (suc (suc zero)) s o = Twice s o
 Enough (suc (suc (suc zero))) s o = Unit {0}
 Enough (suc (suc (suc (suc n)))) s o = ⊥
@@ -78,20 +78,20 @@ less_enough (suc (suc (suc n))) p s t o x f h e = absurd h
 
 module _ (g : Catalog) (l : Limits) where
   -- the turn refuses
-  abbrev pub Ends : Turn → Type 0
-  Ends (refuses e) = Unit {0}
-  Ends (late e r) = Unit {0}
-  Ends _ = ⊥
+  abbrev pub TurnRefuses : Turn → Type 0
+  TurnRefuses (refuses e) = Unit {0}
+  TurnRefuses (late e r) = Unit {0}
+  TurnRefuses _ = ⊥
 
   -- what came of the octet at the scanner is refused
-  abbrev pub Stops : Reading → Outcome → Type 0
-  Stops r (Next t) = (e : Reason) × (noticed l r t ≡ fails e)
-  Stops r (Left x t) = (c : Content) → said x.kind x.octets ≡ Ok c → Ends (turn g l r (token_of x c))
-  Stops r _ = Unit {0}
+  abbrev pub ScanRefused : Reading → Outcome → Type 0
+  ScanRefused r (Next t) = (e : Reason) × (noticed l r t ≡ fails e)
+  ScanRefused r (Left x t) = (c : Content) → said x.kind x.octets ≡ Ok c → TurnRefuses (turn g l r (token_of x c))
+  ScanRefused r _ = Unit {0}
 
   -- or what waits is, which the octet doesn't go on
   abbrev pub StopsAt : Known → Reading → Outcome → Type 0
-  StopsAt s r x = (((unsettled s r x ≡ true) ⊎ (settle g l r ≡ goes r)) × Stops r x) ⊎ ((unsettled s r x ≡ false) × Ends (settle g l r))
+  StopsAt s r x = (((unsettled s r x ≡ true) ⊎ (settle g l r ≡ goes r)) × ScanRefused r x) ⊎ ((unsettled s r x ≡ false) × TurnRefuses (settle g l r))
 
   module _ (u : List ℕ) (o : ℕ) where
     abbrev pub Before : List Value → Known → Reading → List ℕ → Type 0
@@ -113,7 +113,7 @@ module _ (g : Catalog) (l : Limits) where
       pub stops : StopsAt s r (feed (place r) s o)
 
     -- a value was given before the octet
-    pub record Gave (vs : List Value) (m : State) : Type 0 where
+    pub record GaveBefore (vs : List Value) (m : State) : Type 0 where
       pub ahead : List ℕ
       pub next : Continues (o ∷ []) ahead
       pub b : Before vs m.scan m.reading ahead
@@ -125,7 +125,7 @@ module _ (g : Catalog) (l : Limits) where
       abbrev pub Chain : Effect → Type 0
       Chain (uses m) = Unit {0}
       Chain (tells v m) = Unit {0}
-      Chain (leaves v m) = Gave (vs ++ v ∷ []) m
+      Chain (leaves v m) = GaveBefore (vs ++ v ∷ []) m
       Chain (fails e) = Halted vs
 
       chain_by : (x : Effect) → NotLeaves g l x → ((e : Reason) → x ≡ fails e → Halted vs) → Chain x
@@ -156,7 +156,7 @@ module _ (g : Catalog) (l : Limits) where
           start : ℕ
           start = start_now r.now r.start x.start r.frames r.notes
 
-          no_close : Closes false c → ⊥
+          no_close : IsClose false c → ⊥
           no_close h = never (is_close x.kind) (finely_as (place r) s o (Left x t) fine e).5 (closes_kind x.kind x.octets c h (said_body x.kind x.octets c k))
 
           inside : (y : Turn) → Spans false c l.item start x.end y → Leading g l P y
@@ -180,17 +180,17 @@ module _ (g : Catalog) (l : Limits) where
           by (inr h) = absurd (never (is_sexp p) top h.1)
 
       -- where the octet comes again with fewer tries
-      abbrev pub Again : ℕ → Type 0
-      Again n = (s : Known) (r : Reading) (ahead : List ℕ) → Continues (o ∷ []) ahead → (b : Before vs s r ahead) → Kept vs s r ahead b → Enough n s o → Chain (takes g l n (with_scan s r) o)
+      abbrev pub ChainsAgain : ℕ → Type 0
+      ChainsAgain n = (s : Known) (r : Reading) (ahead : List ℕ) → Continues (o ∷ []) ahead → (b : Before vs s r ahead) → Kept vs s r ahead b → Enough n s o → Chain (takes g l n (with_scan s r) o)
 
-      module _ (n : ℕ) (again : Again n) (s : Known) (r : Reading) (ahead : List ℕ) (next : Continues (o ∷ []) ahead) (b : Before vs s r ahead) (kept : Kept vs s r ahead b) (enough : Enough (suc n) s o) where
+      module _ (n : ℕ) (again : ChainsAgain n) (s : Known) (r : Reading) (ahead : List ℕ) (next : Continues (o ∷ []) ahead) (b : Before vs s r ahead) (kept : Kept vs s r ahead b) (enough : Enough (suc n) s o) where
         halted : StopsAt s r (feed (place r) s o) → Halted vs
         halted h = record { s = s; r = r; ahead = ahead; next = next; b = b; kept = kept; stops = h }
 
         -- a token was left
         module _ (y : Lexeme) (t : Known) (e : feed (place r) s o ≡ Left y t) (direct : (unsettled s r (feed (place r) s o) ≡ true) ⊎ (settle g l r ≡ goes r)) where
-          stopped : Stops r (Left y t) → Halted vs
-          stopped h = halted (inl (direct, subst (Stops r) (sym e) h))
+          stopped : ScanRefused r (Left y t) → Halted vs
+          stopped h = halted (inl (direct, subst (ScanRefused r) (sym e) h))
 
           fine : Finely s.mode (Left y t)
           fine = finely_as (place r) s o (Left y t) b.fine e
@@ -212,9 +212,9 @@ module _ (g : Catalog) (l : Limits) where
                 fresh = h.1;
                 colon = idle_colon (place m) t idle (ap is_sexp (top_place m.frames m.now (ap is_top parts.0)));
               }
-          turned c k (refuses z) f h i j = stopped (λ c' k'. subst Ends (sym (ap (λ a. turn g l r (token_of y a)) (let q : Ok c' ≡ Ok c = sym k' ∙ k in let q' : c' ≡ c = cc in q') ∙ f)) tt)
+          turned c k (refuses z) f h i j = stopped (λ c' k'. subst TurnRefuses (sym (ap (λ a. turn g l r (token_of y a)) (let q : Ok c' ≡ Ok c = sym k' ∙ k in let q' : c' ≡ c = cc in q') ∙ f)) tt)
           turned c k (late z m) f h i j =
-              worse_chain z (takes g l n (with_scan t m) o) (stopped (λ c' k'. subst Ends (sym (ap (λ a. turn g l r (token_of y a)) (let q : Ok c' ≡ Ok c = sym k' ∙ k in let q' : c' ≡ c = cc in q') ∙ f)) tt))
+              worse_chain z (takes g l n (with_scan t m) o) (stopped (λ c' k'. subst TurnRefuses (sym (ap (λ a. turn g l r (token_of y a)) (let q : Ok c' ≡ Ok c = sym k' ∙ k in let q' : c' ≡ c = cc in q') ∙ f)) tt))
 
           left_chain : (c : Result Content Reason) → said y.kind y.octets ≡ c → Chain (on_said c (λ c. behind_left (λ k. takes g l n k o) t (turn g l r (token_of y c))))
           left_chain (Err z) k = stopped (λ c' k'. absurd (let q : Err z ≡ Ok c' = sym k ∙ k' in cc))
@@ -227,9 +227,9 @@ module _ (g : Catalog) (l : Limits) where
 
         -- an octet at the scanner
         pub scan_chain : (unsettled s r (feed (place r) s o) ≡ true) ⊎ (settle g l r ≡ goes r) → (x : Outcome) → feed (place r) s o ≡ x → Chain (on_scan g l (λ k. takes g l n k o) r x)
-        scan_chain direct (Next t) e = chain_by (noticed l r t) (noticed_stays g l r t) (λ z q. halted (inl (direct, subst (Stops r) (sym e) (z, q))))
+        scan_chain direct (Next t) e = chain_by (noticed l r t) (noticed_stays g l r t) (λ z q. halted (inl (direct, subst (ScanRefused r) (sym e) (z, q))))
         scan_chain direct (Given y t) e =
             chain_by (on_said (said y.kind y.octets) (λ c. behind_given l t (turn g l r (token_of y c)))) (said_stays g l (said y.kind y.octets) (λ c. behind_given l t (turn g l r (token_of y c))) (λ c. given_stays g l t (turn g l r (token_of y c))))
-            (λ z q. halted (inl (direct, subst (Stops r) (sym e) tt)))
-        scan_chain direct (Refused i z) e = halted (inl (direct, subst (Stops r) (sym e) tt))
+            (λ z q. halted (inl (direct, subst (ScanRefused r) (sym e) tt)))
+        scan_chain direct (Refused i z) e = halted (inl (direct, subst (ScanRefused r) (sym e) tt))
         scan_chain direct (Left y t) e = left_chain y t e direct (said y.kind y.octets) refl

@@ -26,12 +26,12 @@ use Rattle.ion_text.specs.laws.reading.Pieces.{pieces_read}
 use Rattle.ion_text.specs.laws.reading.Found.{lexes_operators}
 use Rattle.ion_text.specs.laws.reading.Going.{Going, top_place}
 use Rattle.ion_tokens.specs.machine.Scanned.{Scanned, Continues}
-use Rattle.ion_text.specs.laws.reading.Held.{Behind as Stands, Open, none_open}
+use Rattle.ion_text.specs.laws.reading.Held.{Behind, NoLongText, none_open}
 use Rattle.ion_text.specs.laws.reading.Sound.{NowStands}
 use Rattle.ion_text.specs.laws.reading.Steps.{Stood}
 use Rattle.ion_text.specs.laws.reading.Stops.{stood_used}
-use Rattle.ion_text.specs.laws.showing.Cuts.{Behind, behind_tokens, lexed_front, parted, parts_meet, Is, one_found}
-use Rattle.ion_text.specs.laws.showing.Compare.{Found', TopFirst, Compared, compare, lexes_once, begins_after, From, run_from}
+use Rattle.ion_text.specs.laws.showing.Cuts.{OpenBehind, behind_tokens, lexed_front, parted, parts_meet, Is, one_found}
+use Rattle.ion_text.specs.laws.showing.Compare.{Found', TopFirst, Compared, compare, lexes_once, begins_after, TokenFrom, run_from}
 use Rattle.ion_text.specs.laws.showing.Once.{begins_lexed, operator_inside, whole_going, whole_found, whole_operators, whole_ends}
 
 -- what escapes from a token that ends within the octets used
@@ -48,11 +48,11 @@ no_octets : (z : List ℕ) → length z ≤ 0 → z ≡ []
 no_octets [] h = refl
 no_octets (o ∷ os) h = absurd (omega arith)
 
-module _ (g : Catalog) (l : Limits) (u : List ℕ) (vs : List Value) (s : Known) (r : Reading) (ahead : List ℕ) (A : Type 0) (b : Stands g l Scanned u vs s r ahead A) (used : s.used ≡ length u) where
+module _ (g : Catalog) (l : Limits) (u : List ℕ) (vs : List Value) (s : Known) (r : Reading) (ahead : List ℕ) (A : Type 0) (b : Behind g l Scanned u vs s r ahead A) (used : s.used ≡ length u) where
   abbrev p : Place
   p = place r
 
-  abbrev pub k : Behind p s u (b.front ++ b.item) ahead
+  abbrev pub k : OpenBehind p s u (b.front ++ b.item) ahead
   k = behind_tokens p s u (b.front ++ b.item) ahead b.scanned
 
   covers : k.end + length k.since ≡ length u
@@ -120,7 +120,7 @@ module _ (g : Catalog) (l : Limits) (u : List ℕ) (vs : List Value) (s : Known)
           from y f =
               let x = passes_blank p k.colon w.blank w.is_blank k.end k.end in
               let ran : run p y (blank k.colon x.0 (k.end + length w.blank)) ≡ Next s = sym (ap (λ z. run p z (at modes.Blank [] k.colon k.end k.end)) f ∙ x.1 y) ∙ k.reached in
-              let i = subst (From (k.end + length w.blank)) ran (run_from p y (k.end + length w.blank) (blank k.colon x.0 (k.end + length w.blank)) (record { enough = omega arith }) (omega arith)) in
+              let i = subst (TokenFrom (k.end + length w.blank)) ran (run_from p y (k.end + length w.blank) (blank k.colon x.0 (k.end + length w.blank)) (record { enough = omega arith }) (omega arith)) in
               omega (arith, i, one.1, size v rest more t cut w)
 
           by : ((y : List ℕ) × (k.since ≡ w.blank ++ y) × (y ++ more ≡ rest ++ more)) ⊎ ((z : List ℕ) × (w.blank ≡ k.since ++ z) × (z ++ (rest ++ more) ≡ more)) → length v ≤ start_of s.mode s.start s.used
@@ -130,10 +130,10 @@ module _ (g : Catalog) (l : Limits) (u : List ℕ) (vs : List Value) (s : Known)
               from [] (sym (ap (λ x. k.since ++ x) (no_octets z n) ∙ append-nil k.since) ∙ (sym f ∙ sym (append-nil w.blank)))
 
       -- no token more has ended in the octets
-      abbrev pub NoneMore : Type 0
-      NoneMore = (x : Placed) (xs : List Placed) → w.tokens ≡ b.front ++ x ∷ xs → x.place ≡ p → Is p x.lexeme (run p more s) → x.lexeme.end ≤ s.used → ⊥
+      abbrev pub NoneHasEnded : Type 0
+      NoneHasEnded = (x : Placed) (xs : List Placed) → w.tokens ≡ b.front ++ x ∷ xs → x.place ≡ p → Is p x.lexeme (run p more s) → x.lexeme.end ≤ s.used → ⊥
 
-      never_more : NoneMore → (x : Placed) (xs : List Placed) → w.tokens ≡ b.front ++ x ∷ xs → TopFirst (x ∷ xs) → ⊥
+      never_more : NoneHasEnded → (x : Placed) (xs : List Placed) → w.tokens ≡ b.front ++ x ∷ xs → TopFirst (x ∷ xs) → ⊥
       never_more ended x xs e at_top =
           let d = parted b.front (x ∷ xs) false 0 (u ++ more) w.colon w.end (w.blank ++ (rest ++ more)) (subst (λ z. LexesTo false 0 (u ++ more) z w.colon w.end (w.blank ++ (rest ++ more))) e (theirs v rest more t cut w)) in
           let one = lexes_once b.front false 0 (u ++ more) d.flag k.colon d.mid k.end d.left (k.since ++ more) d.first tokens in
@@ -147,7 +147,7 @@ module _ (g : Catalog) (l : Limits) (u : List ℕ) (vs : List Value) (s : Known)
           ended x xs e (at_top ∙ sym top) at_end' (omega (arith, last.2, long v rest more t cut w, size v rest more t cut w, used))
 
       -- Between items the pieces that were read are the longest.
-      pub longest_before : NoneMore → length v ≤ start_of s.mode s.start s.used
+      pub longest_before : NoneHasEnded → length v ≤ start_of s.mode s.start s.used
       longest_before ended = by (compared v rest more t cut w k.colon k.end (k.since ++ more) tokens)
         where
           by : Compared b.front w.tokens → length v ≤ start_of s.mode s.start s.used
@@ -161,4 +161,4 @@ pub longest_between : (g : Catalog) (l : Limits) (u : List ℕ) (vs : List Value
 longest_between g l u vs m b none v rest t cut whole =
     let h = behind_tokens (place m.reading) m.scan u (b.front ++ b.item) [] b.scanned in
     let f = escape (place m.reading) h.colon h.end m.scan h.since h.holds in
-    longest_before g l u vs m.scan m.reading [] (Open m.scan.mode) b (stood_used g l u vs m b) none f.octets (f.octets, refl) v rest t cut (whole f.octets f.are) (λ x xs e q i n. escaped (place m.reading) m.scan f.octets x.lexeme f.escapes i n)
+    longest_before g l u vs m.scan m.reading [] (NoLongText m.scan.mode) b (stood_used g l u vs m b) none f.octets (f.octets, refl) v rest t cut (whole f.octets f.are) (λ x xs e q i n. escaped (place m.reading) m.scan f.octets x.lexeme f.escapes i n)

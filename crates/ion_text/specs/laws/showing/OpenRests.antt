@@ -28,14 +28,14 @@ use Rattle.ion_text.specs.declared.state.Frame.{Frame}
 use Rattle.ion_text.specs.Grammar.{OpenRest, end_of}
 use Rattle.ion_text.specs.machine.EachToken.{Reading, Symbols, place}
 use Rattle.ion_text.specs.machine.Run.{State, is_top, is_fresh, reaches, longest_top, is_long_begun}
-use Rattle.ion_text.specs.laws.reading.Held.{IsFirst, Open, none_open}
+use Rattle.ion_text.specs.laws.reading.Held.{IsFirst, NoLongText, none_open}
 use Rattle.ion_text.specs.laws.reading.Complete.{last_end}
 use Rattle.ion_text.specs.laws.reading.Admits.{no_item}
 use Rattle.ion_text.specs.laws.reading.Quiet.{CalmNow}
 use Rattle.ion_text.specs.laws.reading.Sound.{EndsAt, NowStands}
 use Rattle.ion_text.specs.laws.reading.Steps.{Stood}
 use Rattle.ion_text.specs.laws.reading.Stops.{stood_used}
-use Rattle.ion_text.specs.laws.showing.Cuts.{Behind, Fronted, behind_tokens, lexed_front, parts_meet, parts_same}
+use Rattle.ion_text.specs.laws.showing.Cuts.{OpenBehind, BlankInFront, behind_tokens, lexed_front, parts_meet, parts_same}
 use Rattle.ion_text.specs.laws.showing.Fronts.{front_end, fresh_is}
 use Rattle.ion_text.specs.laws.showing.Within.{Within}
 
@@ -135,15 +135,15 @@ module _ (l : Limits) where
       by (inr (last, x, e, m)) = slashed x last e
 
   -- the item's octets, up to where its last token ended
-  record Waits (T octets rest : List ℕ) : Type 0 where
+  record ItemSoFar (T octets rest : List ℕ) : Type 0 where
     item : List ℕ
     fits : length item ≤ l.item
     same : item ++ octets ≡ rest
 
-  waits : (front rest T octets : List ℕ) → T ++ octets ≡ front ++ rest → length front ≤ length T → length T - length front ≤ l.item → Waits T octets rest
+  waits : (front rest T octets : List ℕ) → T ++ octets ≡ front ++ rest → length front ≤ length T → length T - length front ≤ l.item → ItemSoFar T octets rest
   waits front rest T octets e before fits = by (parts_meet T octets front rest e)
     where
-      by : ((y : List ℕ) × (T ≡ front ++ y) × (y ++ octets ≡ rest)) ⊎ ((z : List ℕ) × (front ≡ T ++ z) × (z ++ rest ≡ octets)) → Waits T octets rest
+      by : ((y : List ℕ) × (T ≡ front ++ y) × (y ++ octets ≡ rest)) ⊎ ((z : List ℕ) × (front ≡ T ++ z) × (z ++ rest ≡ octets)) → ItemSoFar T octets rest
       by (inl (y, f, k)) = record { item = y; fits = omega (arith, fits, ap length f, length-append front y); same = k }
       by (inr ([], f, k)) = record { item = []; fits = omega arith; same = sym k }
       by (inr (o ∷ z, f, k)) = absurd (let n = ap length f ∙ length-append T (o ∷ z) in omega (arith, n, before))
@@ -213,10 +213,10 @@ module _ (g : Catalog) (l : Limits) (u : List ℕ) (vs : List Value) (m : State)
         let h = subst (λ k. longest_top r.start s.used nows.Ready [] (if k then None else Some (token (form_of s.mode))) (is_long_begun (begun_in s)) ≤ l.item) i reach in
         counted l p u front rest T octets ts colon end (token (form_of s.mode)) parts cut.1 cut.2 (so_begun i) (omega (arith, h, size, begun_stays s.mode s.start s.used i))
 
-    k : Behind p s u ts []
+    k : OpenBehind p s u ts []
     k = behind_tokens p s u ts [] b.scanned
 
-    f : Fronted k.end s.mode s.start s.used k.since
+    f : BlankInFront k.end s.mode s.start s.used k.since
     f = k.fronted
 
     cut' : (T : List ℕ) × (u ++ [] ≡ T ++ (k.since ++ [])) × (k.end ≡ 0 + length T)
@@ -261,7 +261,7 @@ module _ (g : Catalog) (l : Limits) (u : List ℕ) (vs : List Value) (m : State)
   module _ (t : Placed) (us : List Placed) (some : b.item ≡ t ∷ us) where
     unfresh : (x : Bool) → is_fresh r ≡ x → x ≡ false
     unfresh false e = refl
-    unfresh true e = absurd (let n : [] ≡ t ∷ us = sym (no_item g l Scanned u vs s r [] (Open s.mode) b e) ∙ some in cc)
+    unfresh true e = absurd (let n : [] ≡ t ∷ us = sym (no_item g l Scanned u vs s r [] (NoLongText s.mode) b e) ∙ some in cc)
 
     open_size : length front ≡ r.start
     open_size = ends ∙ ap (λ (x : Bool). if x then start_of s.mode s.start s.used else r.start) (unfresh (is_fresh r) refl)
@@ -283,7 +283,7 @@ module _ (g : Catalog) (l : Limits) (u : List ℕ) (vs : List Value) (m : State)
     token_counted : is_idle s.mode ≡ false → (s.used - behind s.mode) - r.start ≤ l.item → OpenRest l rest
     token_counted i h = counted l p u front rest T octets ts colon end (token (form_of s.mode)) parts cut.1 cut.2 (so_begun i) (omega (arith, h, open_size))
 
-    waiting : (last : ℕ) → last ≡ end_of 0 b.item → last - r.start ≤ l.item → Waits l T octets rest
+    waiting : (last : ℕ) → last ≡ end_of 0 b.item → last - r.start ≤ l.item → ItemSoFar l T octets rest
     waiting last e h = waits l front rest T octets (sym cut.1 ∙ parts) begins (omega (arith, h, e, item_end, open_size))
 
     wait_idle : (last : ℕ) → last ≡ end_of 0 b.item → last - r.start ≤ l.item → is_idle s.mode ≡ true → OpenRest l rest

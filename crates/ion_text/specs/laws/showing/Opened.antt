@@ -34,24 +34,24 @@ use Rattle.ion_text.specs.declared.state.Frame.TheVariants as frames
 use Rattle.ion_text.specs.Grammar.{Whole, BlankThen, Segments, segment, joined, ends_long}
 use Rattle.ion_text.specs.machine.EachToken.{Reading, goes, Symbols, fresh, place, place_in, settle}
 use Rattle.ion_text.specs.machine.Run.{State, is_fresh, token_of}
-use Rattle.ion_text.specs.machine.TokenLists.{walked, adds, done, on_turn, continues, reads}
+use Rattle.ion_text.specs.machine.TokenLists.{walked, adds_values, done, on_turn, continues, reads}
 use Rattle.ion_text.specs.laws.reading.Places.{Leading}
 use Rattle.ion_text.specs.machine.Passed.{said_body}
 use Rattle.ion_text.specs.laws.reading.Pieces.{ReadSoFar, GoesOn, pieces_read, quoted_kind, walked_now, settled_first, more_read, top_now}
 use Rattle.ion_text.specs.laws.reading.Complete.{Begins, starts, segment_kind, segments_long, ends_behind}
 use Rattle.ion_text.specs.laws.reading.Going.{Going, going_said, says_so, mark_kind}
 use Rattle.ion_text.specs.laws.reading.Spans.{IsWaiting}
-use Rattle.ion_text.specs.laws.reading.Held.{Behind as Stands, IsFirst, Open}
+use Rattle.ion_text.specs.laws.reading.Held.{Behind, IsFirst, NoLongText}
 use Rattle.ion_text.specs.laws.reading.Admits.{no_item}
 use Rattle.ion_text.specs.laws.reading.Sound.{NowStands, PendingFor, LongFor, symbol_said}
 use Rattle.ion_text.specs.laws.reading.Steps.{Stood}
 use Rattle.ion_text.specs.laws.reading.Stops.{stood_used}
-use Rattle.ion_text.specs.laws.showing.Cuts.{Behind, Parted, parted, lexed_front, Is, one_found}
+use Rattle.ion_text.specs.laws.showing.Cuts.{OpenBehind, Parted, parted, lexed_front, Is, one_found}
 use Rattle.ion_text.specs.laws.showing.Firsts.{OpensItem, opens_item, symbol_kind, now_first}
 use Rattle.ion_text.specs.laws.showing.Compare.{Found', lexes_once, begins_after}
 use Rattle.ion_text.specs.laws.showing.Once.{begins_lexed, operator_inside, whole_going, whole_found, whole_operators}
 use Rattle.ion_text.specs.laws.showing.Longest.{escaped, k as behind_all, octets as all_octets, theirs as their_tokens, size as their_size, long as their_long}
-use Rattle.ion_text.specs.laws.showing.Walks.{Met, Walking, walking_said, settled_reads, adds_is, behind_read, meet}
+use Rattle.ion_text.specs.laws.showing.Walks.{OneIsFront, Walking, walking_said, settled_reads, adds_is, behind_read, meet}
 use Rattle.ion_text.specs.laws.showing.Stays.{Arrived, arrived}
 use Rattle.ion_text.specs.laws.showing.Froms.{fresh_parts, From, AllFrom, settle_from, walked_from, Waits}
 use Rattle.ion_text.specs.laws.showing.Closing.{Closing, colons_close, quotes_close}
@@ -133,11 +133,11 @@ inside_place (frames.Fields ss ms) fs nows.Name e = cc
 inside_place (frames.Fields ss ms) fs (nows.LongName w) e = cc
 inside_place (frames.Fields ss ms) fs (nows.Keyed s) e = cc
 
-module _ (g : Catalog) (l : Limits) (u : List ℕ) (vs : List Value) (s : Known) (r : Reading) (ahead : List ℕ) (A : Type 0) (b : Stands g l Scanned u vs s r ahead A) (used : s.used ≡ length u) (x : Placed) (xs : List Placed) (some : b.item ≡ x ∷ xs) where
+module _ (g : Catalog) (l : Limits) (u : List ℕ) (vs : List Value) (s : Known) (r : Reading) (ahead : List ℕ) (A : Type 0) (b : Behind g l Scanned u vs s r ahead A) (used : s.used ≡ length u) (x : Placed) (xs : List Placed) (some : b.item ≡ x ∷ xs) where
   abbrev p : Place
   p = place r
 
-  abbrev pub k : Behind p s u (b.front ++ b.item) ahead
+  abbrev pub k : OpenBehind p s u (b.front ++ b.item) ahead
   k = behind_all g l u vs s r ahead A b used
 
   pub new : is_fresh r ≡ false
@@ -170,7 +170,7 @@ module _ (g : Catalog) (l : Limits) (u : List ℕ) (vs : List Value) (s : Known)
 
   -- all tokens are read
   read : reads g l (fresh system_slots) (b.front ++ b.item) ≡ walked (vs ++ []) a.r
-  read = more_read g l b.front b.item vs r.context (pieces_read g l b.front vs r.context b.pieces) first b.first ∙ ap (adds vs) a.read
+  read = more_read g l b.front b.item vs r.context (pieces_read g l b.front vs r.context b.pieces) first b.first ∙ ap (adds_values vs) a.read
 
   pub begins : starts g l 0 [] b.item ≡ r.start
   begins = subst (λ y. IsFirst y r.start → starts g l 0 [] y ≡ r.start) (sym some) (λ e. e) b.begins
@@ -208,7 +208,7 @@ module _ (g : Catalog) (l : Limits) (u : List ℕ) (vs : List Value) (s : Known)
     going : Going g l (fresh system_slots) w.tokens t
     going = whole_going g l v (rest ++ more) t w
 
-    met : Met (b.front ++ b.item) w.tokens
+    met : OneIsFront (b.front ++ b.item) w.tokens
     met =
         meet g l (λ s octets. Unit {0}) initial (u ++ more) (b.front ++ b.item)
         (begins_completes (b.front ++ b.item) false 0 (u ++ more) [] (u ++ more) initial (begins_lexed (b.front ++ b.item) false 0 (u ++ more) k.colon k.end (k.since ++ more) ours) refl (λ p. refl))
@@ -222,10 +222,10 @@ module _ (g : Catalog) (l : Limits) (u : List ℕ) (vs : List Value) (s : Known)
         (more.0 ++ going.later, record { vs = more.0; later = going.later; n = going.n; c = going.c; read = more.1; ends = going.ends; whole = refl })
 
     -- where they have, the next one ends behind the octets
-    abbrev pub NoneMore : Type 0
-    NoneMore = (z : Placed) (zs : List Placed) → w.tokens ≡ (b.front ++ b.item) ++ z ∷ zs → Is p z.lexeme (run p more s) → z.lexeme.end ≤ s.used → ⊥
+    abbrev pub NoneEnds : Type 0
+    NoneEnds = (z : Placed) (zs : List Placed) → w.tokens ≡ (b.front ++ b.item) ++ z ∷ zs → Is p z.lexeme (run p more s) → z.lexeme.end ≤ s.used → ⊥
 
-    never_more : NoneMore → (z : Placed) (zs : List Placed) → w.tokens ≡ (b.front ++ b.item) ++ z ∷ zs → ⊥
+    never_more : NoneEnds → (z : Placed) (zs : List Placed) → w.tokens ≡ (b.front ++ b.item) ++ z ∷ zs → ⊥
     never_more ended z zs e =
         let d = parted (b.front ++ b.item) (z ∷ zs) false 0 (u ++ more) w.colon w.end (w.blank ++ (rest ++ more)) (subst (λ y. LexesTo false 0 (u ++ more) y w.colon w.end (w.blank ++ (rest ++ more))) e theirs) in
         let one = lexes_once (b.front ++ b.item) false 0 (u ++ more) d.flag k.colon d.mid k.end d.left (k.since ++ more) d.first ours in
@@ -292,17 +292,17 @@ module _ (g : Catalog) (l : Limits) (u : List ℕ) (vs : List Value) (s : Known)
         by : (z : Bool) → continues d.now (token_of y.lexeme content) ≡ z → length v ≤ r.start
         by true h = absurd (goes_on (d.shuts (token_of y.lexeme content) h))
         by false h =
-            let there : adds d.later (reads g l (fresh w.context) (y ∷ ys)) ≡ walked others.0 a.r = sym (settled_reads g l d.now y ys content is.0 is.2 h ∙ settled_first g l (settle g l d.now) d.later (fresh w.context) (λ z. reads g l z (y ∷ ys)) d.settles) ∙ others.1 in
+            let there : adds_values d.later (reads g l (fresh w.context) (y ∷ ys)) ≡ walked others.0 a.r = sym (settled_reads g l d.now y ys content is.0 is.2 h ∙ settled_first g l (settle g l d.now) d.later (fresh w.context) (λ z. reads g l z (y ∷ ys)) d.settles) ∙ others.1 in
             let walk = adds_is g l d.later others.0 a.r (reads g l (fresh w.context) (y ∷ ys)) there in
             let all : AllFrom g l y.lexeme.start (y ∷ ys) = (omega arith, lexed_from y.lexeme.start ys (colon_behind y) y.lexeme.end (parts.second).0 k.colon k.end (k.since ++ more) g l (omega (arith, token.start, token.end)) (parts.second).2) in
             let from = begins_from y.lexeme.start (walked_from g l y.lexeme.start (y ∷ ys) (fresh w.context) a.r walk.0 all (λ i. tt, inl refl) walk.1) in
             omega (arith, from, behind)
 
     -- they end before the open item, or with its last token
-    pub ends_before : NoneMore → (length v ≤ r.start) ⊎ (w.tokens ≡ b.front ++ b.item)
+    pub ends_before : NoneEnds → (length v ≤ r.start) ⊎ (w.tokens ≡ b.front ++ b.item)
     ends_before ended = by met
       where
-        by : Met (b.front ++ b.item) w.tokens → (length v ≤ r.start) ⊎ (w.tokens ≡ b.front ++ b.item)
+        by : OneIsFront (b.front ++ b.item) w.tokens → (length v ≤ r.start) ⊎ (w.tokens ≡ b.front ++ b.item)
         by (inl ([], e)) = inr (e ∙ append-nil (b.front ++ b.item))
         by (inl (z ∷ zs, e)) = absurd (never_more ended z zs e)
         by (inr ([], e, h)) = inr (sym (e ∙ append-nil w.tokens))
@@ -431,4 +431,4 @@ module _ (g : Catalog) (l : Limits) (u : List ℕ) (vs : List Value) (s : Known)
 
 -- where no octet is refused
 pub longest_open : (g : Catalog) (l : Limits) (u : List ℕ) (vs : List Value) (m : State) (b : Stood g l u vs m) (x : Placed) (xs : List Placed) → b.item ≡ x ∷ xs → Waits g l m.scan m.reading.now → (v rest : List ℕ) (t : List Value) → u ≡ v ++ rest → ArePieces (Whole g l) v rest t → length v ≤ m.reading.start
-longest_open g l u vs m b x xs some wait v rest t cut whole = longest_item g l u vs m.scan m.reading [] (Open m.scan.mode) b (stood_used g l u vs m b) x xs some (λ octets. (octets, refl)) wait v rest t cut whole
+longest_open g l u vs m b x xs some wait v rest t cut whole = longest_item g l u vs m.scan m.reading [] (NoLongText m.scan.mode) b (stood_used g l u vs m b) x xs some (λ octets. (octets, refl)) wait v rest t cut whole

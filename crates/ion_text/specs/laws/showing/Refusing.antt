@@ -12,7 +12,7 @@ use Rattle.ion_text.specs.Grammar.{Document, Whole}
 use Rattle.ion_text.specs.machine.Run.{State, Effect, uses, tells, leaves, fails, begun, eats, Run, run, run_on, once_more, trace}
 use Rattle.ion_text.specs.laws.reading.Held.{ApartAt}
 use Rattle.ion_text.specs.machine.Pieces.{on_now}
-use Rattle.ion_text.specs.laws.reading.Steps.{Ran, run_ran, begun_stood}
+use Rattle.ion_text.specs.laws.reading.Steps.{StoodBehind, run_ran, begun_stood}
 use Rattle.ion_text.specs.laws.reading.Stops.{Stop, behind_run, begins_none, refused_ends, refused_none, refused_run, stop_of, stop_taken, stop_within}
 use Rattle.ion_text.specs.laws.reading.Promises.{before_end, has_reasons}
 use Rattle.ion_text.specs.laws.showing.Ahead.{last_parted}
@@ -27,7 +27,7 @@ use Rattle.ion_text.specs.laws.showing.Halts.{Chain, Halted}
 use Rattle.ion_text.specs.laws.showing.Longest.{longest_before}
 use Rattle.ion_text.specs.laws.showing.Opened.{ends_before, new}
 use Rattle.ion_text.specs.laws.showing.Stuck.{fresh_left}
-use Rattle.ion_text.specs.laws.showing.Symbols.{EndsStill, Still, run_still}
+use Rattle.ion_text.specs.laws.showing.Symbols.{EndsStill, HasBegun, run_still}
 use Rattle.ion_text.specs.laws.showing.Unended.{item_left}
 use Rattle.ion_text.specs.laws.reading.Fuel.{NotLeaves}
 
@@ -105,7 +105,7 @@ module _ (g : Catalog) (l : Limits) where
       go (leaves y k) c n e = absurd n
       go (fails y) c n e = c
 
-  ran_stood : (u : List ℕ) (given : List (Value × ℕ)) (now : Result State Refusal) (n : State) → Ran g l u [] (record { given = given; now = now }) → EndsStill g l now → EndsWaiting g l now → now ≡ Ok n → (o : ℕ) → Chain g l u o (plain given) (eats g l n o)
+  ran_stood : (u : List ℕ) (given : List (Value × ℕ)) (now : Result State Refusal) (n : State) → StoodBehind g l u [] (record { given = given; now = now }) → EndsStill g l now → EndsWaiting g l now → now ≡ Ok n → (o : ℕ) → Chain g l u o (plain given) (eats g l n o)
   ran_stood u given (Ok m) n b still wait e o = subst (λ k. Chain g l u o (plain given) (eats g l k o)) (let same : m ≡ n = cc in same) (eats_chain g l u o (plain given) m b still wait)
   ran_stood u given (Err q) n b still wait e o = absurd cc
 
@@ -123,7 +123,7 @@ module _ (g : Catalog) (l : Limits) where
       step : run g l 0 begun (p.before ++ p.o ∷ []) ≡ record { given = before.given ++ last.given; now = last.now }
       step = behind_run g l p.before (p.o ∷ []) ∙ ap (λ y. on_now before.given y (λ n. run g l (length p.before) n (p.o ∷ []))) p.ran
 
-      still : Still g l begun.scan begun.reading
+      still : HasBegun g l begun.scan begun.reading
       still f c = absurd (let n : false ≡ true = c in cc)
 
       chain : Chain g l p.before p.o (plain before.given) (eats g l p.n p.o)

@@ -21,18 +21,18 @@ use Rattle.ion_text.specs.laws.reading.Pieces.{ReadSoFar, GoesOn, pieces_read, q
 use Rattle.ion_text.specs.laws.reading.Complete.{segment_kind}
 use Rattle.ion_text.specs.laws.reading.Meets.{finely_as}
 use Rattle.ion_text.specs.laws.reading.Going.{Going, TurnGoes, going_said, going_turn, going_settle, mark_kind}
-use Rattle.ion_text.specs.laws.reading.Held.{Apart, ApartAt, IsLongNow}
+use Rattle.ion_text.specs.laws.reading.Held.{NoSegment, ApartAt, IsLongNow}
 use Rattle.ion_text.specs.laws.reading.Tokens.{left_colons}
 use Rattle.ion_text.specs.laws.showing.Fronts.{no_tokens}
 use Rattle.ion_text.specs.laws.showing.Froms.{fresh_parts}
 use Rattle.ion_text.specs.laws.showing.Once.{whole_going}
 use Rattle.ion_text.specs.laws.showing.Walks.{behind_read}
-use Rattle.ion_text.specs.laws.showing.Halts.{Halted, Ends, Stops}
+use Rattle.ion_text.specs.laws.showing.Halts.{Halted, TurnRefuses, ScanRefused}
 use Rattle.ion_text.specs.laws.reading.Segments.{never}
 
 module _ (g : Catalog) (l : Limits) where
   -- what refuses leads nowhere
-  pub ends_goes : (x : Turn) (ts : List Placed) (all : List Value) → Ends g l x → TurnGoes g l x ts all → ⊥
+  pub ends_goes : (x : Turn) (ts : List Placed) (all : List Value) → TurnRefuses g l x → TurnGoes g l x ts all → ⊥
   ends_goes (goes r) ts all e d = e
   ends_goes (gives v r) ts all e d = e
   ends_goes (refuses z) ts all e d = d
@@ -109,7 +109,7 @@ module _ (g : Catalog) (l : Limits) where
 
           by : IsLongNow r.now ⊎ ApartAt o s r → ⊥
           by (inl i) = subst IsLongNow parts.2 i
-          by (inr i) = both (is_top r.frames) (is_quoted z.lexeme.kind) (ap is_top parts.0) kind (subst (λ x. Apart (is_top r.frames) x) left i)
+          by (inr i) = both (is_top r.frames) (is_quoted z.lexeme.kind) (ap is_top parts.0) kind (subst (λ x. NoSegment (is_top r.frames) x) left i)
 
       settles : continues d.now (token_of z.lexeme c) ≡ false
       settles = go (continues d.now (token_of z.lexeme c)) refl
@@ -141,6 +141,6 @@ module _ (g : Catalog) (l : Limits) where
       pub fresh_left : ⊥
       fresh_left = by h.stops
         where
-          by : (((unsettled s r (feed p s o) ≡ true) ⊎ (settle g l r ≡ goes r)) × Stops g l r (feed p s o)) ⊎ ((unsettled s r (feed p s o) ≡ false) × Ends g l (settle g l r)) → ⊥
-          by (inl (direct, i)) = ends_goes (turn g l (fresh r.context) (token_of z.lexeme c)) zs on.0 (subst (Ends g l) same (subst (Stops g l r) left i c says)) turned
-          by (inr (shut, i)) = subst (Ends g l) still i
+          by : (((unsettled s r (feed p s o) ≡ true) ⊎ (settle g l r ≡ goes r)) × ScanRefused g l r (feed p s o)) ⊎ ((unsettled s r (feed p s o) ≡ false) × TurnRefuses g l (settle g l r)) → ⊥
+          by (inl (direct, i)) = ends_goes (turn g l (fresh r.context) (token_of z.lexeme c)) zs on.0 (subst (TurnRefuses g l) same (subst (ScanRefused g l r) left i c says)) turned
+          by (inr (shut, i)) = subst (TurnRefuses g l) still i

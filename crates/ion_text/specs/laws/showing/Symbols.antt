@@ -28,7 +28,7 @@ use Rattle.ion_text.specs.machine.Run.{State, Effect, uses, tells, leaves, fails
 use Rattle.ion_text.specs.machine.Passed.{said_body}
 use Rattle.ion_text.specs.laws.reading.Places.{Leading, settle_same}
 use Rattle.ion_text.specs.laws.reading.Held.{map_turn, or_parts}
-use Rattle.ion_text.specs.laws.reading.Spans.{Closes, Spans, turn_spans}
+use Rattle.ion_text.specs.laws.reading.Spans.{IsClose, Spans, turn_spans}
 use Rattle.ion_text.specs.laws.reading.Sound.{start_now, symbol_said}
 use Rattle.ion_text.specs.laws.reading.Steps.{Stood, After, eats_after, takes_after}
 use Rattle.ion_text.specs.laws.showing.Cuts.{Keeps, feed_keeps}
@@ -124,7 +124,7 @@ module _ (g : Catalog) (l : Limits) where
   any_turn P h (late e r) = tt
 
   -- a token that closes nothing ends no item in a container
-  inside_open : (c : Content) (item start end : ℕ) (t : Turn) → (Closes false c → ⊥) → Spans false c item start end t → Unfresh t
+  inside_open : (c : Content) (item start end : ℕ) (t : Turn) → (IsClose false c → ⊥) → Spans false c item start end t → Unfresh t
   inside_open c item start end (goes n) k (inl (inl h, from, to)) = inside_unfresh n h
   inside_open c item start end (goes n) k (inl (inr (h, new, ok), from, to)) = absurd (let x : false ≡ true = h in cc)
   inside_open c item start end (goes n) k (inr h) = absurd (k h.1)
@@ -151,7 +151,7 @@ module _ (g : Catalog) (l : Limits) where
       free : takes_colon (place r) x.kind ≡ false → NoColon (place r) x t
       free h = any_turn (λ n. is_fresh n ≡ true → takes_colon (place r) x.kind ≡ false) (λ n f. h) t
 
-      name : (Closes false c → ⊥) → (b : Bool) → is_name (place r) ≡ b → takes_colon (place r) x.kind ≡ b → NoColon (place r) x t
+      name : (IsClose false c → ⊥) → (b : Bool) → is_name (place r) ≡ b → takes_colon (place r) x.kind ≡ b → NoColon (place r) x t
       name k false e f = free f
       name k true e f =
           let i = name_inside r.frames r.now e in
@@ -161,8 +161,8 @@ module _ (g : Catalog) (l : Limits) where
       go kinds.Word e h = symbol (word_symbol x.octets (id_of x.octets) c h)
       go kinds.KindName e h = symbol (null_symbol (kind_named x.octets) c h)
       go kinds.QuotedSymbol e h = symbol (ap symbol_said h.0)
-      go kinds.ShortString e h = name (λ i. subst (Closes false) h.0 i) (is_name (place r)) refl (ap (takes_colon (place r)) e)
-      go kinds.LongString e h = name (λ i. subst (Closes false) h.0 i) (is_name (place r)) refl (ap (takes_colon (place r)) e)
+      go kinds.ShortString e h = name (λ i. subst (IsClose false) h.0 i) (is_name (place r)) refl (ap (takes_colon (place r)) e)
+      go kinds.LongString e h = name (λ i. subst (IsClose false) h.0 i) (is_name (place r)) refl (ap (takes_colon (place r)) e)
       go kinds.Number e h = free (ap (takes_colon (place r)) e)
       go kinds.Operator e h = free (ap (takes_colon (place r)) e)
       go kinds.Clob e h = free (ap (takes_colon (place r)) e)
@@ -170,8 +170,8 @@ module _ (g : Catalog) (l : Limits) where
       go (kinds.Mark m) e h = free (ap (takes_colon (place r)) e)
 
   -- where nothing is open, and the last token may have a colon behind it, a token has begun
-  abbrev pub Still : Known → Reading → Type 0
-  Still s r = is_fresh r ≡ true → s.colon ≡ true → is_idle s.mode ≡ false
+  abbrev pub HasBegun : Known → Reading → Type 0
+  HasBegun s r = is_fresh r ≡ true → s.colon ≡ true → is_idle s.mode ≡ false
 
   -- an octet begins one, or ends one
   abbrev BeginsOne : Outcome → Type 0
@@ -181,7 +181,7 @@ module _ (g : Catalog) (l : Limits) where
   abbrev pub StillAt : ℕ → Known → Reading → Type 0
   StillAt o s r = is_fresh r ≡ true → s.colon ≡ true → BeginsOne (feed (place r) s o)
 
-  still_at : (o : ℕ) (s : Known) (r : Reading) → is_sane s.mode ≡ true → Still s r → StillAt o s r
+  still_at : (o : ℕ) (s : Known) (r : Reading) → is_sane s.mode ≡ true → HasBegun s r → StillAt o s r
   still_at o s r sane h f c = go (feed (place r) s o) (feed_follows (place r) s o sane)
     where
       go : (x : Outcome) → Follows (place r) s.mode x → BeginsOne x
@@ -192,13 +192,13 @@ module _ (g : Catalog) (l : Limits) where
 
   -- what came of an octet
   abbrev pub StillBehind : ℕ → Effect → Type 0
-  StillBehind o (uses m) = Still m.scan m.reading
-  StillBehind o (tells v m) = Still m.scan m.reading
+  StillBehind o (uses m) = HasBegun m.scan m.reading
+  StillBehind o (tells v m) = HasBegun m.scan m.reading
   StillBehind o (leaves v m) = StillAt o m.scan m.reading
   StillBehind o (fails e) = Unit {0}
 
   module _ (o : ℕ) where
-    noticed_still : (r : Reading) (s : Known) → Still s r → StillBehind o (noticed l r s)
+    noticed_still : (r : Reading) (s : Known) → HasBegun s r → StillBehind o (noticed l r s)
     noticed_still r s h = go (shut r.now && not (is_idle s.mode)) (nat_le (reaches r.frames r s) l.item)
       where
         go : (x y : Bool) → StillBehind o (if x then fails reasons.Unexpected else (if y then uses (record { scan = s; reading = r }) else fails reasons.ItemTooLong))
@@ -218,10 +218,10 @@ module _ (g : Catalog) (l : Limits) where
     given_still s (refuses e) h = tt
     given_still s (late e r) h = worse_still e (noticed l r s)
 
-    abbrev Again : (State → Effect) → Type 0
-    Again again = (k : State) → StillAt o k.scan k.reading → StillBehind o (again k)
+    abbrev AgainStill : (State → Effect) → Type 0
+    AgainStill again = (k : State) → StillAt o k.scan k.reading → StillBehind o (again k)
 
-    left_still : (again : State → Effect) (s : Known) (t : Turn) → Again again → Leading g l (λ n. is_fresh n ≡ true → s.colon ≡ false) t → StillBehind o (behind_left again s t)
+    left_still : (again : State → Effect) (s : Known) (t : Turn) → AgainStill again → Leading g l (λ n. is_fresh n ≡ true → s.colon ≡ false) t → StillBehind o (behind_left again s t)
     left_still again s (goes r) f h = f (with_scan s r) (λ x c. absurd (never s.colon (h x) c))
     left_still again s (gives v r) f h = λ x c. absurd (never s.colon (h x) c)
     left_still again s (refuses e) f h = tt
@@ -235,17 +235,17 @@ module _ (g : Catalog) (l : Limits) where
     pub colon_free : (r : Reading) (x : Lexeme) (t : Known) (c : Content) → t.colon ≡ takes_colon (place r) x.kind → said x.kind x.octets ≡ Ok c → Leading g l (λ n. is_fresh n ≡ true → t.colon ≡ false) (turn g l r (token_of x c))
     colon_free r x t c e f = map_turn g l (λ n. is_fresh n ≡ true → takes_colon (place r) x.kind ≡ false) (λ n. is_fresh n ≡ true → t.colon ≡ false) (λ n h i. e ∙ h i) (turn g l r (token_of x c)) (turn_colon r x c (said_body x.kind x.octets c f))
 
-    scan_still : (s : Known) (r : Reading) (again : State → Effect) → Again again → StillAt o s r → (x : Outcome) → feed (place r) s o ≡ x → Keeps (place r) s x → StillBehind o (on_scan g l again r x)
+    scan_still : (s : Known) (r : Reading) (again : State → Effect) → AgainStill again → StillAt o s r → (x : Outcome) → feed (place r) s o ≡ x → Keeps (place r) s x → StillBehind o (on_scan g l again r x)
     scan_still s r again f h (Next t) e k = noticed_still r t (λ i c. subst BeginsOne e (h i (sym k.1 ∙ c)))
     scan_still s r again f h (Given x t) e k = said_still (said x.kind x.octets) (λ c. behind_given l t (turn g l r (token_of x c))) (λ c i. given_still t (turn g l r (token_of x c)) (colon_free r x t c k.2 i))
     scan_still s r again f h (Left x t) e k = said_still (said x.kind x.octets) (λ c. behind_left again t (turn g l r (token_of x c))) (λ c i. left_still again t (turn g l r (token_of x c)) f (colon_free r x t c k.2 i))
     scan_still s r again f h (Refused n y) e k = tt
 
-    octet_scanned : (s : Known) (r : Reading) (again : State → Effect) → Again again → StillAt o s r → StillBehind o (on_scan g l again r (feed (place r) s o))
+    octet_scanned : (s : Known) (r : Reading) (again : State → Effect) → AgainStill again → StillAt o s r → StillBehind o (on_scan g l again r (feed (place r) s o))
     octet_scanned s r again f h = scan_still s r again f h (feed (place r) s o) refl (feed_keeps (place r) s o)
 
     -- what waited is settled by an octet that begins a token, or ends one
-    settled_still : (s : Known) (again : State → Effect) (p : Place) → Again again → (t : Turn) → Leading g l (λ n. (place n ≡ p) × (is_fresh n ≡ true → s.colon ≡ true → BeginsOne (feed p s o))) t → StillBehind o (on_settled g l again s (feed p s o) t)
+    settled_still : (s : Known) (again : State → Effect) (p : Place) → AgainStill again → (t : Turn) → Leading g l (λ n. (place n ≡ p) × (is_fresh n ≡ true → s.colon ≡ true → BeginsOne (feed p s o))) t → StillBehind o (on_settled g l again s (feed p s o) t)
     settled_still s again p f (goes r) h =
         subst (λ q. StillBehind o (on_scan g l again r (feed q s o))) h.0
         (octet_scanned s r again f (subst (λ q. is_fresh r ≡ true → s.colon ≡ true → BeginsOne (feed q s o)) (sym h.0) h.1))
@@ -265,23 +265,23 @@ module _ (g : Catalog) (l : Limits) where
     long_begins top (Left x t) h = tt
     long_begins top (Refused n e) h = tt
 
-    abbrev Settled : Place → Known → Reading → Type 0
-    Settled p s n = (place n ≡ p) × (is_fresh n ≡ true → s.colon ≡ true → BeginsOne (feed p s o))
+    abbrev SettledIn : Place → Known → Reading → Type 0
+    SettledIn p s n = (place n ≡ p) × (is_fresh n ≡ true → s.colon ≡ true → BeginsOne (feed p s o))
 
     settling : (start : ℕ) (c : List Slot) (fs : List Frame) (ss : Symbols) (now : Now) (s : Known) → StillAt o s (at start c fs ss now) → waits_now (is_top fs) now (feed (place_in fs now) s o) ≡ false
-        → Leading g l (Settled (place_in fs now) s) (settle g l (at start c fs ss now))
+        → Leading g l (SettledIn (place_in fs now) s) (settle g l (at start c fs ss now))
     settling start c fs ss now s h w = go now refl
       where
         p : Place
         p = place_in fs now
 
-        by : BeginsOne (feed p s o) → Leading g l (Settled p s) (settle g l (at start c fs ss now))
-        by b = map_turn g l (λ n. (place n ≡ p) × (is_top n.frames ≡ is_top fs)) (Settled p s) (λ n e. (e.0, λ f i. b)) (settle g l (at start c fs ss now)) (settle_same g l start c fs ss now)
+        by : BeginsOne (feed p s o) → Leading g l (SettledIn p s) (settle g l (at start c fs ss now))
+        by b = map_turn g l (λ n. (place n ≡ p) × (is_top n.frames ≡ is_top fs)) (SettledIn p s) (λ n e. (e.0, λ f i. b)) (settle g l (at start c fs ss now)) (settle_same g l start c fs ss now)
 
-        same : (n : Now) → now ≡ n → settle g l (at start c fs ss n) ≡ goes (at start c fs ss n) → Leading g l (Settled p s) (settle g l (at start c fs ss now))
-        same n e f = subst (Leading g l (Settled p s)) (sym (ap (λ m. settle g l (at start c fs ss m)) e ∙ f)) (ap (place_in fs) (sym e), λ i k. h (ap (λ m. is_fresh (at start c fs ss m)) e ∙ i) k)
+        same : (n : Now) → now ≡ n → settle g l (at start c fs ss n) ≡ goes (at start c fs ss n) → Leading g l (SettledIn p s) (settle g l (at start c fs ss now))
+        same n e f = subst (Leading g l (SettledIn p s)) (sym (ap (λ m. settle g l (at start c fs ss m)) e ∙ f)) (ap (place_in fs) (sym e), λ i k. h (ap (λ m. is_fresh (at start c fs ss m)) e ∙ i) k)
 
-        go : (n : Now) → now ≡ n → Leading g l (Settled p s) (settle g l (at start c fs ss now))
+        go : (n : Now) → now ≡ n → Leading g l (SettledIn p s) (settle g l (at start c fs ss now))
         go (nows.Pending k end) e = by (symbol_begins (feed p s o) (sym (ap (λ m. waits_now (is_top fs) m (feed p s o)) e) ∙ w))
         go (nows.Long v end) e = by (long_begins (is_top fs) (feed p s o) (sym (ap (λ m. waits_now (is_top fs) m (feed p s o)) e) ∙ w))
         go (nows.LongName v) e = by (long_begins false (feed p s o) (sym (ap (λ m. waits_now (is_top fs) m (feed p s o)) e) ∙ w))
@@ -290,7 +290,7 @@ module _ (g : Catalog) (l : Limits) where
         go nows.Name e = same nows.Name e refl
         go (nows.Keyed x) e = same (nows.Keyed x) e refl
 
-    octet_still : (s : Known) (r : Reading) (again : State → Effect) → Again again → StillAt o s r → StillBehind o (on_octet g l again (with_scan s r) (feed (place r) s o))
+    octet_still : (s : Known) (r : Reading) (again : State → Effect) → AgainStill again → StillAt o s r → StillBehind o (on_octet g l again (with_scan s r) (feed (place r) s o))
     octet_still s r again f h = go (unsettled s r (feed (place r) s o)) refl
       where
         go : (w : Bool) → unsettled s r (feed (place r) s o) ≡ w → StillBehind o (if w then on_scan g l again r (feed (place r) s o) else on_settled g l again s (feed (place r) s o) (settle g l r))
@@ -301,20 +301,20 @@ module _ (g : Catalog) (l : Limits) where
     takes_still zero m h = tt
     takes_still (suc n) m h = octet_still m.scan m.reading (λ k. takes g l n k o) (λ k i. takes_still n k i) h
 
-    pub eats_still : (m : State) → is_sane m.scan.mode ≡ true → Still m.scan m.reading → StillBehind o (eats g l m o)
+    pub eats_still : (m : State) → is_sane m.scan.mode ≡ true → HasBegun m.scan m.reading → StillBehind o (eats g l m o)
     eats_still m sane h = takes_still 3 m (still_at o m.scan m.reading sane h)
 
   -- in which octets end
   abbrev pub EndsStill : Result State Refusal → Type 0
-  EndsStill (Ok n) = Still n.scan n.reading
+  EndsStill (Ok n) = HasBegun n.scan n.reading
   EndsStill (Err e) = Unit {0}
 
-  pub run_still : (os u : List ℕ) (vs : List Value) (to : ℕ) (m : State) → Stood g l u vs m → Still m.scan m.reading → EndsStill (run g l to m os).now
+  pub run_still : (os u : List ℕ) (vs : List Value) (to : ℕ) (m : State) → Stood g l u vs m → HasBegun m.scan m.reading → EndsStill (run g l to m os).now
   run_still [] u vs to m b h = h
   run_still (o ∷ os) u vs to m b h = step (λ xs n c i. run_still os (u ++ o ∷ []) xs (to + 1) n c i) (eats g l m o) (eats_after g l u vs m o b) (eats_still o m b.sane h)
     where
       Rest : Type 0
-      Rest = (xs : List Value) (n : State) → Stood g l (u ++ o ∷ []) xs n → Still n.scan n.reading → EndsStill (run g l (to + 1) n os).now
+      Rest = (xs : List Value) (n : State) → Stood g l (u ++ o ∷ []) xs n → HasBegun n.scan n.reading → EndsStill (run g l (to + 1) n os).now
 
       once : Rest → (ws : List Value) (x : Effect) → After g l u ws o x → StillBehind o x → EndsStill (once_more to (λ n. run g l (to + 1) n os) x).now
       once rest ws (uses n) a i = rest ws n a i

@@ -34,7 +34,7 @@ use Rattle.ion_text.specs.laws.reading.Held.{ApartAt}
 use Rattle.ion_text.specs.laws.reading.Segments.{never, NotRefused, unsettled_waits}
 use Rattle.ion_text.specs.laws.reading.Tokens.{left_agrees, left_colons, left_two}
 use Rattle.ion_text.specs.laws.showing.Froms.{Freed, waiting_freed}
-use Rattle.ion_text.specs.laws.showing.Cuts.{Behind, Parted, behind_tokens, parted, parts_same}
+use Rattle.ion_text.specs.laws.showing.Cuts.{OpenBehind, Parted, behind_tokens, parted, parts_same}
 use Rattle.ion_text.specs.laws.showing.Compare.{Found', lexes_once}
 use Rattle.ion_text.specs.laws.showing.Once.{begins_lexed, whole_operators}
 use Rattle.ion_text.specs.laws.showing.Stays.{Arrived}
@@ -42,7 +42,7 @@ use Rattle.ion_text.specs.laws.showing.Opened.{a as arrival, new as unfresh, beg
 use Rattle.ion_text.specs.laws.showing.Exacts.{behind_used, exact_at, top_none}
 use Rattle.ion_text.specs.laws.showing.Inside.{closes_past, never_past}
 use Rattle.ion_text.specs.laws.showing.Halting.{follows}
-use Rattle.ion_text.specs.laws.showing.Halts.{Halted, Ends, Stops, StopsAt}
+use Rattle.ion_text.specs.laws.showing.Halts.{Halted, TurnRefuses, ScanRefused, StopsAt}
 use Rattle.ion_text.specs.laws.showing.Stuck.{ends_goes, left_plain}
 
 module _ (g : Catalog) (l : Limits) (u : List ℕ) (o : ℕ) (vs : List Value) (h : Halted g l u o vs) (x : Placed) (xs : List Placed) (some : h.b.item ≡ x ∷ xs) where
@@ -61,7 +61,7 @@ module _ (g : Catalog) (l : Limits) (u : List ℕ) (o : ℕ) (vs : List Value) (
   pub used : s.used ≡ length u
   used = behind_used g l u vs s r h.ahead A h.b
 
-  abbrev k : Behind p s u (h.b.front ++ h.b.item) h.ahead
+  abbrev k : OpenBehind p s u (h.b.front ++ h.b.item) h.ahead
   k = behind_tokens p s u (h.b.front ++ h.b.item) h.ahead h.b.scanned
 
   abbrev pub a : Arrived g l r.context r.frames r.notes r.now h.b.item
@@ -131,8 +131,8 @@ module _ (g : Catalog) (l : Limits) (u : List ℕ) (o : ℕ) (vs : List Value) (
           left_agrees r.frames r.now n z.lexeme d (said_body z.lexeme.kind z.lexeme.octets d says.2) (left_colons p s n o z.lexeme h.b.sane left) fine.1
           (left_two p s n o z.lexeme h.b.fine (exact_at p k.colon k.end s k.since k.holds) left)
 
-      stopped : Stops g l r (feed p s o) → Ends g l (turn g l r (token_of z.lexeme d))
-      stopped i = subst (Stops g l r) left i d says.2
+      stopped : ScanRefused g l r (feed p s o) → TurnRefuses g l (turn g l r (token_of z.lexeme d))
+      stopped i = subst (ScanRefused g l r) left i d says.2
 
       -- from the reading itself
       from_here : Going g l r (z ∷ zs) on.0 → ⊥

@@ -43,7 +43,7 @@ use Rattle.ion_text.specs.machine.EachToken.{Reading, Setting, Spot, Turn, goes,
 use Rattle.ion_text.specs.machine.Passed.{said_body}
 use Rattle.ion_text.specs.machine.Run.{State, Effect, uses, tells, leaves, fails, is_top, is_fresh, shut, noticed, or_worse, token_of, with_scan, behind_given, behind_left, on_said, on_scan, on_settled, on_octet, unsettled, takes, end_settled, end_turned, end_said, end_waiting, end_ready, ends, cut_short, reaches}
 use Rattle.ion_text.specs.laws.reading.Sound.{NowStands, start_now}
-use Rattle.ion_text.specs.laws.reading.Spans.{Closes, IsTopNow, Spans, Settles, turn_spans, settle_spans}
+use Rattle.ion_text.specs.laws.reading.Spans.{IsClose, IsTopNow, Spans, SettlesWithin, turn_spans, settle_spans}
 use Rattle.ion_text.specs.laws.reading.Going.{mark_kind, closes_kind, settle_inside, InsideTurn}
 use Rattle.ion_text.specs.laws.reading.Admits.{at_end_fine, late_never}
 
@@ -188,11 +188,11 @@ abbrev pub AtTop : Reading → Type 0
 AtTop r = (is_top r.frames ≡ true) × IsTopNow r.now
 
 -- it opens no container
-abbrev Stays : Turn → Type 0
-Stays (goes r) = AtTop r
-Stays (gives v r) = Unit {0}
-Stays (refuses e) = Unit {0}
-Stays (late e r) = Unit {0}
+abbrev OpensNone : Turn → Type 0
+OpensNone (goes r) = AtTop r
+OpensNone (gives v r) = Unit {0}
+OpensNone (refuses e) = Unit {0}
+OpensNone (late e r) = Unit {0}
 
 -- it gives no value
 abbrev Never : Turn → Type 0
@@ -201,26 +201,26 @@ Never (goes r) = Unit {0}
 Never (refuses e) = Unit {0}
 Never (late e r) = Unit {0}
 
-within_stays : (item start end : ℕ) (t : Turn) → Stays t → Stays (within item start end t)
+within_stays : (item start end : ℕ) (t : Turn) → OpensNone t → OpensNone (within item start end t)
 within_stays item start end t h = go (nat_le end (start + item))
   where
-    go : (b : Bool) → Stays (if b then t else refuses reasons.ItemTooLong)
+    go : (b : Bool) → OpensNone (if b then t else refuses reasons.ItemTooLong)
     go true = h
     go false = tt
 
-top_stays : (item start end : ℕ) (c : List Slot) (v : Value) (d : Result (List Slot) Reason) (b : Bool) → Stays (if b then turned item start end d else within item start end (gives v (fresh c)))
+top_stays : (item start end : ℕ) (c : List Slot) (v : Value) (d : Result (List Slot) Reason) (b : Bool) → OpensNone (if b then turned item start end d else within item start end (gives v (fresh c)))
 top_stays item start end c v (Ok d) true = within_stays item start end (goes (fresh d)) (refl, tt)
 top_stays item start end c v (Err e) true = tt
 top_stays item start end c v d false = within_stays item start end (gives v (fresh c)) tt
 
-ended_stays : (setting : Setting) (spot : Spot) (v : Value) → Stays (ended setting spot [] v)
+ended_stays : (setting : Setting) (spot : Spot) (v : Value) → OpensNone (ended setting spot [] v)
 ended_stays setting spot v = top_stays setting.limits.item spot.start spot.end spot.context v (next_context spot.context v setting.catalog) (is_table v)
 
-paid_stays : (setting : Setting) (spot : Spot) (ss : Symbols) (q : Result Payload Reason) → Stays (paid setting spot [] ss q)
+paid_stays : (setting : Setting) (spot : Spot) (ss : Symbols) (q : Result Payload Reason) → OpensNone (paid setting spot [] ss q)
 paid_stays setting spot ss (Ok q) = ended_stays setting spot (annotated ss q)
 paid_stays setting spot ss (Err e) = tt
 
-released_stays : (setting : Setting) (spot : Spot) (ss : Symbols) (h : Held) → Stays (released setting spot [] ss h)
+released_stays : (setting : Setting) (spot : Spot) (ss : Symbols) (h : Held) → OpensNone (released setting spot [] ss h)
 released_stays setting spot [] (helds.Version true s) = within_stays setting.limits.item spot.start spot.end (goes (fresh system_slots)) (refl, tt)
 released_stays setting spot [] (helds.Version false s) = tt
 released_stays setting spot [] (helds.Symbol s) = paid_stays setting spot [] (held_payload (helds.Symbol s))
@@ -229,11 +229,11 @@ released_stays setting spot [] (helds.Truth b) = paid_stays setting spot [] (hel
 released_stays setting spot [] helds.Nan = tt
 released_stays setting spot (s ∷ ss) h = paid_stays setting spot (s ∷ ss) (held_payload h)
 
-ready_stays : (setting : Setting) (spot : Spot) (ss : Symbols) (said : Content) → opens said ≡ false → Stays (on_ready setting spot [] ss said)
+ready_stays : (setting : Setting) (spot : Spot) (ss : Symbols) (said : Content) → opens said ≡ false → OpensNone (on_ready setting spot [] ss said)
 ready_stays setting spot ss (Word w) i = (refl, tt)
 ready_stays setting spot ss (Id id) i = go (resolve spot.context id)
   where
-    go : (r : Result (Option (List ℕ)) Reason) → Stays (resolved r (λ s. goes (at spot.start spot.context [] ss (nows.Pending (helds.Symbol s) spot.end))))
+    go : (r : Result (Option (List ℕ)) Reason) → OpensNone (resolved r (λ s. goes (at spot.start spot.context [] ss (nows.Pending (helds.Symbol s) spot.end))))
     go (Ok s) = (refl, tt)
     go (Err e) = tt
 ready_stays setting spot ss (Quoted w) i = (refl, tt)
@@ -256,15 +256,15 @@ ready_stays setting spot ss (Mark' marks.Comma) i = tt
 ready_stays setting spot ss (Mark' marks.Colon) i = tt
 ready_stays setting spot ss (Mark' marks.Colons) i = tt
 
-noted_stays : (start : ℕ) (c : List Slot) (ss : Symbols) (s : Result (Option (List ℕ)) Reason) → Stays (noted start c [] ss s)
+noted_stays : (start : ℕ) (c : List Slot) (ss : Symbols) (s : Result (Option (List ℕ)) Reason) → OpensNone (noted start c [] ss s)
 noted_stays start c ss (Ok s) = (refl, tt)
 noted_stays start c ss (Err e) = tt
 
-pending_stays : (start : ℕ) (c : List Slot) (ss : Symbols) (h : Held) (said : Content) → Stays (on_pending start c [] ss h said)
+pending_stays : (start : ℕ) (c : List Slot) (ss : Symbols) (h : Held) (said : Content) → OpensNone (on_pending start c [] ss h said)
 pending_stays start c ss h (Mark' marks.Colons) = noted_stays start c ss (held_symbol h)
 pending_stays start c ss h _ = tt
 
-long_stays : (spot : Spot) (ss : Symbols) (v : List ℕ) (said : Content) → Stays (on_long spot [] ss v said)
+long_stays : (spot : Spot) (ss : Symbols) (v : List ℕ) (said : Content) → OpensNone (on_long spot [] ss v said)
 long_stays spot ss v (Long w) = (refl, tt)
 long_stays spot ss v _ = tt
 
@@ -301,7 +301,7 @@ pending_never start c ss h marks.Colons = noted_never start c ss (held_symbol h)
 pending_never start c ss h _ = tt
 
 module _ (g : Catalog) (l : Limits) where
-  turn_stays : (start : ℕ) (c : List Slot) (fs : List Frame) (ss : Symbols) (now : Now) (t : Token) → is_top fs ≡ true → IsTopNow now → opens t.said ≡ false → Stays (turn g l (at start c fs ss now) t)
+  turn_stays : (start : ℕ) (c : List Slot) (fs : List Frame) (ss : Symbols) (now : Now) (t : Token) → is_top fs ≡ true → IsTopNow now → opens t.said ≡ false → OpensNone (turn g l (at start c fs ss now) t)
   turn_stays start c (f ∷ fs) ss now t h i o = absurd cc
   turn_stays start c [] ss nows.Ready t h i o = ready_stays (under g l) (spot_at t.end (begun_at start t.start [] ss) c) ss t.said o
   turn_stays start c [] ss (nows.Pending k e) t h i o = pending_stays start c ss k t.said
@@ -321,7 +321,7 @@ module _ (g : Catalog) (l : Limits) where
   mark_never start c [] ss (nows.LongName w) begin end m h i = absurd i
   mark_never start c [] ss (nows.Keyed s) begin end m h i = absurd i
 
-  settled_stays : (start : ℕ) (c : List Slot) (fs : List Frame) (ss : Symbols) (now : Now) → is_top fs ≡ true → IsTopNow now → Stays (settle g l (at start c fs ss now))
+  settled_stays : (start : ℕ) (c : List Slot) (fs : List Frame) (ss : Symbols) (now : Now) → is_top fs ≡ true → IsTopNow now → OpensNone (settle g l (at start c fs ss now))
   settled_stays start c (f ∷ fs) ss now h i = absurd cc
   settled_stays start c [] ss nows.Ready h i = (refl, tt)
   settled_stays start c [] ss (nows.Pending k e) h i = released_stays (under g l) (spot_at e start c) ss k
@@ -361,7 +361,7 @@ module _ (g : Catalog) (l : Limits) where
   given_untold s (late e r) h = worse_untold e (noticed l r s)
 
   module _ (again : State → Effect) (fine : (k : State) → is_plain k.scan.mode ≡ true → AtTop k.reading → IsUntold (again k)) where
-    left_untold : (s : Known) (t : Turn) → is_plain s.mode ≡ true → Stays t → IsUntold (behind_left again s t)
+    left_untold : (s : Known) (t : Turn) → is_plain s.mode ≡ true → OpensNone t → IsUntold (behind_left again s t)
     left_untold s (goes r) p h = fine (with_scan s r) p h
     left_untold s (gives v r) p h = tt
     left_untold s (refuses e) p h = tt
@@ -384,7 +384,7 @@ module _ (g : Catalog) (l : Limits) where
             left_untold s (turn g l r (token_of x c)) h.1 (turn_stays g l r.start r.context r.frames r.notes r.now (token_of x c) a.0 a.1 (said_opens x.kind x.octets c k h.0))
     scan_untold r (Refused n e) a h = tt
 
-    settled_untold : (s : Known) (x : Outcome) (t : Turn) → Stays t → IsPlainly x → IsUntold (on_settled g l again s x t)
+    settled_untold : (s : Known) (x : Outcome) (t : Turn) → OpensNone t → IsPlainly x → IsUntold (on_settled g l again s x t)
     settled_untold s x (goes r) h p = scan_untold r x h p
     settled_untold s x (gives v r) h p = tt
     settled_untold s x (refuses e) h p = tt
@@ -495,7 +495,7 @@ module _ (g : Catalog) (l : Limits) where
   waiting_end used (Err f) (refuses e) v h = absurd cc
   waiting_end used (Err f) (late e r) v h = absurd (late_never g l used e (Some v) h)
 
-  settled_top : (start end : ℕ) (fs : List Frame) (t : Turn) → Settles g l start end fs t → IsGiven t → is_top fs ≡ true
+  settled_top : (start end : ℕ) (fs : List Frame) (t : Turn) → SettlesWithin g l start end fs t → IsGiven t → is_top fs ≡ true
   settled_top start end fs (gives v r) s i = s.0
   settled_top start end fs (goes r) s i = absurd i
   settled_top start end fs (refuses e) s i = absurd i
@@ -508,7 +508,7 @@ module _ (g : Catalog) (l : Limits) where
   inside_given start (refuses e) k i = i
   inside_given start (late e r) k i = i
 
-  inside_end : (used item start end : ℕ) (c : Content) (t : Turn) (v : Value) → (Closes false c → ⊥) → Spans false c item start end t → end_turned g l used t ≡ Ok (Some v) → ⊥
+  inside_end : (used item start end : ℕ) (c : Content) (t : Turn) (v : Value) → (IsClose false c → ⊥) → Spans false c item start end t → end_turned g l used t ≡ Ok (Some v) → ⊥
   inside_end used item start end c (goes r) v unclosed (inl (inl k, e, f)) h = inside_given r.start (settle g l r) (settle_inside g l r.start r.context r.frames r.notes r.now k) (given_end used (settle g l r) v h)
   inside_end used item start end c (goes r) v unclosed (inl (inr k, e, f)) h = let n : false ≡ true = k.0 in cc
   inside_end used item start end c (goes r) v unclosed (inr k) h = unclosed k.1
@@ -538,7 +538,7 @@ module _ (g : Catalog) (l : Limits) where
     token_top : (x : Lexeme) (c : Content) → at_end (place r) s ≡ Ok (Some x) → said x.kind x.octets ≡ Ok c → end_turned g l used (turn g l r (token_of x c)) ≡ Ok (Some v) → is_top r.frames ≡ true
     token_top x c e k h = go (is_top r.frames) refl
       where
-        unclosed : Closes false c → ⊥
+        unclosed : IsClose false c → ⊥
         unclosed i = let n : true ≡ false = sym (closes_kind x.kind x.octets c i (said_body x.kind x.octets c k)) ∙ (at_end_fine (place r) s x e).3 in cc
 
         go : (b : Bool) → is_top r.frames ≡ b → is_top r.frames ≡ true
@@ -571,7 +571,7 @@ module _ (g : Catalog) (l : Limits) where
         go (Ok (Some x)) e h = said_so x e (said x.kind x.octets) refl h
         go (Err f) e h = absurd cc
 
-  waits_so : (used : ℕ) (s : Known) (start : ℕ) (c : List Slot) (fs : List Frame) (ss : Symbols) (now : Now) (end : ℕ) (v : Value) → IsTopNow now → Settles g l start end fs (settle g l (at start c fs ss now))
+  waits_so : (used : ℕ) (s : Known) (start : ℕ) (c : List Slot) (fs : List Frame) (ss : Symbols) (now : Now) (end : ℕ) (v : Value) → IsTopNow now → SettlesWithin g l start end fs (settle g l (at start c fs ss now))
       → end_waiting g l used (at_end (place (at start c fs ss now)) s) (settle g l (at start c fs ss now)) ≡ Ok (Some v) → StandsSo s (at start c fs ss now)
   waits_so used s start c fs ss now end v i k h =
       let w = waiting_end used (at_end (place (at start c fs ss now)) s) (settle g l (at start c fs ss now)) v h in

@@ -14,17 +14,17 @@ use Rattle.ion_tokens.specs.machine.Said.{said}
 use Rattle.ion_tokens.proofs.Found.{Nothing, Last, Gives, Leaves, Unclosed}
 use Rattle.ion_text.specs.machine.EachToken.{Reading, Turn, goes, gives, refuses, late, place, settle, turn}
 use Rattle.ion_text.specs.machine.Run.{is_top, token_of}
-use Rattle.ion_text.specs.machine.TokenLists.{Walk, walked, stopped, adds, on_turn, on_placed, on_judged, continues, then_walk, reads, reads-append, first_token, in_place}
+use Rattle.ion_text.specs.machine.TokenLists.{Walk, walked, stopped, adds_values, on_turn, on_placed, on_judged, continues, then_walk, reads, reads-append, first_token, in_place}
 use Rattle.ion_text.specs.laws.reading.Places.{Leading, settle_same, settle_still, same_place, same_is}
 use Rattle.ion_text.specs.laws.reading.Pieces.{walked_now}
 use Rattle.ion_text.specs.laws.reading.Going.{Operators, top_place, Going, TurnGoes, Direct, says_so, going_said, going_turn, going_settle, inside_end}
 use Rattle.ion_text.specs.laws.showing.Compare.{Found', TopFirst, unclosed_never, lexeme_in, state_in, token_in, placed_same}
 
 -- one list is the front of the other, of which the first one goes on at the top level
-abbrev pub Met : List Placed → List Placed → Type 0
-Met ts ws = ((more : List Placed) × (ws ≡ ts ++ more)) ⊎ ((more : List Placed) × (ts ≡ ws ++ more) × TopFirst more)
+abbrev pub OneIsFront : List Placed → List Placed → Type 0
+OneIsFront ts ws = ((more : List Placed) × (ws ≡ ts ++ more)) ⊎ ((more : List Placed) × (ts ≡ ws ++ more) × TopFirst more)
 
-one_met : (t : Placed) (us ws : List Placed) → Met us ws → Met (t ∷ us) (t ∷ ws)
+one_met : (t : Placed) (us ws : List Placed) → OneIsFront us ws → OneIsFront (t ∷ us) (t ∷ ws)
 one_met t us ws (inl (more, e)) = inl (more, ap (λ l. t ∷ l) e)
 one_met t us ws (inr (more, e, h)) = inr (more, ap (λ l. t ∷ l) e, h)
 
@@ -43,7 +43,7 @@ module _ (g : Catalog) (l : Limits) where
   TurnWalks (late e r) ts = ⊥
 
   -- what is added in front changes nothing else
-  pub adds_is : (us vs : List Value) (n : Reading) (w : Walk) → adds us w ≡ walked vs n → (ws : List Value) × (w ≡ walked ws n)
+  pub adds_is : (us vs : List Value) (n : Reading) (w : Walk) → adds_values us w ≡ walked vs n → (ws : List Value) × (w ≡ walked ws n)
   adds_is us vs n (walked ws m) e = (ws, ap (walked ws) (walked_now g l (us ++ ws) vs m n e).1)
   adds_is us vs n stopped e = absurd cc
 
@@ -79,7 +79,7 @@ module _ (g : Catalog) (l : Limits) where
 
       same : (x : Turn) → Leading g l (λ n. (place n ≡ place r) × (is_top n.frames ≡ is_top r.frames)) x → Leading g l (λ n. settle g l n ≡ goes n) x → on_turn x F ≡ on_turn x (λ k. reads g l k (t ∷ ts))
       same (goes n) h k = sym (first_token g l (place r) n t c ts (says_so g l r t c p e) (sym h.0) (inr k))
-      same (gives v n) h k = ap (adds (v ∷ [])) (sym (first_token g l (place r) n t c ts (says_so g l r t c p e) (sym h.0) (inr k)))
+      same (gives v n) h k = ap (adds_values (v ∷ [])) (sym (first_token g l (place r) n t c ts (says_so g l r t c p e) (sym h.0) (inr k)))
       same (refuses y) h k = refl
       same (late y n) h k = refl
 
@@ -100,9 +100,9 @@ module _ (g : Catalog) (l : Limits) where
       by false h = absurd (inside_end g l r b h e)
 
   abbrev Meeting : List Placed → List Placed → Type 0
-  Meeting us ws = (n : Reading) (b : List Value) → Walking n us → Going g l n ws b → Met us ws
+  Meeting us ws = (n : Reading) (b : List Value) → Walking n us → Going g l n ws b → OneIsFront us ws
 
-  turn_met : (x : Turn) (us ws : List Placed) (b : List Value) → Meeting us ws → TurnWalks x us → TurnGoes g l x ws b → Met us ws
+  turn_met : (x : Turn) (us ws : List Placed) (b : List Value) → Meeting us ws → TurnWalks x us → TurnGoes g l x ws b → OneIsFront us ws
   turn_met (goes n) us ws b f d e = f n b d e
   turn_met (gives v n) us ws b f d e = f n e.0 d e.2
   turn_met (refuses y) us ws b f d e = absurd d
@@ -118,24 +118,24 @@ module _ (g : Catalog) (l : Limits) where
       is : said t.lexeme.kind t.lexeme.octets ≡ Ok c
       is = (walking_said r t us d).2
 
-      direct : (n : Reading) (b : List Value) → settle g l n ≡ goes n → Walking n (t ∷ us) → Going g l n (t ∷ ws) b → Met us ws
+      direct : (n : Reading) (b : List Value) → settle g l n ≡ goes n → Walking n (t ∷ us) → Going g l n (t ∷ ws) b → OneIsFront us ws
       direct n b s d e = turn_met (turn g l n (token_of t.lexeme c)) us ws b f (walking_turn n t us c d is (inr s)) (going_turn g l n t ws b c e is (inr s))
 
-      settled : (x : Turn) → Leading g l (λ n. settle g l n ≡ goes n) x → TurnWalks x (t ∷ us) → TurnGoes g l x (t ∷ ws) b → Met us ws
+      settled : (x : Turn) → Leading g l (λ n. settle g l n ≡ goes n) x → TurnWalks x (t ∷ us) → TurnGoes g l x (t ∷ ws) b → OneIsFront us ws
       settled (goes n) s d e = direct n b s d e
       settled (gives v n) s d e = direct n e.0 s d e.2
       settled (refuses y) s d e = absurd d
       settled (late y n) s d e = absurd d
 
-      go : (w : Bool) → continues r (token_of t.lexeme c) ≡ w → Met us ws
+      go : (w : Bool) → continues r (token_of t.lexeme c) ≡ w → OneIsFront us ws
       go true w = turn_met (turn g l r (token_of t.lexeme c)) us ws b f (walking_turn r t us c d is (inl w)) (going_turn g l r t ws b c e is (inl w))
       go false w = settled (settle g l r) (settle_still g l r.start r.context r.frames r.notes r.now) (walking_settle r t us c d is w) (going_settle g l r t ws b c e is w)
 
   module _ (R : Known → List ℕ → Type 0) where
     -- the other tokens, where the first ones go on with a token that was given or left
     module _ (s s' : Known) (octets : List ℕ) (t : Placed) (ts : List Placed) (r : Reading) (b : List Value) (d : Walking r (t ∷ ts)) (x : Outcome) (ran : run t.place octets s ≡ x) where
-      abbrev Rest : Type 0
-      Rest = (ws : List Placed) → Found' R s' (drop (s'.used - s.used) octets) ws → Operators ws → Meeting ts ws
+      abbrev RestMeets : Type 0
+      RestMeets = (ws : List Placed) → Found' R s' (drop (s'.used - s.used) octets) ws → Operators ws → Meeting ts ws
 
       here : (u : Placed) (us : List Placed) → Going g l r (u ∷ us) b → t.place ≡ u.place
       here u us e = (walking_said r t ts d).0 ∙ sym (going_said g l r u us b e).0
@@ -143,10 +143,10 @@ module _ (g : Catalog) (l : Limits) where
       there : (u : Placed) (us : List Placed) (y : Outcome) → Going g l r (u ∷ us) b → run u.place octets s ≡ y → x ≡ y
       there u us y e f = sym ran ∙ (ap (λ p. run p octets s) (here u us e) ∙ f)
 
-      matched : Rest → (u : Placed) (us : List Placed) (s'' : Known) → t.lexeme ≡ u.lexeme → s'' ≡ s' → Found' R s'' (drop (s''.used - s.used) octets) us → Operators us → Going g l r (u ∷ us) b → Met (t ∷ ts) (u ∷ us)
+      matched : RestMeets → (u : Placed) (us : List Placed) (s'' : Known) → t.lexeme ≡ u.lexeme → s'' ≡ s' → Found' R s'' (drop (s''.used - s.used) octets) us → Operators us → Going g l r (u ∷ us) b → OneIsFront (t ∷ ts) (u ∷ us)
       matched rest u us s'' i j f ops e =
           let same = placed_same R g l t u (here u us e) i in
-          subst (λ z. Met (t ∷ ts) (z ∷ us)) same (token_met t ts us (rest us (subst (λ (z : Known). Found' R z (drop (z.used - s.used) octets) us) j f) ops) r b d (subst (λ z. Going g l r (z ∷ us) b) (sym same) e))
+          subst (λ z. OneIsFront (t ∷ ts) (z ∷ us)) same (token_met t ts us (rest us (subst (λ (z : Known). Found' R z (drop (z.used - s.used) octets) us) j f) ops) r b d (subst (λ z. Going g l r (z ∷ us) b) (sym same) e))
 
     pub meet : (s : Known) (octets : List ℕ) (ts : List Placed) → Found' R s octets ts → (ws : List Placed) → Found' R s octets ws → Operators ws → Meeting ts ws
     unfolding lexeme_in state_in token_in

@@ -29,7 +29,7 @@ use Rattle.ion_text.specs.laws.reading.Sound.{start_now}
 use Rattle.ion_text.specs.laws.reading.Spans.{Spans, turn_spans}
 use Rattle.ion_text.specs.laws.reading.Going.{TopOk}
 use Rattle.ion_text.specs.laws.reading.Quiet.{CalmNow, calm_now}
-use Rattle.ion_text.specs.laws.reading.Accepts.{Settled, settle_settled, turn_ok, idle_calm, waits_calm}
+use Rattle.ion_text.specs.laws.reading.Accepts.{SettledCalm, settle_settled, turn_ok, idle_calm, waits_calm}
 
 -- behind a token that ended with its last octet none has begun
 abbrev IdleBehind : Outcome → Type 0
@@ -100,8 +100,8 @@ module _ (g : Catalog) (l : Limits) where
       go [] (x ∷ ss) n h = absurd cc
       go (f ∷ fs) ss n h = absurd cc
 
-  abbrev Again : (State → Effect) → Type 0
-  Again again = (k : State) → TopOk g l k.reading → WithinBehind (again k)
+  abbrev AgainWithin : (State → Effect) → Type 0
+  AgainWithin again = (k : State) → TopOk g l k.reading → WithinBehind (again k)
 
   given_within : (s : Known) (r : Reading) (c : Content) (start end : ℕ) (t : Turn) → is_idle s.mode ≡ true → Spans (is_top r.frames) c l.item start end t → WithinBehind (behind_given l s t)
   given_within s r c start end (goes n) idle h = noticed_within n s (λ k. idle_calm n.now s.mode (turn_ok g l r c l.item start end (goes n) h k).0 idle)
@@ -109,7 +109,7 @@ module _ (g : Catalog) (l : Limits) where
   given_within s r c start end (refuses e) idle h = tt
   given_within s r c start end (late e n) idle h = worse_within e (noticed l n s)
 
-  left_within : (again : State → Effect) (s : Known) (r : Reading) (c : Content) (start end : ℕ) (t : Turn) → Again again → Spans (is_top r.frames) c l.item start end t → WithinBehind (behind_left again s t)
+  left_within : (again : State → Effect) (s : Known) (r : Reading) (c : Content) (start end : ℕ) (t : Turn) → AgainWithin again → Spans (is_top r.frames) c l.item start end t → WithinBehind (behind_left again s t)
   left_within again s r c start end (goes n) f h = f (with_scan s n) (λ k. (turn_ok g l r c l.item start end (goes n) h k).0)
   left_within again s r c start end (gives v n) f h = λ k. (turn_ok g l r c l.item start end (gives v n) h k).0
   left_within again s r c start end (refuses e) f h = tt
@@ -119,7 +119,7 @@ module _ (g : Catalog) (l : Limits) where
   said_within (Ok c) f h = h c
   said_within (Err e) f h = tt
 
-  scan_within : (r : Reading) (again : State → Effect) → Again again → TopOk g l r → (x : Outcome) → IdleBehind x → ((t : Known) → x ≡ Next t → is_top r.frames ≡ true → CalmNow r.now t.mode) → WithinBehind (on_scan g l again r x)
+  scan_within : (r : Reading) (again : State → Effect) → AgainWithin again → TopOk g l r → (x : Outcome) → IdleBehind x → ((t : Known) → x ≡ Next t → is_top r.frames ≡ true → CalmNow r.now t.mode) → WithinBehind (on_scan g l again r x)
   scan_within r again f ok (Next t) i c = noticed_within r t (c t refl)
   scan_within r again f ok (Given x t) i c =
       said_within (said x.kind x.octets) (λ k. behind_given l t (turn g l r (token_of x k)))
@@ -129,13 +129,13 @@ module _ (g : Catalog) (l : Limits) where
       (λ k. left_within again t r k (start_now r.now r.start x.start r.frames r.notes) x.end (turn g l r (token_of x k)) f (turn_spans g l r (token_of x k) ok))
   scan_within r again f ok (Refused n e) i c = tt
 
-  settled_within : (s : Known) (again : State → Effect) → Again again → (x : Outcome) → IdleBehind x → (t : Turn) → Settled g l t → WithinBehind (on_settled g l again s x t)
+  settled_within : (s : Known) (again : State → Effect) → AgainWithin again → (x : Outcome) → IdleBehind x → (t : Turn) → SettledCalm g l t → WithinBehind (on_settled g l again s x t)
   settled_within s again f x i (goes n) c = scan_within n again f (λ k. calm_now n.now modes.Blank (c modes.Blank k)) x i (λ t e k. c t.mode k)
   settled_within s again f x i (gives v n) c = λ k. calm_now n.now modes.Blank (c modes.Blank k)
   settled_within s again f x i (refuses e) c = tt
   settled_within s again f x i (late e n) c = worse_within e (on_scan g l again n x)
 
-  octet_within : (s : Known) (r : Reading) (o : ℕ) (again : State → Effect) → Again again → TopOk g l r → WithinBehind (on_octet g l again (with_scan s r) (feed (place r) s o))
+  octet_within : (s : Known) (r : Reading) (o : ℕ) (again : State → Effect) → AgainWithin again → TopOk g l r → WithinBehind (on_octet g l again (with_scan s r) (feed (place r) s o))
   octet_within s r o again f ok = go (unsettled s r (feed (place r) s o)) refl
     where
       go : (w : Bool) → unsettled s r (feed (place r) s o) ≡ w → WithinBehind (if w then on_scan g l again r (feed (place r) s o) else on_settled g l again s (feed (place r) s o) (settle g l r))

@@ -10,22 +10,22 @@ use Rattle.ion_model.specs.declared.value.Payload.TheFolds.{fold_out-Payload, fo
 use Rattle.ion_model.specs.Measures.{Layer, annotated}
 use Rattle.ion_scalar.specs.declared.number.Number.TheVariants as numbers
 use Rattle.ion_scalar.specs.text.Texts.{number_text}
-use Rattle.ion_text.specs.Output.{of_string, symbol_text, quoted, null_text, truth_text, blob_text, clob_text, notes_text, enclosed, named, text_step, value_text}
+use Rattle.ion_text.specs.Output.{of_string, symbol_text, quoted, null_text, truth_text, blob_text, clob_text, notes_text, enclosed, named_text, text_step, value_text}
 
 -- a field's name and the text of its value
 abbrev pub field_text : Field → List ℕ
-field_text f = named f.name (value_text f.value)
+field_text f = named_text f.name (value_text f.value)
 
 abbrev payload_fold : Payload → List ℕ
-payload_fold = fold-Payload (List ℕ) (List ℕ) (List ℕ) text_step (λ f. named f.name f.value) (λ v. notes_text v.annotations ++ v.payload)
+payload_fold = fold-Payload (List ℕ) (List ℕ) (List ℕ) text_step (λ f. named_text f.name f.value) (λ v. notes_text v.annotations ++ v.payload)
 
 abbrev field_fold : Field → List ℕ
-field_fold = fold-Field (List ℕ) (List ℕ) (List ℕ) text_step (λ f. named f.name f.value) (λ v. notes_text v.annotations ++ v.payload)
+field_fold = fold-Field (List ℕ) (List ℕ) (List ℕ) text_step (λ f. named_text f.name f.value) (λ v. notes_text v.annotations ++ v.payload)
 
 fields_text : (fs : List Field) → map field_fold fs ≡ map field_text fs
 unfolding value_text
 fields_text [] = refl
-fields_text (f ∷ fs) = rw (fold_out-Field (List ℕ) (List ℕ) (List ℕ) text_step (λ f. named f.name f.value) (λ v. notes_text v.annotations ++ v.payload) f, fields_text fs)
+fields_text (f ∷ fs) = rw (fold_out-Field (List ℕ) (List ℕ) (List ℕ) text_step (λ f. named_text f.name f.value) (λ v. notes_text v.annotations ++ v.payload) f, fields_text fs)
 
 -- the text of one level
 abbrev pub layer_text : Layer → List ℕ
@@ -50,8 +50,8 @@ text_step-layer _ = refl
 pub text-out : (v : Value) → value_text v ≡ notes_text v.annotations ++ layer_text (views.out-Payload v.payload)
 unfolding value_text
 text-out v =
-    fold_out-Value (List ℕ) (List ℕ) (List ℕ) text_step (λ f. named f.name f.value) (λ v. notes_text v.annotations ++ v.payload) v
-    ∙ ap (λ w. notes_text v.annotations ++ w) (fold_out-Payload (List ℕ) (List ℕ) (List ℕ) text_step (λ f. named f.name f.value) (λ v. notes_text v.annotations ++ v.payload) v.payload ∙ text_step-layer (views.out-Payload v.payload))
+    fold_out-Value (List ℕ) (List ℕ) (List ℕ) text_step (λ f. named_text f.name f.value) (λ v. notes_text v.annotations ++ v.payload) v
+    ∙ ap (λ w. notes_text v.annotations ++ w) (fold_out-Payload (List ℕ) (List ℕ) (List ℕ) text_step (λ f. named_text f.name f.value) (λ v. notes_text v.annotations ++ v.payload) v.payload ∙ text_step-layer (views.out-Payload v.payload))
 
 -- the same, where it is known which level it is
 pub text_layer : (ss : List (Option (List ℕ))) (p : Payload) (d : Layer) → views.out-Payload p ≡ d → value_text (annotated ss p) ≡ notes_text ss ++ layer_text d

@@ -76,11 +76,11 @@ bad_front (a ∷ []) (b ∷ r) h = either_false (bad_octet a) _ h
 bad_front (a ∷ b ∷ w) r h = h
 
 -- a token of these parts
-abbrev token_of : Place → ℕ → ℕ → TokenKind → List ℕ → Placed
-token_of p start end kind octets = record { place = p; lexeme = record { start = start; end = end; kind = kind; octets = octets } }
+abbrev placed_token : Place → ℕ → ℕ → TokenKind → List ℕ → Placed
+placed_token p start end kind octets = record { place = p; lexeme = record { start = start; end = end; kind = kind; octets = octets } }
 
 -- the octets of a token at the front
-word_of : (p : Place) (start end : ℕ) (kind : TokenKind) (octets : List ℕ) (colon : Bool) (w r : List ℕ) → IsLexeme p colon w r kind octets → starts_badly (w ++ r) ≡ false → is_version_word (token_of p start end kind octets ∷ []) ≡ false
+word_of : (p : Place) (start end : ℕ) (kind : TokenKind) (octets : List ℕ) (colon : Bool) (w r : List ℕ) → IsLexeme p colon w r kind octets → starts_badly (w ++ r) ≡ false → is_version_word (placed_token p start end kind octets ∷ []) ≡ false
 word_of p start end kinds.Word octets colon w r h g = no_version octets (subst (λ (x : List ℕ). starts_badly x ≡ false) (sym h.0) (bad_front w r g))
 word_of p start end kinds.KindName octets colon w r h g = refl
 word_of p start end kinds.Number octets colon w r h g = refl
@@ -119,7 +119,7 @@ one_line v vs = append_assoc (value_text v) (10 ∷ []) (text_of vs)
 
 module _ (g : Catalog) (l : Limits) where
   -- pieces of what is written: no table among them, no marker, and no long string
-  record Wrote (ts : List Placed) (s : List Value) : Type 0 where
+  record WrittenPieces (ts : List Placed) (s : List Value) : Type 0 where
     pieces : Pieces g l ts s system_slots
     short : NoneLong ts
 
@@ -129,11 +129,11 @@ module _ (g : Catalog) (l : Limits) where
     lexes : Lexes colon before (10 ∷ text_of vs) tokens
     pieces : Pieces g l (us ++ tokens) (done ++ vs) system_slots
 
-  abbrev IsTop : Value → List Placed → Type 0
-  IsTop v ts = Means system_slots places.Top ts v
+  abbrev MeansAtTop : Value → List Placed → Type 0
+  MeansAtTop v ts = Means system_slots places.Top ts v
 
   -- one value more
-  value_holds : (us : List Placed) (done : List Value) (v : Value) (at : ℕ) (rest : List ℕ) → Wrote us done → IsKept v → is_table v ≡ false → ValueFits l v → (h : Written (IsTop v) at (value_text v) rest) → Wrote (us ++ tokens h) (done ++ v ∷ [])
+  value_holds : (us : List Placed) (done : List Value) (v : Value) (at : ℕ) (rest : List ℕ) → WrittenPieces us done → IsKept v → is_table v ≡ false → ValueFits l v → (h : Written (MeansAtTop v) at (value_text v) rest) → WrittenPieces (us ++ tokens h) (done ++ v ∷ [])
   value_holds us done v at rest w k no_table fits h =
       let n = no_marker false at (value_text v ++ rest) h.first h.others h.after (at + length (value_text v)) rest (h.lexes false) (value_no_colon v k rest) in
       let s = span_within false at (value_text v ++ rest) (tokens h) h.after (at + length (value_text v)) rest (h.lexes false) in
@@ -143,7 +143,7 @@ module _ (g : Catalog) (l : Limits) where
         short = none_long us (tokens h) w.short h.short;
       }
 
-  lines : (us : List Placed) (done : List Value) → Wrote us done → (vs : List Value) → AreKept vs → NoTables vs → FitsIn l vs → (colon : Bool) (before : ℕ) → Lines us done vs colon before
+  lines : (us : List Placed) (done : List Value) → WrittenPieces us done → (vs : List Value) → AreKept vs → NoTables vs → FitsIn l vs → (colon : Bool) (before : ℕ) → Lines us done vs colon before
   lines us done w [] k n f colon before = record {
     tokens = [];
     lexes = last_line;

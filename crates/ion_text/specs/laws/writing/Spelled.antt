@@ -35,14 +35,14 @@ use Rattle.ion_text.specs.laws.writing.Quoted.{text_quoted, clob_quoted, string_
 -- 1. What may follow.
 
 -- no octet of a word, no dot, no `'`
-pub record Apart (r : List ℕ) : Type 0 where
+pub record EndsWords (r : List ℕ) : Type 0 where
   pub word : begins is_word_octet r ≡ false
   pub dot : begins (λ o. o == 46) r ≡ false
   pub quote : begins (λ o. o == 39) r ≡ false
 
 -- and what ends a number
-pub record Stops (r : List ℕ) : Type 0 where
-  pub apart : Apart r
+pub record EndsNumbers (r : List ℕ) : Type 0 where
+  pub apart : EndsWords r
   pub stop : begins is_stop r ≡ true
 
 -- The octets w before r are a token of this place, whether or not a colon may stand there, and say this. None is a long string.
@@ -75,7 +75,7 @@ all_each : (class : ℕ → Bool) (os : List ℕ) → list_all class os ≡ true
 all_each class [] h = tt
 all_each class (o ∷ os) h = let p = and_parts _ _ h in (p.0, all_each class os p.1)
 
-word_is : (p : Place) (w r : List ℕ) → is_identifier w ≡ true → Apart r → (colon : Bool) → IsLexeme p colon w r kinds.Word w
+word_is : (p : Place) (w r : List ℕ) → is_identifier w ≡ true → EndsWords r → (colon : Bool) → IsLexeme p colon w r kinds.Word w
 word_is p [] r h a colon = absurd (false≢true h)
 word_is p (o ∷ os) r h a colon =
     let q = and_parts _ _ h in
@@ -90,10 +90,10 @@ not_true : (b : Bool) → not b ≡ true → b ≡ false
 not_true false h = refl
 not_true true h = absurd (false≢true h)
 
-quoted_is : (p : Place) (w r : List ℕ) → IsUtf8 w → Apart r → (colon : Bool) → IsLexeme p colon (quoted of_symbol w) r kinds.QuotedSymbol w
+quoted_is : (p : Place) (w r : List ℕ) → IsUtf8 w → EndsWords r → (colon : Bool) → IsLexeme p colon (quoted of_symbol w) r kinds.QuotedSymbol w
 quoted_is p w r u a colon = (escaped_text of_symbol w, text_quoted styles.QuotedSymbol 39 symbol_between w u, refl, λ e. a.quote)
 
-word_spelled : (p : Place) (w r : List ℕ) → is_identifier w ≡ true → IsUtf8 w → Apart r → Spelling p w r (Word w)
+word_spelled : (p : Place) (w r : List ℕ) → is_identifier w ≡ true → IsUtf8 w → EndsWords r → Spelling p w r (Word w)
 word_spelled p w r h u a = record {
   kind = kinds.Word;
   octets = w;
@@ -102,7 +102,7 @@ word_spelled p w r h u a = record {
   short = refl;
 }
 
-unquoted_spelled : (c : List Slot) (p : Place) (w r : List ℕ) → IsUtf8 w → Apart r → is_unquoted w ≡ true → SymbolSpelling c p (Some w) r
+unquoted_spelled : (c : List Slot) (p : Place) (w r : List ℕ) → IsUtf8 w → EndsWords r → is_unquoted w ≡ true → SymbolSpelling c p (Some w) r
 unfolding symbol_text
 unquoted_spelled c p w r u a h =
     let q = and_parts _ _ h in
@@ -119,7 +119,7 @@ unquoted_spelled c p w r u a h =
       is = is_word w (not_true (is_keyword w) q.1);
     }
 
-quoted_spelled : (c : List Slot) (p : Place) (w r : List ℕ) → IsUtf8 w → Apart r → is_unquoted w ≡ false → SymbolSpelling c p (Some w) r
+quoted_spelled : (c : List Slot) (p : Place) (w r : List ℕ) → IsUtf8 w → EndsWords r → is_unquoted w ≡ false → SymbolSpelling c p (Some w) r
 unfolding symbol_text
 quoted_spelled c p w r u a h = record {
   said = Quoted w;
@@ -134,7 +134,7 @@ quoted_spelled c p w r u a h = record {
   is = is_quoted w;
 }
 
-unknown_spelled : (c : List Slot) (p : Place) (r : List ℕ) → Apart r → SymbolSpelling c p None r
+unknown_spelled : (c : List Slot) (p : Place) (r : List ℕ) → EndsWords r → SymbolSpelling c p None r
 unfolding symbol_text resolve
 unknown_spelled c p r a = record {
   said = Id 0;
@@ -149,7 +149,7 @@ unknown_spelled c p r a = record {
   is = is_id 0 None refl;
 }
 
-pub symbol_spelled : (c : List Slot) (p : Place) (s : Option (List ℕ)) (r : List ℕ) → IsText s → Apart r → SymbolSpelling c p s r
+pub symbol_spelled : (c : List Slot) (p : Place) (s : Option (List ℕ)) (r : List ℕ) → IsText s → EndsWords r → SymbolSpelling c p s r
 symbol_spelled c p None r t a = unknown_spelled c p r a
 symbol_spelled c p (Some w) r u a = by (is_unquoted w) refl where
   by : (b : Bool) → is_unquoted w ≡ b → SymbolSpelling c p (Some w) r
@@ -158,7 +158,7 @@ symbol_spelled c p (Some w) r u a = by (is_unquoted w) refl where
 
 -- 3. Numbers, bools, nulls and strings.
 
-pub number_spelled : (p : Place) (n : Number) (r : List ℕ) → is_name p ≡ false → ReadsNumber (number_text n) (Ok n) → Stops r → Spelling p (number_text n) r (Number' n)
+pub number_spelled : (p : Place) (n : Number) (r : List ℕ) → is_name p ≡ false → ReadsNumber (number_text n) (Ok n) → EndsNumbers r → Spelling p (number_text n) r (Number' n)
 number_spelled p n r place h s =
     let run = numeric_run (number_text n) n h in
     record {
@@ -178,7 +178,7 @@ ascii_text (o ∷ os) h =
       by : (o : ℕ) → nat_lt o 128 ≡ true → o < 128
       by o h = grind (arith, nat_tests)
 
-pub truth_spelled : (p : Place) (b : Bool) (r : List ℕ) → Apart r → Spelling p (truth_text b) r (Word (truth_text b))
+pub truth_spelled : (p : Place) (b : Bool) (r : List ℕ) → EndsWords r → Spelling p (truth_text b) r (Word (truth_text b))
 truth_spelled p false r a = word_spelled p (codes "false") r refl (ascii_text (codes "false") refl) a
 truth_spelled p true r a = word_spelled p (codes "true") r refl (ascii_text (codes "true") refl) a
 
@@ -187,7 +187,7 @@ abbrev pub null_said : Kind → Content
 null_said values.Null = Word (codes "null")
 null_said k = TypedNull k
 
-typed_null : (p : Place) (k : Kind) (r : List ℕ) → Each is_word_octet (kind_name k) → kind_named (kind_name k) ≡ Some k → Apart r → Spelling p (codes "null." ++ kind_name k) r (TypedNull k)
+typed_null : (p : Place) (k : Kind) (r : List ℕ) → Each is_word_octet (kind_name k) → kind_named (kind_name k) ≡ Some k → EndsWords r → Spelling p (codes "null." ++ kind_name k) r (TypedNull k)
 typed_null p k r e f a = record {
   kind = kinds.KindName;
   octets = kind_name k;
@@ -196,7 +196,7 @@ typed_null p k r e f a = record {
   short = refl;
 }
 
-pub null_spelled : (p : Place) (k : Kind) (r : List ℕ) → Apart r → Spelling p (null_text k) r (null_said k)
+pub null_spelled : (p : Place) (k : Kind) (r : List ℕ) → EndsWords r → Spelling p (null_text k) r (null_said k)
 null_spelled p values.Null r a = word_spelled p (codes "null") r refl (ascii_text (codes "null") refl) a
 null_spelled p values.Bool r a = typed_null p values.Bool r (all_each is_word_octet (kind_name values.Bool) refl) refl a
 null_spelled p values.Int r a = typed_null p values.Int r (all_each is_word_octet (kind_name values.Int) refl) refl a

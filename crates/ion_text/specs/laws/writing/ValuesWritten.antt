@@ -29,11 +29,11 @@ use Rattle.ion_tokens.specs.Bodies.{Content, Word, Number', Short, Clob, Blob, M
 use Rattle.ion_tokens.specs.Lexemes.{begins, begins_number, mark_spelling, MarkStands, MarkEnds}
 use Rattle.ion_tokens.specs.Lexed.{Placed, LexesTo}
 use Rattle.ion_text.specs.Grammar.{Says, IsSymbol, IsName, by_symbol, IsScalar, is_null, is_typed_null, is_true, is_false, is_int, is_decimal, is_timestamp, is_symbol, is_short, is_clob, is_blob, Annotations, no_annotation, one_annotation, is_long, ends_long, begins_long, close_place, Plain, one_token, is_list, is_sexp, is_struct, Means, means, Elements, no_element, element, comma, Row, no_item, item, Members, no_field, field, field_comma}
-use Rattle.ion_text.specs.Output.{of_string, of_symbol, symbol_text, known_text, is_identifier, is_unquoted, quoted, escaped_text, null_text, truth_text, clob_text, blob_text, notes_text, separated, named, value_text}
+use Rattle.ion_text.specs.Output.{of_string, of_symbol, symbol_text, known_text, is_identifier, is_unquoted, quoted, escaped_text, null_text, truth_text, clob_text, blob_text, notes_text, separated, named_text, value_text}
 use Rattle.ion_text.specs.laws.writing.Output.{field_text, layer_text, text-out}
 use Rattle.ion_model.specs.Kept.{IsText, AreTexts, IsKept, kept, KeptPayload, kept_null, kept_truth, kept_int, kept_decimal, kept_timestamp, kept_symbol, kept_string, kept_clob, kept_blob, kept_list, kept_sexp, kept_fields, KeptItems, no_items, an_item, KeptFields, no_fields, a_field}
 use Rattle.ion_tokens.specs.laws.Numerals.{numeric_run}
-use Rattle.ion_text.specs.laws.writing.Spelled.{Apart, Stops, Spelling, symbol_spelled, number_spelled, string_spelled, truth_spelled, null_said, null_spelled, clob_spelled, blob_spelled}
+use Rattle.ion_text.specs.laws.writing.Spelled.{EndsWords, EndsNumbers, Spelling, symbol_spelled, number_spelled, string_spelled, truth_spelled, null_said, null_spelled, clob_spelled, blob_spelled}
 use Rattle.ion_text.specs.laws.writing.Written.{Written, tokens, both, written_as, white_written, One, one, placed, token_lexes, free_mark, both_lex, mark_written, mark_then, one_written}
 
 -- 1. First octets: neither `:` nor `{`.
@@ -117,7 +117,7 @@ number_no_colon (o ∷ os) r h = plain_start o (os ++ r) (digit_no_colon o (begi
 pub data Marked (p : Place) (m : Mark) (Names : Content → Type 0) : List Placed → Type 0 where
   marked : (t mark : Placed) (said : Content) → Says p t said → Names said → Says p mark (Mark' m) → Marked p m Names (t ∷ mark ∷ [])
 
-symbol_marked : (c : List Slot) (p : Place) (m : Mark) (s : Option (List ℕ)) (before : ℕ) (rest : List ℕ) → IsText s → Apart (mark_spelling m ++ rest) → MarkStands p true m → MarkEnds m rest
+symbol_marked : (c : List Slot) (p : Place) (m : Mark) (s : Option (List ℕ)) (before : ℕ) (rest : List ℕ) → IsText s → EndsWords (mark_spelling m ++ rest) → MarkStands p true m → MarkEnds m rest
     → Written (Marked p m (λ said. IsSymbol c said s)) before (symbol_text s ++ mark_spelling m) rest
 symbol_marked c p m s before rest t a stands ends =
     let h = symbol_spelled c p s (mark_spelling m ++ rest) t a in
@@ -137,10 +137,10 @@ symbol_marked c p m s before rest t a stands ends =
     }
 
 -- what comes behind a symbol there
-colons_apart : (r : List ℕ) → Apart (codes "::" ++ r)
+colons_apart : (r : List ℕ) → EndsWords (codes "::" ++ r)
 colons_apart r = record { word = refl; dot = refl; quote = refl }
 
-colon_apart : (r : List ℕ) → Apart (codes ":" ++ r)
+colon_apart : (r : List ℕ) → EndsWords (codes ":" ++ r)
 colon_apart r = record { word = refl; dot = refl; quote = refl }
 
 note_written : (c : List Slot) (p : Place) (s : Option (List ℕ)) (before : ℕ) (rest : List ℕ) → IsText s → Written (Marked p marks.Colons (λ said. IsSymbol c said s)) before (symbol_text s ++ codes "::") rest
@@ -151,17 +151,17 @@ note_written c p s before rest t = symbol_marked c p marks.Colons s before rest 
 abbrev IsPlain : List Slot → Place → Payload → List Placed → Type 0
 IsPlain c p x ts = Plain c p ts x
 
-abbrev Behind : List Slot → Place → List Placed → List (Option (List ℕ)) → Payload → List Placed → Type 0
-Behind c p us ss x ts = Means c p (us ++ ts) (annotated ss x)
+abbrev MeansBehind : List Slot → Place → List Placed → List (Option (List ℕ)) → Payload → List Placed → Type 0
+MeansBehind c p us ss x ts = Means c p (us ++ ts) (annotated ss x)
 
 with_note : (c : List Slot) (p : Place) (us ts : List Placed) (ss : List (Option (List ℕ))) (s : Option (List ℕ)) → Annotations c p us ss → Marked p marks.Colons (λ said. IsSymbol c said s) ts → Annotations c p (us ++ ts) (ss ++ s ∷ [])
 with_note c p us _ ss s h (marked t mark said a b d) = one_annotation us ss t mark said s h a b d
 
 behind_notes : (c : List Slot) (p : Place) (us : List Placed) (done ss : List (Option (List ℕ))) (x : Payload) (w : List ℕ) (before : ℕ) (rest : List ℕ) → Annotations c p us done → AreTexts ss → ((at : ℕ) → Written (IsPlain c p x) at w rest)
-    → Written (Behind c p us (done ++ ss) x) before (notes_text ss ++ w) rest
+    → Written (MeansBehind c p us (done ++ ss) x) before (notes_text ss ++ w) rest
 behind_notes c p us done [] x w before rest h t k =
     let now = k before in
-    written_as (IsPlain c p x) (Behind c p us (done ++ []) x) before w rest now
+    written_as (IsPlain c p x) (MeansBehind c p us (done ++ []) x) before w rest now
     (subst (λ (ss : List (Option (List ℕ))). Means c p (us ++ tokens now) (annotated ss x)) (sym (append-nil done)) (means p us (now.first ∷ now.others) done x h now.is))
 behind_notes c p us done (s ∷ ss) x w before rest h t k =
     let note = symbol_text s ++ codes "::" in
@@ -170,11 +170,11 @@ behind_notes c p us done (s ∷ ss) x w before rest h t k =
     let ts = tokens one in
     let tail = behind_notes c p (us ++ ts) (done ++ s ∷ []) ss x w (before + length note) rest (with_note c p us ts done s h one.is) t.1 k in
     let us' = tokens tail in
-    let is : Behind c p us (done ++ s ∷ ss) x (ts ++ us') =
+    let is : MeansBehind c p us (done ++ s ∷ ss) x (ts ++ us') =
     subst (λ (os : List Placed). Means c p os (annotated (done ++ s ∷ ss) x)) (append_assoc us ts us')
     (subst (λ (l : List (Option (List ℕ))). Means c p ((us ++ ts) ++ us') (annotated l x)) (append_assoc done (s ∷ []) ss) tail.is) in
-    let all = both (Marked p marks.Colons (λ said. IsSymbol c said s)) (Behind c p (us ++ ts) ((done ++ s ∷ []) ++ ss) x) (Behind c p us (done ++ s ∷ ss) x) before note more rest one tail is in
-    subst (λ (o : List ℕ). Written (Behind c p us (done ++ s ∷ ss) x) before o rest) (sym (append_assoc note (notes_text ss) w)) all
+    let all = both (Marked p marks.Colons (λ said. IsSymbol c said s)) (MeansBehind c p (us ++ ts) ((done ++ s ∷ []) ++ ss) x) (MeansBehind c p us (done ++ s ∷ ss) x) before note more rest one tail is in
+    subst (λ (o : List ℕ). Written (MeansBehind c p us (done ++ s ∷ ss) x) before o rest) (sym (append_assoc note (notes_text ss) w)) all
 
 -- 4. Scalars.
 
@@ -205,33 +205,33 @@ truth_scalar : (c : List Slot) (b : Bool) → IsScalar c (Word (truth_text b)) (
 truth_scalar c false = is_false
 truth_scalar c true = is_true
 
-symbol_written : (c : List Slot) (p : Place) (s : Option (List ℕ)) (at : ℕ) (rest : List ℕ) → IsText s → Apart rest → Written (IsPlain c p (payloads.Symbol s)) at (symbol_text s) rest
+symbol_written : (c : List Slot) (p : Place) (s : Option (List ℕ)) (at : ℕ) (rest : List ℕ) → IsText s → EndsWords rest → Written (IsPlain c p (payloads.Symbol s)) at (symbol_text s) rest
 symbol_written c p s at rest t a =
     let h = symbol_spelled c p s rest t a in
     scalar_written c p h.said (payloads.Symbol s) at (symbol_text s) rest (is_symbol h.said s h.is) h.token
 
 -- 5. What ends a value.
 
-close_stops : (by close : ℕ) (r : List ℕ) → Stops (by ∷ []) → Stops (close ∷ []) → (ws : List (List ℕ)) → Stops ((flat_map (λ (x : List ℕ). by ∷ x) ws ++ close ∷ []) ++ r)
+close_stops : (by close : ℕ) (r : List ℕ) → EndsNumbers (by ∷ []) → EndsNumbers (close ∷ []) → (ws : List (List ℕ)) → EndsNumbers ((flat_map (λ (x : List ℕ). by ∷ x) ws ++ close ∷ []) ++ r)
 close_stops by close r a b [] = record { apart = record { word = b.apart.word; dot = b.apart.dot; quote = b.apart.quote }; stop = b.stop }
 close_stops by close r a b (w ∷ ws) = record { apart = record { word = a.apart.word; dot = a.apart.dot; quote = a.apart.quote }; stop = a.stop }
 
-pub comma_stops : (r : List ℕ) → Stops (44 ∷ r)
+pub comma_stops : (r : List ℕ) → EndsNumbers (44 ∷ r)
 comma_stops r = record { apart = record { word = refl; dot = refl; quote = refl }; stop = refl }
 
-pub space_stops : (r : List ℕ) → Stops (32 ∷ r)
+pub space_stops : (r : List ℕ) → EndsNumbers (32 ∷ r)
 space_stops r = record { apart = record { word = refl; dot = refl; quote = refl }; stop = refl }
 
-pub line_stops : (r : List ℕ) → Stops (10 ∷ r)
+pub line_stops : (r : List ℕ) → EndsNumbers (10 ∷ r)
 line_stops r = record { apart = record { word = refl; dot = refl; quote = refl }; stop = refl }
 
-list_stops : (r : List ℕ) → Stops (93 ∷ r)
+list_stops : (r : List ℕ) → EndsNumbers (93 ∷ r)
 list_stops r = record { apart = record { word = refl; dot = refl; quote = refl }; stop = refl }
 
-sexp_stops : (r : List ℕ) → Stops (41 ∷ r)
+sexp_stops : (r : List ℕ) → EndsNumbers (41 ∷ r)
 sexp_stops r = record { apart = record { word = refl; dot = refl; quote = refl }; stop = refl }
 
-struct_stops : (r : List ℕ) → Stops (125 ∷ r)
+struct_stops : (r : List ℕ) → EndsNumbers (125 ∷ r)
 struct_stops r = record { apart = record { word = refl; dot = refl; quote = refl }; stop = refl }
 
 -- 6. The contents of lists, s-expressions and structs, up to the mark that closes them.
@@ -290,7 +290,7 @@ regroup us ts more t = append_assoc (us ++ t ∷ []) ts more ∙ append_assoc us
 by_level : (c : List Slot) (p : Place) (x : Payload) (d : Layer) (at : ℕ) (rest : List ℕ) → views.out-Payload x ≡ d → Written (IsPlain c p x) at (layer_text d) rest → Written (IsPlain c p x) at (layer_text (views.out-Payload x)) rest
 by_level c p x d at rest e h = subst (λ (d : Layer). Written (IsPlain c p x) at (layer_text d) rest) (sym e) h
 
-number_written : (c : List Slot) (p : Place) (k : Number) (x : Payload) (at : ℕ) (rest : List ℕ) → IsScalar c (Number' k) x → is_name p ≡ false → ReadsNumber (number_text k) (Ok k) → Stops rest → Written (IsPlain c p x) at (number_text k) rest
+number_written : (c : List Slot) (p : Place) (k : Number) (x : Payload) (at : ℕ) (rest : List ℕ) → IsScalar c (Number' k) x → is_name p ≡ false → ReadsNumber (number_text k) (Ok k) → EndsNumbers rest → Written (IsPlain c p x) at (number_text k) rest
 number_written c p k x at rest h n r s = scalar_written c p (Number' k) x at (number_text k) rest h (number_spelled p k rest n r s)
 
 -- no value's text begins with `:`
@@ -368,7 +368,7 @@ tails_more : (by close : ℕ) (w : List ℕ) (ws : List (List ℕ)) → tails by
 tails_more by close w ws = ap (λ (x : List ℕ). by ∷ x) (append_assoc w (flat_map (λ (x : List ℕ). by ∷ x) ws) (close ∷ []))
 
 -- a field, where its value is written
-field_by : (c : List Slot) (s : Option (List ℕ)) (v : Value) → IsText s → IsKept v → (at : ℕ) (rest : List ℕ) → ((here : ℕ) → Written (λ ts. Means c places.FieldValue ts v) here (value_text v) rest) → Written (λ ts. OneField c ts (field_of s v)) at (named s (value_text v)) rest
+field_by : (c : List Slot) (s : Option (List ℕ)) (v : Value) → IsText s → IsKept v → (at : ℕ) (rest : List ℕ) → ((here : ℕ) → Written (λ ts. Means c places.FieldValue ts v) here (value_text v) rest) → Written (λ ts. OneField c ts (field_of s v)) at (named_text s (value_text v)) rest
 field_by c s v t k at rest written =
     let w = value_text v in
     let name = symbol_text s ++ codes ":" in
@@ -381,12 +381,12 @@ field_by c s v t k at rest written =
 module _ (c : List Slot) where
   mutual
     -- the text of a value is tokens that mean it, in each place but a field's name, before what ends it
-    pub value_written : (v : Value) → IsKept v → (p : Place) → is_name p ≡ false → (at : ℕ) (rest : List ℕ) → Stops rest → Written (λ ts. Means c p ts v) at (value_text v) rest
+    pub value_written : (v : Value) → IsKept v → (p : Place) → is_name p ≡ false → (at : ℕ) (rest : List ℕ) → EndsNumbers rest → Written (λ ts. Means c p ts v) at (value_text v) rest
     value_written _ (kept ss x t k) p n at rest s =
         subst (λ (w : List ℕ). Written (λ ts. Means c p ts (annotated ss x)) at w rest) (sym (text-out (annotated ss x)))
         (behind_notes c p [] [] ss x (layer_text (views.out-Payload x)) at rest no_annotation t (λ here. payload_written x k p n here rest s))
 
-    payload_written : (x : Payload) → KeptPayload x → (p : Place) → is_name p ≡ false → (at : ℕ) (rest : List ℕ) → Stops rest → Written (IsPlain c p x) at (layer_text (views.out-Payload x)) rest
+    payload_written : (x : Payload) → KeptPayload x → (p : Place) → is_name p ≡ false → (at : ℕ) (rest : List ℕ) → EndsNumbers rest → Written (IsPlain c p x) at (layer_text (views.out-Payload x)) rest
     payload_written _ (kept_null k) p n at rest s = by_level c p (payloads.Null k) _ at rest (views.outs-Null k) (scalar_written c p (null_said k) (payloads.Null k) at (null_text k) rest (null_scalar c k) (null_spelled p k rest s.apart))
     payload_written _ (kept_truth b) p n at rest s = by_level c p (payloads.Truth b) _ at rest (views.outs-Truth b) (scalar_written c p (Word (truth_text b)) (payloads.Truth b) at (truth_text b) rest (truth_scalar c b) (truth_spelled p b rest s.apart))
     payload_written _ (kept_int z h) p n at rest s = by_level c p (payloads.Int z) _ at rest (views.outs-Int z) (number_written c p (numbers.Int z) (payloads.Int z) at rest (is_int z) n (int_reads z h) s)
@@ -484,7 +484,7 @@ module _ (c : List Slot) where
         written_as (One places.Name (Mark' marks.FieldsClose)) (λ ts. ClosedFields c ts []) at (125 ∷ []) rest close (close_fields c [] [] true no_field (tokens close) close.is)
     fields_closed _ (a_field s v ms t k ks) at rest =
         let m = field_of s v in
-        let w = named s (value_text v) in
+        let w = named_text s (value_text v) in
         let more = tails 44 125 (map field_text ms) in
         let e = close_stops 44 125 rest (comma_stops []) (struct_stops []) (map field_text ms) in
         let h = field_by c s v t k at (more ++ rest) (λ here. value_written v k places.FieldValue refl here (more ++ rest) e) in
@@ -499,7 +499,7 @@ module _ (c : List Slot) where
         (subst (λ (x : List Field). ClosedFields c (us ++ tokens close) x) (sym (append-nil done)) (close_fields c us done false i (tokens close) close.is))
     fields_tail us done i _ (a_field s v ms t k ks) at rest =
         let m = field_of s v in
-        let w = named s (value_text v) in
+        let w = named_text s (value_text v) in
         let more = tails 44 125 (map field_text ms) in
         let mark = mark_written places.FieldValue marks.Comma at ((w ++ more) ++ rest) tt in
         let e = close_stops 44 125 rest (comma_stops []) (struct_stops []) (map field_text ms) in

@@ -5,13 +5,13 @@ use lib.Bits.{bit_or}
 use lib.Lanes.{top}
 use Rattle.ion_tokens.specs.machine.Table.{stands}
 use Rattle.ion_tokens.proofs.ByOctet.{holds_below, same}
-use Rattle.ion_tokens.proofs.LaneMasks.{is, below, at_most, minus, masked_by}
+use Rattle.ion_tokens.proofs.LaneMasks.{is, below, at_most, lane_minus, masked_by}
 use Rattle.ion_tokens.proofs.lanes.text_ends.Goals as goal
 
 -- what the operations say of an octet, which is the quote or not
 said : ℕ → Bool → ℕ → ℕ
 said line_end quote x =
-    bit_or (bit_or (bit_or (bit_or (bit_or (below x 9) (is x line_end)) (below (minus x 13) 19)) (at_most 128 x)) (is x 92)) (cond quote 255 0)
+    bit_or (bit_or (bit_or (bit_or (bit_or (below x 9) (is x line_end)) (below (lane_minus x 13) 19)) (at_most 128 x)) (is x 92)) (cond quote 255 0)
 
 -- and what it is
 ends : Bool → Bool → ℕ → Bool
@@ -36,7 +36,7 @@ returns c =
     (zip2_of_maps bit_or _ _ v (zip2_of_maps bit_or _ _ v (zip2_of_maps bit_or _ _ v (zip2_of_maps bit_or _ _ v (zip2_of_maps bit_or _ _ v
     (zip2_splat below v 16 9 long)
     (zip2_splat is v 16 line_end long))
-    (zip2_of_maps below (λ x. minus x 13) (λ _. 19) v (zip2_splat minus v 16 13 long) (splat_is_map v 16 19 long)))
+    (zip2_of_maps below (λ x. lane_minus x 13) (λ _. 19) v (zip2_splat lane_minus v 16 13 long) (splat_is_map v 16 19 long)))
     (zip2_splat_left at_most 128 16 v long))
     (zip2_splat is v 16 92 long))
     (zip2_splat is v 16 quote long))

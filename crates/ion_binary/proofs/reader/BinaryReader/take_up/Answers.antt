@@ -4,7 +4,7 @@ use Rattle.std.proofs.lemmas.Result.{err_from_is_err_and}
 use Rattle.ion_binary.specs.Judge.{judge}
 use Rattle.ion_binary.specs.machine.EachOctet.{moved, judged}
 use Rattle.ion_binary.specs.machine.Run.{run}
-use Rattle.ion_binary.specs.machine.Pieces.{after}
+use Rattle.ion_binary.specs.machine.Pieces.{run_after}
 use Rattle.ion_binary.specs.machine.Views.{setting_of, spot_of, machine_of, open_frames, run_of, delivers, Does}
 use Rattle.ion_binary.proofs.Insides.{body_ends, reached, refused_whole}
 use Rattle.ion_binary.proofs.reader.BinaryReader.take_up.Goals as goal
@@ -24,8 +24,8 @@ returns-in_err-effect-clause-does c =
     let place : r.used + k ≡ c.take_end.new.self.used = omega (arith, c.take_end.ensures.used) in
     refused_whole r.catalog.now r.limits r.used (machine_of r) piece k reason c.in-Some.ensures.within
     (ends
-    ∙ ap (λ j. after (r.used + k) (judged (setting_of r) (moved (spot_of r) (r.used + j)) (open_frames r) (judge r.context c.in-Some.scalar (r.body.items ++ take k piece)))) (sym size)
-    ∙ ap (after (r.used + k)) did)
+    ∙ ap (λ j. run_after (r.used + k) (judged (setting_of r) (moved (spot_of r) (r.used + j)) (open_frames r) (judge r.context c.in-Some.scalar (r.body.items ++ take k piece)))) (sym size)
+    ∙ ap (run_after (r.used + k)) did)
     ∙ ap (λ j. record { given = []; now = Err (record { offset = j; reason = reason }) }) place)
 
 pub returns-in-Some-clause-does : goal.returns-in-Some-clause-does
@@ -51,7 +51,7 @@ returns-in_err-effect-2-clause-does c =
     rw (p.1, p.2)
     (λ other.
     refused_whole r.catalog.now r.limits r.used (machine_of r) c.args.piece.now k reason c.in-Some-whole.ensures.within
-    (c.in-Some-whole.ensures.runs ∙ ap (after (r.used + k)) (c.in_err-effect-2.ensures.does other))
+    (c.in-Some-whole.ensures.runs ∙ ap (run_after (r.used + k)) (c.in_err-effect-2.ensures.does other))
     ∙ ap (λ j. record { given = []; now = Err (record { offset = j; reason = reason }) }) (sym c.take_whole.ensures.used))
 
 pub returns-in-Some-whole-clause-does : goal.returns-in-Some-whole-clause-does

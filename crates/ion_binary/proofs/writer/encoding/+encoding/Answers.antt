@@ -3,7 +3,7 @@ use Rattle.ion_model.specs.Kept.{AreTexts}
 use Rattle.ion_model.specs.laws.Kept.{items_at, fields_at, no_texts, value_kept}
 use Rattle.ion_model.specs.declared.value.Payload.TheViews.{out-Payload}
 use Rattle.ion_scalar.specs.binary.Spellings.{var_uint_octets}
-use Rattle.ion_binary.specs.Output.{Names, id_of, counted, ids_octets, symbols_of, value_octets, with_names}
+use Rattle.ion_binary.specs.Output.{Names, id_of, with_count, ids_octets, symbols_of, value_octets, with_names}
 use Rattle.ion_binary.specs.laws.writing.Output.{layer_octets, layer_symbols, field_octets, field_symbols}
 use Rattle.ion_binary.proofs.Encoded.{octets_bare_later, octets_wrapped, octets_at, all_items, all_fields, framed_at, longer_by}
 use Rattle.ion_binary.proofs.Later.{later_self, later_by}
@@ -116,12 +116,12 @@ pub put_value-returns-clause-ok : goal.put_value-returns-clause-ok
 put_value-returns-clause-ok g t c = λ later h.
     let old = c.args.out.now.items in
     let value = c.args.value.now in
-    let ids = counted (ids_octets later value.annotations) in
+    let ids = with_count (ids_octets later value.annotations) in
     let rest = layer_octets later (out-Payload value.payload) in
     let some : 0 < length value.annotations = grind (arith, c.as_slice-annotations.ensures, c.is_empty.ensures, c.if-is_empty.false) in
     let mid = later_by c.put_annotations.new.names (layer_symbols (out-Payload value.payload)) c.put_payload-2.new.names later c.in_ok-put_payload.ensures.after h in
-    let front = c.in_ok-put_annotations.ensures.ok later mid ∙ ap (λ w. w ++ counted (ids_octets later c.as_slice-annotations.result.now)) c.in_ok-push.ensures.items
-    ∙ ap (λ ss. (old ++ 0 ∷ []) ++ counted (ids_octets later ss)) c.as_slice-annotations.ensures in
+    let front = c.in_ok-put_annotations.ensures.ok later mid ∙ ap (λ w. w ++ with_count (ids_octets later c.as_slice-annotations.result.now)) c.in_ok-push.ensures.items
+    ∙ ap (λ ss. (old ++ 0 ∷ []) ++ with_count (ids_octets later ss)) c.as_slice-annotations.ensures in
     let body = c.in_ok-put_payload.ensures.ok later h ∙ ap (λ w. w ++ rest) front ∙ append_assoc (old ++ 0 ∷ []) ids rest in
     let place : c.len-place.result ≡ length old = search rules in
     rw (octets_wrapped later value some) (framed_at 14 c.len-place.result old (ids ++ rest) c.put_payload-2.new.out.items c.frame.new.out.items place body c.in_ok-frame.ensures.ok)

@@ -2,7 +2,7 @@ use Rattle.std.proofs.Common.{rules, ◌≡◌, [], ◌∷◌, ◌++◌, Some, c
 use Rattle.std.specs.List.{flat_map}
 use Rattle.std.proofs.lemmas.Result.{on_ok_weaker}
 use Rattle.ion_scalar.specs.binary.Spellings.{uint_octets, var_uint_octets}
-use Rattle.ion_binary.specs.Output.{counted, framed, named, text_of}
+use Rattle.ion_binary.specs.Output.{with_count, framed, named_octets, name_text}
 use Rattle.ion_binary.proofs.Encoded.{framed_at}
 use Rattle.ion_binary.proofs.Tabled.{table_is}
 use Rattle.ion_binary.proofs.writer.table.put_table.Goals as goal
@@ -13,8 +13,8 @@ returns-clause-ok g c =
     let more = drop c.args.first names in
     let old = c.args.out.now.items in
     let base = c.in_ok-base.base in
-    let ids = counted (var_uint_octets base) in
-    let fields = framed 13 (named names (Some (codes "imports")) (framed 7 (uint_octets base)) ++ named names (Some (codes "symbols")) (framed 11 (flat_map (λ s. framed 8 (text_of s)) more))) in
+    let ids = with_count (var_uint_octets base) in
+    let fields = framed 13 (named_octets names (Some (codes "imports")) (framed 7 (uint_octets base)) ++ named_octets names (Some (codes "symbols")) (framed 11 (flat_map (λ s. framed 8 (name_text s)) more))) in
     let front = c.in_ok-put_counted.ensures.ok ∙ ap (λ w. w ++ ids) c.in_ok-push.ensures.items in
     let body = c.in_ok-put_table_fields.ensures.ok ∙ ap (λ w. w ++ fields) front ∙ append_assoc (old ++ 0 ∷ []) ids fields in
     let place : c.len-place.result ≡ length old = search rules in

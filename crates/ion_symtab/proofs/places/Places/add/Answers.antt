@@ -4,7 +4,7 @@ use Rattle.std.specs.Str.{bytes_eq}
 use Rattle.std.specs.Map.{update}
 use Rattle.std.specs.String.{string_bytes}
 use Rattle.std.proofs.lemmas.Map.Text.{btree_map_updates_text}
-use Rattle.ion_symtab.specs.kept.Places.{version_of, newest_among}
+use Rattle.ion_symtab.specs.kept.Places.{version_kept, newest_among}
 use Rattle.ion_symtab.proofs.Placing.{placed, noted, places_stay, newest_stays, on_refusal}
 use Rattle.ion_symtab.proofs.places.Places.add.Goals as goal
 
@@ -13,7 +13,7 @@ returns-in_err-add-in-Some-clause-places_kept c =
     let there : get_by_text c.args.self.now.names c.args.name.now ≡ Some c.in-Some.versions.now = sym c.in-Some.ensures.value in
     on_refusal c.from_residual.result (places_stay c.args.self.now.names (c.get_mut.follows.lender c.add.new.self) c.args.name.now c.add.new.self
     (btree_map_updates_text c.args.name.now c.args.self.now.names (c.get_mut.follows.lender c.add.new.self) (Some c.add.new.self) ((c.get_mut.follows.holds c.add.new.self).3 (rw there refl)))
-    (λ v. c.in_err-add-in-Some.ensures.places_kept v ∙ ap (λ o. version_of o v) (sym there)))
+    (λ v. c.in_err-add-in-Some.ensures.places_kept v ∙ ap (λ o. version_kept o v) (sym there)))
 
 pub returns-in_err-add-in-Some-clause-newest_kept : goal.returns-in_err-add-in-Some-clause-newest_kept
 returns-in_err-add-in-Some-clause-newest_kept c =
@@ -27,7 +27,7 @@ returns-in_ok-add-in-Some-clause-place c =
     let there : get_by_text c.args.self.now.names c.args.name.now ≡ Some c.in-Some.versions.now = sym c.in-Some.ensures.value in
     placed c.args.self.now.names (c.get_mut.follows.lender c.add.new.self) c.args.name.now c.add.new.self
     (btree_map_updates_text c.args.name.now c.args.self.now.names (c.get_mut.follows.lender c.add.new.self) (Some c.add.new.self) ((c.get_mut.follows.holds c.add.new.self).3 (rw there refl)))
-    c.args.version c.args.place (λ v. c.in_ok-add-in-Some.ensures.places v ∙ ap (λ o. cond (c.args.version == v) (Some c.args.place) (version_of o v)) (sym there))
+    c.args.version c.args.place (λ v. c.in_ok-add-in-Some.ensures.places v ∙ ap (λ o. cond (c.args.version == v) (Some c.args.place) (version_kept o v)) (sym there))
 
 pub returns-in_ok-add-in-Some-clause-newest : goal.returns-in_ok-add-in-Some-clause-newest
 returns-in_ok-add-in-Some-clause-newest c =
@@ -44,7 +44,7 @@ returns-in_ok-insert-in-None-clause-place c =
     (subst (λ m. (q : List ℕ) → get_by_text c.insert.new.self q ≡ update bytes_eq (get_by_text m) c.args.name.now (Some c.in_ok-versions-in-None.versions) q) c.get_mut.follows.holds-at-none
     (subst (λ b. (q : List ℕ) → get_by_text c.insert.new.self q ≡ update bytes_eq (get_by_text c.get_mut.follows.lender-at-none) b (Some c.in_ok-versions-in-None.versions) q) named
     (btree_map_updates_text (string_bytes c.in_ok-name-in-None.name) c.get_mut.follows.lender-at-none c.insert.new.self (Some c.in_ok-versions-in-None.versions) c.in_ok-insert-in-None.ensures.updates)))
-    c.args.version c.args.place (λ v. c.in_ok-versions-in-None.ensures.places v ∙ ap (λ o. cond (c.args.version == v) (Some c.args.place) (version_of o v)) (sym none))
+    c.args.version c.args.place (λ v. c.in_ok-versions-in-None.ensures.places v ∙ ap (λ o. cond (c.args.version == v) (Some c.args.place) (version_kept o v)) (sym none))
 
 pub returns-in_ok-insert-in-None-clause-newest : goal.returns-in_ok-insert-in-None-clause-newest
 returns-in_ok-insert-in-None-clause-newest c =

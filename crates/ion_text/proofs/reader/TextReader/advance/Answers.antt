@@ -6,7 +6,7 @@ use Rattle.ion_atoms.specs.declared.refusal.Reason.TheVariants as reasons
 use Rattle.ion_tokens.specs.machine.Views.{scanned}
 use Rattle.ion_text.specs.declared.state.Taken.{Taken}
 use Rattle.ion_text.specs.machine.Views.{state_of}
-use Rattle.ion_text.specs.machine.Progress.{Took, Advances, Stops}
+use Rattle.ion_text.specs.machine.Progress.{Took, Advances, StepStops}
 use Rattle.ion_text.proofs.Leading.{leads_by, leads_to_given, leads_to_refused, leads_to_left, leads_to_end, leads_to_second, begins_some, onward_where}
 use Rattle.ion_text.proofs.reader.TextReader.advance.Goals as goal
 
@@ -99,4 +99,4 @@ returns-clause-does c =
     let h = c.loop-i.invariant in
     let piece = c.args.piece.now in
     let led = leads_to_end first.catalog.now first.limits (is_some first.awaited) (scanned first.scanner).used (state_of first) (state_of c.loop-i.self) piece c.loop-i.i (omega arith) (begins_some first.awaited piece c.requires.begins) h.i h.ran in
-    (omega arith, subst (λ (o : Option ℕ). Stops first.catalog.now first.limits (is_some first.awaited) (scanned first.scanner).used (state_of first) piece (length piece) None o (state_of c.loop-i.self)) (sym h.none) (refl, led))
+    (omega arith, subst (λ (o : Option ℕ). StepStops first.catalog.now first.limits (is_some first.awaited) (scanned first.scanner).used (state_of first) piece (length piece) None o (state_of c.loop-i.self)) (sym h.none) (refl, led))

@@ -29,48 +29,48 @@ returns-in-Err-notice-clause-met c = λ fine.
     next_refused r.catalog.now r.limits (reading_of r) (scanned r.scanner).used (run c.args.place c.args.piece.now (scanned r.scanner)) (stepped c.in-Ok.field-0 (left_in c.step.new.self)) (scanned c.step.new.self) c.refused.result c.in-Err-notice.reason r
     (c.in-Ok.ensures.answers fine) none c.in-Err-notice.ensures c.refused.ensures
 
-pub returns-in-Ok-left-clause-met : goal.returns-in-Ok-left-clause-met
-returns-in-Ok-left-clause-met c = λ fine.
+pub returns-in-Ok-meet_left-clause-met : goal.returns-in-Ok-meet_left-clause-met
+returns-in-Ok-meet_left-clause-met c = λ fine.
     let r = c.args.self.now in
     let h1 = c.in-Ok.token-is in
     let h2 = c.in-Some.is in
     let some : c.in-Ok.field-0.token ≡ Some c.in-Some.token = cc in
     let left : left_in c.step.new.self ≡ true = sym c.left.ensures ∙ c.if-left.true in
-    left_meets r.catalog.now r.limits (reading_of r) (scanned r.scanner).used (run c.args.place c.args.piece.now (scanned r.scanner)) (stepped c.in-Ok.field-0 (left_in c.step.new.self)) c.in-Some.token (scanned c.step.new.self) c.in-Ok-left.met c.left-in-Some.new.self
+    left_meets r.catalog.now r.limits (reading_of r) (scanned r.scanner).used (run c.args.place c.args.piece.now (scanned r.scanner)) (stepped c.in-Ok.field-0 (left_in c.step.new.self)) c.in-Some.token (scanned c.step.new.self) c.in-Ok-meet_left.met c.meet_left.new.self
     (c.in-Ok.ensures.answers fine) some left
-    (ap scanned c.in-Ok-left.ensures.setting.scanner) c.in-Ok-left.ensures.again c.in-Ok-left.ensures.did
+    (ap scanned c.in-Ok-meet_left.ensures.setting.scanner) c.in-Ok-meet_left.ensures.again c.in-Ok-meet_left.ensures.did
 
-pub returns-in-Err-left-clause-met : goal.returns-in-Err-left-clause-met
-returns-in-Err-left-clause-met c = λ fine.
+pub returns-in-Err-meet_left-clause-met : goal.returns-in-Err-meet_left-clause-met
+returns-in-Err-meet_left-clause-met c = λ fine.
     let r = c.args.self.now in
     let h1 = c.in-Ok.token-is in
     let h2 = c.in-Some.is in
     let some : c.in-Ok.field-0.token ≡ Some c.in-Some.token = cc in
     let left : left_in c.step.new.self ≡ true = sym c.left.ensures ∙ c.if-left.true in
-    left_refused r.catalog.now r.limits (reading_of r) (scanned r.scanner).used (run c.args.place c.args.piece.now (scanned r.scanner)) (stepped c.in-Ok.field-0 (left_in c.step.new.self)) c.in-Some.token (scanned c.step.new.self) c.refused-in-Err-left.result c.in-Err-left.reason
-    (scanned c.left-in-Some.new.self.scanner).used c.left-in-Some.new.self
+    left_refused r.catalog.now r.limits (reading_of r) (scanned r.scanner).used (run c.args.place c.args.piece.now (scanned r.scanner)) (stepped c.in-Ok.field-0 (left_in c.step.new.self)) c.in-Some.token (scanned c.step.new.self) c.refused-in-Err-meet_left.result c.in-Err-meet_left.reason
+    (scanned c.meet_left.new.self.scanner).used c.meet_left.new.self
     (c.in-Ok.ensures.answers fine) some left
-    c.in-Err-left.ensures.did (ap (λ s. (scanned s).used) c.in-Err-left.ensures.setting.scanner) c.refused-in-Err-left.ensures
+    c.in-Err-meet_left.ensures.did (ap (λ s. (scanned s).used) c.in-Err-meet_left.ensures.setting.scanner) c.refused-in-Err-meet_left.ensures
 
-pub returns-in-Ok-given-clause-met : goal.returns-in-Ok-given-clause-met
-returns-in-Ok-given-clause-met c = λ fine.
+pub returns-in-Ok-meet_given-clause-met : goal.returns-in-Ok-meet_given-clause-met
+returns-in-Ok-meet_given-clause-met c = λ fine.
     let r = c.args.self.now in
     let h1 = c.in-Ok.token-is in
     let h2 = c.in-Some.is in
     let some : c.in-Ok.field-0.token ≡ Some c.in-Some.token = cc in
     let left : left_in c.step.new.self ≡ false = sym c.left.ensures ∙ c.if-left.false in
-    given_meets r.catalog.now r.limits (reading_of r) (scanned r.scanner).used (run c.args.place c.args.piece.now (scanned r.scanner)) (stepped c.in-Ok.field-0 (left_in c.step.new.self)) c.in-Some.token (scanned c.step.new.self) c.in-Ok-given.met c.given.new.self
+    given_meets r.catalog.now r.limits (reading_of r) (scanned r.scanner).used (run c.args.place c.args.piece.now (scanned r.scanner)) (stepped c.in-Ok.field-0 (left_in c.step.new.self)) c.in-Some.token (scanned c.step.new.self) c.in-Ok-meet_given.met c.meet_given.new.self
     (c.in-Ok.ensures.answers fine) some left
-    (ap scanned c.in-Ok-given.ensures.setting.scanner) c.in-Ok-given.ensures.ends c.in-Ok-given.ensures.did
+    (ap scanned c.in-Ok-meet_given.ensures.setting.scanner) c.in-Ok-meet_given.ensures.ends c.in-Ok-meet_given.ensures.did
 
-pub returns-in-Err-given-clause-met : goal.returns-in-Err-given-clause-met
-returns-in-Err-given-clause-met c = λ fine.
+pub returns-in-Err-meet_given-clause-met : goal.returns-in-Err-meet_given-clause-met
+returns-in-Err-meet_given-clause-met c = λ fine.
     let r = c.args.self.now in
     let h1 = c.in-Ok.token-is in
     let h2 = c.in-Some.is in
     let some : c.in-Ok.field-0.token ≡ Some c.in-Some.token = cc in
     let left : left_in c.step.new.self ≡ false = sym c.left.ensures ∙ c.if-left.false in
-    given_refused r.catalog.now r.limits (reading_of r) (scanned r.scanner).used (run c.args.place c.args.piece.now (scanned r.scanner)) (stepped c.in-Ok.field-0 (left_in c.step.new.self)) c.in-Some.token (scanned c.step.new.self) c.refused-in-Err-given.result c.in-Err-given.reason
-    (scanned c.given.new.self.scanner).used c.given.new.self
+    given_refused r.catalog.now r.limits (reading_of r) (scanned r.scanner).used (run c.args.place c.args.piece.now (scanned r.scanner)) (stepped c.in-Ok.field-0 (left_in c.step.new.self)) c.in-Some.token (scanned c.step.new.self) c.refused-in-Err-meet_given.result c.in-Err-meet_given.reason
+    (scanned c.meet_given.new.self.scanner).used c.meet_given.new.self
     (c.in-Ok.ensures.answers fine) some left
-    c.in-Err-given.ensures.did (ap (λ s. (scanned s).used) c.in-Err-given.ensures.setting.scanner) c.refused-in-Err-given.ensures
+    c.in-Err-meet_given.ensures.did (ap (λ s. (scanned s).used) c.in-Err-meet_given.ensures.setting.scanner) c.refused-in-Err-meet_given.ensures

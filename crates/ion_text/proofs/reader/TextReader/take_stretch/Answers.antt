@@ -4,7 +4,7 @@ use Rattle.ion_tokens.specs.machine.Scanning.{run}
 use Rattle.ion_tokens.specs.machine.Views.{scanned}
 use Rattle.ion_text.specs.declared.state.Met.{Met}
 use Rattle.ion_text.specs.machine.EachToken.{place}
-use Rattle.ion_text.specs.machine.Views.{reading_of, comes_again, Meets, MeetsWith}
+use Rattle.ion_text.specs.machine.Views.{reading_of, comes_again, DidWhatCame, MeetsWith}
 use Rattle.ion_text.proofs.Stretches.{at_place, uses_by, tells_by, leaves_by, refused_by, left_inside, again_uses, again_tells, again_leaves, again_refused, late_refused}
 use Rattle.ion_text.proofs.reader.TextReader.take_stretch.Goals as goal
 
@@ -52,7 +52,7 @@ returns-in-Ok-default-Uses-clause-took c =
     let p = c.args.piece.now in
     let s = scanned r.scanner in
     uses_by r.catalog.now r.limits (reading_of r) c.requires.calm s p c.requires.high c.requires.fits c.requires.some (run (place (reading_of r)) p s) c.meet.new.self c.in-Ok-default-Uses.count refl
-    (subst (λ (y : Met). Meets r.catalog.now r.limits (reading_of r) (run (place (reading_of r)) p s) y c.meet.new.self) c.in-Ok-default-Uses.field-0-1-is (at_place r.catalog.now r.limits (reading_of r) c.requires.calm s p c.requires.high c.requires.fits c.requires.some c.place-place.result c.in-Ok-default-Uses.field-0-1 c.meet.new.self c.place-place.ensures (c.in-Ok-default-Uses.ensures.met c.requires.fine))) c.in-Ok-default-Uses.ensures.used
+    (subst (λ (y : Met). DidWhatCame r.catalog.now r.limits (reading_of r) (run (place (reading_of r)) p s) y c.meet.new.self) c.in-Ok-default-Uses.field-0-1-is (at_place r.catalog.now r.limits (reading_of r) c.requires.calm s p c.requires.high c.requires.fits c.requires.some c.place-place.result c.in-Ok-default-Uses.field-0-1 c.meet.new.self c.place-place.ensures (c.in-Ok-default-Uses.ensures.met c.requires.fine))) c.in-Ok-default-Uses.ensures.used
 
 pub returns-in-Ok-default-Tells-clause-took : goal.returns-in-Ok-default-Tells-clause-took
 returns-in-Ok-default-Tells-clause-took c =
@@ -60,7 +60,7 @@ returns-in-Ok-default-Tells-clause-took c =
     let p = c.args.piece.now in
     let s = scanned r.scanner in
     tells_by r.catalog.now r.limits (reading_of r) c.requires.calm s p c.requires.high c.requires.fits c.requires.some (run (place (reading_of r)) p s) c.meet.new.self c.in-Ok-default-Tells.count refl
-    (subst (λ (y : Met). Meets r.catalog.now r.limits (reading_of r) (run (place (reading_of r)) p s) y c.meet.new.self) c.in-Ok-default-Tells.field-0-1-is (at_place r.catalog.now r.limits (reading_of r) c.requires.calm s p c.requires.high c.requires.fits c.requires.some c.place-place.result c.in-Ok-default-Tells.field-0-1 c.meet.new.self c.place-place.ensures (c.in-Ok-default-Tells.ensures.met c.requires.fine))) c.in-Ok-default-Tells.ensures.used
+    (subst (λ (y : Met). DidWhatCame r.catalog.now r.limits (reading_of r) (run (place (reading_of r)) p s) y c.meet.new.self) c.in-Ok-default-Tells.field-0-1-is (at_place r.catalog.now r.limits (reading_of r) c.requires.calm s p c.requires.high c.requires.fits c.requires.some c.place-place.result c.in-Ok-default-Tells.field-0-1 c.meet.new.self c.place-place.ensures (c.in-Ok-default-Tells.ensures.met c.requires.fine))) c.in-Ok-default-Tells.ensures.used
 
 pub returns-in-Ok-default-Leaves-clause-took : goal.returns-in-Ok-default-Leaves-clause-took
 returns-in-Ok-default-Leaves-clause-took c =
@@ -68,7 +68,7 @@ returns-in-Ok-default-Leaves-clause-took c =
     let p = c.args.piece.now in
     let s = scanned r.scanner in
     leaves_by r.catalog.now r.limits (reading_of r) c.requires.calm s p c.requires.high c.requires.fits c.requires.some (run (place (reading_of r)) p s) c.meet.new.self c.in-Ok-default-Leaves.count refl
-    (subst (λ (y : Met). Meets r.catalog.now r.limits (reading_of r) (run (place (reading_of r)) p s) y c.meet.new.self) c.in-Ok-default-Leaves.field-0-1-is (at_place r.catalog.now r.limits (reading_of r) c.requires.calm s p c.requires.high c.requires.fits c.requires.some c.place-place.result c.in-Ok-default-Leaves.field-0-1 c.meet.new.self c.place-place.ensures (c.in-Ok-default-Leaves.ensures.met c.requires.fine))) c.in-Ok-default-Leaves.ensures.used
+    (subst (λ (y : Met). DidWhatCame r.catalog.now r.limits (reading_of r) (run (place (reading_of r)) p s) y c.meet.new.self) c.in-Ok-default-Leaves.field-0-1-is (at_place r.catalog.now r.limits (reading_of r) c.requires.calm s p c.requires.high c.requires.fits c.requires.some c.place-place.result c.in-Ok-default-Leaves.field-0-1 c.meet.new.self c.place-place.ensures (c.in-Ok-default-Leaves.ensures.met c.requires.fine))) c.in-Ok-default-Leaves.ensures.used
 
 pub returns-in-Ok-Uses-clause-took : goal.returns-in-Ok-Uses-clause-took
 returns-in-Ok-Uses-clause-took c =

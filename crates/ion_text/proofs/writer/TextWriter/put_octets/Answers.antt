@@ -10,9 +10,9 @@ returns-clause-writes g c =
     let empty : c.clear.new.self.items ≡ [] = search rules in
     let lent : c.deref.result.now ≡ c.carry_line.new.line.items = search rules in
     let octets : c.deref.result.now ≡ adds found.0.value = lent ∙ (found.2 ∙ ap (λ w. w ++ adds found.0.value) empty) in
-    let is : c.note.result ≡ c.write_whole-answer.result = search rules in (
+    let is : c.note_fault.result ≡ c.write_whole-answer.result = search rules in (
       found.0,
       found.1,
-      wrote_value g.W.Outlet c.args.self.now c.note.new.self c.args.out.now c.write_whole-answer.new.writer found.0.value c.deref.result.now (sym c.self.view_is ∙ none) octets c.write_whole-answer.result c.note.result is
-          c.write_whole-answer.ensures.whole c.write_whole-answer.ensures.front c.write_whole-answer.ensures.cause (subst (λ f. OnOk c.note.result (c.note.new.self ≡ f)) none c.note.ensures.kept) c.note.ensures.failed,
+      wrote_value g.W.Outlet c.args.self.now c.note_fault.new.self c.args.out.now c.write_whole-answer.new.writer found.0.value c.deref.result.now (sym c.self.view_is ∙ none) octets c.write_whole-answer.result c.note_fault.result is
+          c.write_whole-answer.ensures.whole c.write_whole-answer.ensures.front c.write_whole-answer.ensures.cause (subst (λ f. OnOk c.note_fault.result (c.note_fault.new.self ≡ f)) none c.note_fault.ensures.kept) c.note_fault.ensures.failed,
     )

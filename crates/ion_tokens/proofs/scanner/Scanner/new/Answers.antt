@@ -1,9 +1,9 @@
-use Rattle.ion_tokens.proofs.Stepped.{begins}
+use Rattle.ion_tokens.proofs.Stepped.{begun_scanned}
 use Rattle.ion_tokens.proofs.Traced.{begins_traced}
 use Rattle.ion_tokens.proofs.scanner.Scanner.new.Goals as goal
 
 pub returns-clause-begins : goal.returns-clause-begins
-returns-clause-begins c = λ place. begins place _ c.new.ensures.known
+returns-clause-begins c = λ place. begun_scanned place _ c.new.ensures.known
 
 pub returns-clause-traced : goal.returns-clause-traced
 returns-clause-traced c = λ places. begins_traced places _ c.new.ensures.known

@@ -5,7 +5,7 @@ use Rattle.ion_symtab.specs.laws.Took.{Took-nil}
 use Rattle.ion_words.specs.Asked.{told}
 use Rattle.ion_command.specs.Owed.{no_catalog}
 use Rattle.ion_command.proofs.Owing.{answered_behind, stopped_behind, front_behind}
-use Rattle.ion_command.proofs.command.carry_out.Goals as goal
+use Rattle.ion_command.proofs.command.with_catalog.Goals as goal
 
 pub returns-in-Ok-clause-answered : goal.returns-in-Ok-clause-answered
 returns-in-Ok-clause-answered g c =
