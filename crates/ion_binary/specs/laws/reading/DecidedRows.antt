@@ -220,7 +220,7 @@ module _ (g : Catalog) (l : Limits) where
         by (inr k) = ap (λ o. or_else o (Some Malformed)) k
 
     -- past its container
-    past_misfits : (k : Container) (ks : List Container) (fs : List Frame) (form : Form) (to : ℕ) → Match c fs (k ∷ ks) → deciding.end_of k < to → misfits l.item start fs form to ≡ Some Malformed
+    past_misfits : (k : Container) (ks : List Container) (fs : List Frame) (form : Form) (to : ℕ) → Match c fs (k ∷ ks) → deciding.container_end k < to → misfits l.item start fs form to ≡ Some Malformed
     past_misfits _ _ _ form to (items end x vs fs ks m) h = cond-false _ _ _ (lt-leb to end h)
     past_misfits _ _ _ form to (names end ms fs ks m) h = cond-false _ _ _ (lt-leb to end h)
     past_misfits _ _ _ form to (named end id ms fs ks m) h = cond-false _ _ _ (lt-leb to end h)
@@ -242,7 +242,7 @@ module _ (g : Catalog) (l : Limits) where
         (ap (on_descriptor (under g l) (spot_at (length u + 1) start c) d.fs) i ∙ ap (λ x. unless x (deliver (under g l) (spot_at (length u + 1) start c) d.fs (bare (payloads.Truth k)))) (h d.fs forms.Struct refl d.match)) (omega arith)
     unfit_reaches ks _ _ _ e (a_body u form n o) big h = header_stops g l c start ks form n u e o (λ fs m. sized_unfit (length u) fs form n e e (h fs form refl m) (omega arith) big)
 
-    row_past_container : (k : Container) (ks : List Container) (pad : Bool) (to : ℕ) (u : List ℕ) → Reaches g l c start (k ∷ ks) pad to u → deciding.end_of k < to → Stopped g l u Malformed
+    row_past_container : (k : Container) (ks : List Container) (pad : Bool) (to : ℕ) (u : List ℕ) → Reaches g l c start (k ∷ ks) pad to u → deciding.container_end k < to → Stopped g l u Malformed
     row_past_container k ks pad to u o h = unfit_reaches (k ∷ ks) pad to u Malformed o (omega arith) (λ fs form i m. unfit_malformed fs form to (past_misfits k ks fs form to m h))
 
     row_wrapper_unfilled : (end : ℕ) (ks : List Container) (pad : Bool) (to : ℕ) (u : List ℕ) → Reaches g l c start (Noted end ∷ ks) pad to u → to < end → Stopped g l u Malformed
@@ -390,7 +390,7 @@ module _ (g : Catalog) (l : Limits) where
         (Malformed, ap (λ x. unless x (unless (unending l.item start fs form used) (unless (nameless fs form) (goes (at (spot_at used start c) fs (InNumber (purposes.Length form) 0)))))) s, omega arith) (omega arith) (omega arith) in
         (r.0, ap (on_descriptor (under g l) (spot_at used start c) fs) i ∙ r.1, r.2))
 
-    unending_last : (k : Container) (ks : List Container) (fs : List Frame) (form : Form) (used : ℕ) → Match c fs (k ∷ ks) → deciding.end_of k ≤ used → unending l.item start fs form used ≡ Some Malformed
+    unending_last : (k : Container) (ks : List Container) (fs : List Frame) (form : Form) (used : ℕ) → Match c fs (k ∷ ks) → deciding.container_end k ≤ used → unending l.item start fs form used ≡ Some Malformed
     unending_last _ _ _ form used (items end x vs fs ks m) h = cond-false _ _ _ (le-ltb used end h)
     unending_last _ _ _ form used (names end ms fs ks m) h = cond-false _ _ _ (le-ltb used end h)
     unending_last _ _ _ form used (named end id ms fs ks m) h = cond-false _ _ _ (le-ltb used end h)
@@ -408,7 +408,7 @@ module _ (g : Catalog) (l : Limits) where
         by (inl k) = (h.0, ap (λ x. unless x (unless (unending l.item start fs form used) (unless (nameless fs form) (goes (at (spot_at used start c) fs (InNumber (purposes.Length form) 0)))))) k ∙ h.1, h.2)
         by (inr k) = (Malformed, ap (λ x. unless x (unless (unending l.item start fs form used) (unless (nameless fs form) (goes (at (spot_at used start c) fs (InNumber (purposes.Length form) 0)))))) k, big)
 
-    row_no_length : (k : Container) (ks : List Container) (u : List ℕ) (b : ℕ) (form : Form) → Open g l c start (k ∷ ks) u → TakesValue (k ∷ ks) → opening_of b ≡ Sized form Follows → deciding.end_of k ≤ length u + 1 → Stopped g l (u ++ b ∷ []) Malformed
+    row_no_length : (k : Container) (ks : List Container) (u : List ℕ) (b : ℕ) (form : Form) → Open g l c start (k ∷ ks) u → TakesValue (k ∷ ks) → opening_of b ≡ Sized form Follows → deciding.container_end k ≤ length u + 1 → Stopped g l (u ++ b ∷ []) Malformed
     row_no_length k ks u b form o t i h = at_descriptor (k ∷ ks) u b Malformed o t (λ fs m.
         let used = length u + 1 in
         let r = unsized_ends used fs form Malformed (omega arith) (Malformed, ap (λ x. unless x (unless (nameless fs form) (goes (at (spot_at used start c) fs (InNumber (purposes.Length form) 0))))) (unending_last k ks fs form used m h), omega arith) in
@@ -518,7 +518,7 @@ module _ (g : Catalog) (l : Limits) where
     begin_deep used fs (forms.Scalar t) n i h = absurd i
     begin_deep used fs forms.Wrapper n i h = absurd i
 
-    row_too_deep : (ks : List Container) (form : Form) (n : ℕ) (u : List ℕ) → EndsHeader g l c start ks form n u → IsContainer form → l.depth ≤ deciding.levels ks → Stopped g l u Depth
+    row_too_deep : (ks : List Container) (form : Form) (n : ℕ) (u : List ℕ) → EndsHeader g l c start ks form n u → IsContainer form → l.depth ≤ deciding.container_levels ks → Stopped g l u Depth
     row_too_deep [] form n u o i h = let d = l.deep in absurd (omega (arith, d.0, h))
     row_too_deep (k ∷ ks) form n u o i h = header_stops g l c start (k ∷ ks) form n u Depth o (λ fs m.
         by fs m (nameless_any fs (k ∷ ks) form m) (let s = same_levels c fs (k ∷ ks) m in omega (arith, s, h)))

@@ -88,7 +88,7 @@ module _ (g : Catalog) (l : Limits) where
     leads_holds ks u d = record { given = d.given; ran = d.ran }
 
     pub goes_last : (ks : List Container) (p : Number) (used last : ℕ) → MayGoOn g l c start ks p used → LastOctet g l c start ks p last → used < last
-    goes_last _ _ used _ h (of_container k ks form) = h (deciding.end_of k) (of_container k ks form)
+    goes_last _ _ used _ h (of_container k ks form) = h (deciding.container_end k) (of_container k ks form)
     goes_last _ _ used _ h (of_struct end ks) = h end (of_struct end ks)
     goes_last [] _ used last h (of_wrapper _ _) = h last (of_wrapper [] last)
     goes_last (k ∷ ks) _ used last h (of_wrapper _ _) = h last (of_wrapper (k ∷ ks) last)

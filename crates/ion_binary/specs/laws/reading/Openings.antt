@@ -158,7 +158,7 @@ module _ (g : Catalog) (l : Limits) (start : ℕ) (c : List Slot) (s : List Valu
     pub inside : deciding.InNumber g l c start ks q a u
 
   -- where a number in a container may go on
-  before_end : (k : Container) (ks : List Container) (form : Form) (used : ℕ) → used < deciding.end_of k → (last : ℕ) → LastOctet g l c start (k ∷ ks) (Length form) last → used < last
+  before_end : (k : Container) (ks : List Container) (form : Form) (used : ℕ) → used < deciding.container_end k → (last : ℕ) → LastOctet g l c start (k ∷ ks) (Length form) last → used < last
   before_end k ks form used h last (of_container _ _ _) = h
 
   in_container : (fs : List Frame) (ks : List Container) (form : Form) (used : ℕ) → Match c fs ks → Going l start fs form used → MayGoOn g l c start ks (Length form) used

@@ -87,7 +87,7 @@ module _ (g : Catalog) (l : Limits) (c : List Slot) (start : ℕ) where
   hollow_row fs (forms.Listing y) n u h x e = absurd cc
   hollow_row fs forms.Struct n u h x e = absurd cc
 
-  past_row : (k : Container) (ks : List Container) (pad : Bool) (to end : ℕ) (u : List ℕ) (x : Reason) → deciding.end_of k ≡ end → Reaches g l c start (k ∷ ks) pad to u → cond (nat_le to end) None (Some Malformed) ≡ Some x → Decides g l u x
+  past_row : (k : Container) (ks : List Container) (pad : Bool) (to end : ℕ) (u : List ℕ) (x : Reason) → deciding.container_end k ≡ end → Reaches g l c start (k ∷ ks) pad to u → cond (nat_le to end) None (Some Malformed) ≡ Some x → Decides g l u x
   past_row k ks pad to end u x i r e =
       let p = some_if (nat_le to end) Malformed x e in
       let q = leb-false to end p.0 in
@@ -168,7 +168,7 @@ module _ (g : Catalog) (l : Limits) (c : List Slot) (start : ℕ) where
       first_of_three (stray fs forms.Struct) (misfits l.item start fs forms.Struct (length u + 1)) (nameless fs forms.Struct) (Decides g l (u ++ b ∷ []))
       (λ y e. absurd (no_stray fs y e)) (misfit_row fs ks forms.Struct (length u + 1) (u ++ b ∷ []) m r) (name_row fs ks forms.Struct u b m o (λ size p. n size))
 
-  last_row : (k : Container) (ks : List Container) (u : List ℕ) (b : ℕ) (form : Form) (end : ℕ) → deciding.end_of k ≡ end → Open g l c start (k ∷ ks) u → TakesValue (k ∷ ks) → opening_of b ≡ Sized form Follows → (x : Reason) → cond (nat_lt (length u + 1) end) None (Some Malformed) ≡ Some x → Decides g l (u ++ b ∷ []) x
+  last_row : (k : Container) (ks : List Container) (u : List ℕ) (b : ℕ) (form : Form) (end : ℕ) → deciding.container_end k ≡ end → Open g l c start (k ∷ ks) u → TakesValue (k ∷ ks) → opening_of b ≡ Sized form Follows → (x : Reason) → cond (nat_lt (length u + 1) end) None (Some Malformed) ≡ Some x → Decides g l (u ++ b ∷ []) x
   last_row k ks u b form end q o t i x e =
       let p = some_if (nat_lt (length u + 1) end) Malformed x e in
       let z = ltb-false (length u + 1) end p.0 in
