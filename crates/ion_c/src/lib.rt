@@ -13,7 +13,7 @@ mod pairs;
 ghost use Rattle.std.specs.Prelude.{◌≡◌, ◌<◌, ◌≤◌, ℕ, List, length, min, slice_get, Option};
 ghost use Rattle.ion_atoms.specs.Reasons.{reason_number, reason_name};
 ghost use Rattle.ion_atoms.specs.declared.refusal.Reason.{Reason as AnyReason};
-ghost use Rattle.ion_docs.specs.declared.conversion.Target.TheVariants.{Text, Binary};
+ghost use Rattle.ion_symtab.specs.declared.target.Target.TheVariants.{Text, Binary};
 ghost use Rattle.ion_memory.specs.Outcomes.{IsOutcome, IsChecked, IsShown, IsCompared, IsConverted};
 ghost use Rattle.ion_memory.specs.declared.ending.Ending.{Ending};
 ghost use Rattle.ion_c.specs.Telling.{IsAnsweredPair, Tells, laid};

@@ -22,14 +22,12 @@ use Rattle.ion_docs.specs.Formats.{documents}
 use Rattle.ion_streams.specs.Listing.{IsShown, ShowsSoFar}
 use Rattle.ion_streams.specs.Loaded.{IsLoaded}
 use Rattle.ion_streams.specs.declared.comparison.Verdict.{Verdict}
-use Rattle.ion_docs.specs.declared.conversion.Target.{Target}
-use Rattle.ion_docs.specs.declared.conversion.Target.TheVariants as target
+use Rattle.ion_symtab.specs.declared.target.Target.{Target}
+use Rattle.ion_symtab.specs.declared.target.Target.TheVariants as target
 use Rattle.std.specs.declared.io.Error.{Error}
 use Rattle.ion_words.specs.Asked.{Asked, Job, check, show, convert, compare, names_of, names_of_job, names_with, asked}
 use Rattle.ion_words.specs.declared.request.WordsError.{WordsError}
 use Rattle.ion_words.specs.declared.request.WordsError.TheVariants as words_errors
-use Rattle.ion_words.specs.declared.request.Encoding.{Encoding}
-use Rattle.ion_words.specs.declared.request.Encoding.TheVariants as encoding
 use Rattle.ion_command.specs.Arguments.{Arguments, words_of, no_words}
 use Rattle.ion_command.specs.Endings.{answer_line, verdict_line, EndsChecked, EndsShown, EndsCompared, PassesOn}
 use Rattle.ion_command.specs.Lines.{fault_line, refusal_line, usage_line, Reports}
@@ -40,11 +38,6 @@ use Rattle.ion_command.specs.declared.command.Status.{Status}
 use Rattle.ion_command.specs.declared.command.Status.TheVariants as the_status
 use Rattle.ion_command.specs.declared.command.Ending.{Ending}
 use Rattle.ion_command.specs.declared.command.Ending.TheVariants.{Accepted, Different, Refused}
-
--- what a document is converted to, by the encoding asked for
-abbrev pub target_of : Encoding → Target
-target_of encoding.Text = target.Text
-target_of encoding.Binary = target.Binary
 
 -- the limits are those that are asked for, and the usual limit of reads
 abbrev pub AreLimitsOf : Asked → Limits → Type 0
@@ -77,7 +70,7 @@ module _ {X : Type 0} (R : Inlet X) (gives : Name → X → Type 0) where
     NeedsLarge (check file) g l = ⊥
     NeedsLarge (show file) g l = ⊥
     NeedsLarge (convert file to) g l = (first : X) × (now : X) × gives file first
-        × (s : List Value) × ReadSoFar R I g l first now s × (encoding_of (target_of to)).needs_large_id s
+        × (s : List Value) × ReadSoFar R I g l first now s × (encoding_of to).needs_large_id s
     NeedsLarge (compare left right) g l = ⊥
 
   module _ {T : Type 0} (W : Outlet T) (old new : T) where
@@ -88,8 +81,8 @@ module _ {X : Type 0} (R : Inlet X) (gives : Name → X → Type 0) where
     IsDone (show file) g l ending = (first : X) × (now : X) × gives file first × (answer : Result ℕ the_refusal)
         × IsShown R W (documents g l) first now old new answer × EndsShown W new answer ending
     IsDone (convert file to) g l ending = (first : X) × (now : X) × gives file first × (answer : Result ℕ the_refusal)
-        × IsConverted R W (encoding_of (target_of to)) (documents g l) first now old new answer
-        × KeepsStream R W (encoding_of (target_of to)) g l first now old new answer × EndsShown W new answer ending
+        × IsConverted R W (encoding_of to) (documents g l) first now old new answer
+        × KeepsStream R W (encoding_of to) g l first now old new answer × EndsShown W new answer ending
     IsDone (compare left right) g l ending = (l_first : X) × (l_now : X) × gives left l_first × (r_first : X) × (r_now : X) × gives right r_first
         × (verdict : Verdict) × IsCompared R R (documents g l) (documents g l) l_first l_now r_first r_now verdict × EndsCompared W old new verdict ending
 
@@ -105,7 +98,7 @@ module _ {X : Type 0} (R : Inlet X) (gives : Name → X → Type 0) where
         × (answer : Result ℕ the_refusal) × IsChecked R (documents g l) first now answer × TookFront W.took W.written old new (answer_line answer)
     WroteFront (show file) g l = (first : X) × (now : X) × gives file first × ShowsSoFar R I W g l first now old new
     WroteFront (convert file to) g l = (first : X) × (now : X) × gives file first
-        × ConvertsSoFar (encoding_of (target_of to)) (ReadSoFar R I g l first now) W old new
+        × ConvertsSoFar (encoding_of to) (ReadSoFar R I g l first now) W old new
     WroteFront (compare left right) g l = (l_first : X) × (l_now : X) × gives left l_first × (r_first : X) × (r_now : X) × gives right r_first
         × (verdict : Verdict) × IsCompared R R (documents g l) (documents g l) l_first l_now r_first r_now verdict × TookFront W.took W.written old new (verdict_line verdict)
 
@@ -114,9 +107,9 @@ module _ {X : Type 0} (R : Inlet X) (gives : Name → X → Type 0) where
     WroteSoFar asked l = TookFront W.took W.written old new [] ⊎ ((g : the_catalog) × IsCatalog asked.catalog l (Ok g) × WroteFront asked.job g l)
 
 -- only binary takes a hasher; `none` is that none can be had
-abbrev pub LacksHasher : Type 0 → Encoding → Type 0
-LacksHasher none encoding.Text = ⊥
-LacksHasher none encoding.Binary = none
+abbrev pub LacksHasher : Type 0 → Target → Type 0
+LacksHasher none target.Text = ⊥
+LacksHasher none target.Binary = none
 
 abbrev pub JobLacksHasher : Type 0 → Job → Type 0
 JobLacksHasher none (check file) = ⊥

@@ -15,7 +15,7 @@ ghost use Rattle.ion_words.specs.Asked.{asked, told, names_of, names_of_job, nam
 ghost use Rattle.ion_command.specs.Lines.{fault_line, refusal_line, usage_line, Reports};
 ghost use Rattle.ion_command.specs.Endings.{answer_line, verdict_line, EndsChecked, EndsShown, EndsCompared, PassesOn};
 ghost use Rattle.ion_command.specs.Names.{Keeps, Opens, OpensUpTo};
-ghost use Rattle.ion_command.specs.Owed.{target_of, code_of, IsCatalog, IsStopped, NeedsLarge, IsDone, IsAnswered, IsStoppedAt, WroteFront, WroteSoFar, LacksHasher, JobLacksHasher, Owes, OwesWithHasher};
+ghost use Rattle.ion_command.specs.Owed.{code_of, IsCatalog, IsStopped, NeedsLarge, IsDone, IsAnswered, IsStoppedAt, WroteFront, WroteSoFar, LacksHasher, JobLacksHasher, Owes, OwesWithHasher};
 
 use crate::hashers::{FixedHasher, Hashers};
 use crate::lines::{
@@ -27,7 +27,7 @@ use ion_docs::{
 };
 use ion_model::Refusal;
 use ion_symtab::{Catalog, Fault, Inlet, Items, Limits, Outlet, flushed, write_whole};
-use ion_words::{Encoding, Request, Task, WordsError, parse};
+use ion_words::{Request, Task, WordsError, parse};
 use std::alloc::Global;
 use std::convert::AsStr;
 
@@ -262,9 +262,9 @@ fn ending_of<N: Sources, H: Hashers, O: Outlet>(
     match request.task {
         Task::Check(name) => checked(alloc, &mut sources.source(name)?, out, catalog, limits),
         Task::Show(name) => shown(alloc, &mut sources.source(name)?, out, catalog, limits),
-        Task::Convert(name, encoding) => {
+        Task::Convert(name, target) => {
             let mut source = sources.source(name)?;
-            converted(alloc, hashers, &mut source, out, encoding, catalog, limits)
+            converted(alloc, hashers, &mut source, out, target, catalog, limits)
         }
         Task::Compare(left, right) => {
             let mut left = sources.source(left)?;
@@ -329,27 +329,27 @@ fn converted<H: Hashers, R: Inlet, O: Outlet>(
     hashers: &H,
     reader: &mut R,
     out: &mut O,
-    encoding: Encoding,
+    target: Target,
     catalog: &Catalog,
     limits: Limits,
 ) -> Result<Ending, Fault>
     ensures ending { IfOk result (λ ending. (answer : Result ℕ Refusal)
-        × IsConverted R.Inlet O.Outlet (encoding_of (target_of encoding))
+        × IsConverted R.Inlet O.Outlet (encoding_of target)
         (documents catalog.now limits) reader.old reader.new out.old out.new answer
-        × KeepsStream R.Inlet O.Outlet (encoding_of (target_of encoding)) catalog.now limits
+        × KeepsStream R.Inlet O.Outlet (encoding_of target) catalog.now limits
         reader.old reader.new out.old out.new answer
         × EndsShown O.Outlet out.new answer ending) }
     ensures passed_on { OnOk result (PassesOn O.Outlet out.old out.new) }
-    ensures so_far { OnErr result (ConvertsSoFar (encoding_of (target_of encoding))
+    ensures so_far { OnErr result (ConvertsSoFar (encoding_of target)
         (ReadSoFar R.Inlet ⟦<DocReader<'static> as Items>⟧ catalog.now limits reader.old reader.new)
         O.Outlet out.old out.new) }
     ensures cause { IfErr result (λ fault. IsReadCause R.Inlet limits.reads reader.old reader.new fault
-        ⊎ IsConvertCause (encoding_of (target_of encoding))
+        ⊎ IsConvertCause (encoding_of target)
         (ReadSoFar R.Inlet ⟦<DocReader<'static> as Items>⟧ catalog.now limits reader.old reader.new)
         (O.has_failed out.new) fault
-        ⊎ (fault ≡ Fault.Read) × LacksHasher (H.refuses hashers.now) encoding) }
+        ⊎ (fault ≡ Fault.Read) × LacksHasher (H.refuses hashers.now) target) }
 {
-    match conversion(alloc, hashers, reader, out, encoding, catalog, limits)? {
+    match conversion(alloc, hashers, reader, out, target, catalog, limits)? {
         Ok(_) => Ok(Ending::Accepted),
         Err(refusal) => Ok(Ending::Refused(Whose::Only, refusal)),
     }
@@ -361,29 +361,29 @@ fn conversion<H: Hashers, R: Inlet, O: Outlet>(
     hashers: &H,
     reader: &mut R,
     out: &mut O,
-    encoding: Encoding,
+    target: Target,
     catalog: &Catalog,
     limits: Limits,
 ) -> Result<Result<u64, Refusal>, Fault>
-    ensures same { IfOk result (KeepsStream R.Inlet O.Outlet (encoding_of (target_of encoding))
+    ensures same { IfOk result (KeepsStream R.Inlet O.Outlet (encoding_of target)
         catalog.now limits reader.old reader.new out.old out.new) }
-    ensures converted { IfOk result (IsConverted R.Inlet O.Outlet (encoding_of (target_of encoding))
+    ensures converted { IfOk result (IsConverted R.Inlet O.Outlet (encoding_of target)
         (documents catalog.now limits) reader.old reader.new out.old out.new) }
     ensures passed_on { OnOk result (O.passed out.new ≡ O.written out.new) }
-    ensures so_far { OnErr result (ConvertsSoFar (encoding_of (target_of encoding))
+    ensures so_far { OnErr result (ConvertsSoFar (encoding_of target)
         (ReadSoFar R.Inlet ⟦<DocReader<'static> as Items>⟧ catalog.now limits reader.old reader.new)
         O.Outlet out.old out.new) }
     ensures cause { IfErr result (λ fault. IsReadCause R.Inlet limits.reads reader.old reader.new fault
-        ⊎ IsConvertCause (encoding_of (target_of encoding))
+        ⊎ IsConvertCause (encoding_of target)
         (ReadSoFar R.Inlet ⟦<DocReader<'static> as Items>⟧ catalog.now limits reader.old reader.new)
         (O.has_failed out.new) fault
-        ⊎ (fault ≡ Fault.Read) × LacksHasher (H.refuses hashers.now) encoding) }
+        ⊎ (fault ≡ Fault.Read) × LacksHasher (H.refuses hashers.now) target) }
 {
-    match encoding {
-        Encoding::Text => convert(alloc, reader, out, Target::Text, catalog, limits),
-        Encoding::Binary => {
+    match target {
+        Target::Text => convert(alloc, reader, out, target, catalog, limits),
+        Target::Binary => {
             let hasher = hashers.hasher()?;
-            convert_with_hasher(alloc, hasher, reader, out, Target::Binary, catalog, limits)
+            convert_with_hasher(alloc, hasher, reader, out, target, catalog, limits)
         }
     }
 }

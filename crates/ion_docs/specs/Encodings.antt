@@ -12,8 +12,8 @@ use Rattle.ion_binary.specs.Writing.{NeedsLargeId}
 use Rattle.ion_binary.specs.laws.writing.RoundTrip.{FitsIn as FitsInBinary}
 use Rattle.ion_text.specs.Output.{text_of}
 use Rattle.ion_text.specs.laws.writing.RoundTrip.{FitsIn as FitsInText}
-use Rattle.ion_docs.specs.declared.conversion.Target.{Target}
-use Rattle.ion_docs.specs.declared.conversion.Target.TheVariants.{Binary, Text}
+use Rattle.ion_symtab.specs.declared.target.Target.{Target}
+use Rattle.ion_symtab.specs.declared.target.Target.TheVariants.{Binary, Text}
 
 -- an encoding
 pub record Encoding : Type 1 where

@@ -17,15 +17,6 @@ use ion_streams::{Reached, Source, Standing, counted, last, value_of};
 use ion_symtab::{Fault, Inlet, Items, Outlet};
 use std::alloc::Global;
 
-/// What a document is converted to.
-#[derive(Clone, Copy, Debug, PartialEq, Eq)]
-pub enum Target {
-    /// The binary encoding (Ion 1.0, "Ion Binary Encoding").
-    Binary,
-    /// The text encoding (Ion 1.0, "Ion Text Encoding").
-    Text,
-}
-
 /// Puts the next value, if there is one, and counts it.
 fn convert_next<E: Encoder, W: Outlet>(
     encoder: &mut E,

@@ -11,12 +11,12 @@ ghost use Rattle.ion_streams.specs.Listing.{IsShown, IsWriteCause, ShowsSoFar};
 
 use crate::alongside::SideBySide;
 use crate::carriers::Transcribing;
-use crate::conversion::{Target, convert_by};
+use crate::conversion::convert_by;
 use crate::doc_reader::DocReader;
 use ion_binary::BinaryWriter;
 use ion_model::Refusal;
 use ion_streams::{Verdict, check_items, compare_by, show_items};
-use ion_symtab::{Catalog, Fault, Inlet, Items, Limits, Outlet};
+use ion_symtab::{Catalog, Fault, Inlet, Items, Limits, Outlet, Target};
 use ion_text::TextWriter;
 use std::alloc::Global;
 use std::hash::{BuildHasher, BuildHasherDefault, FoldHasher};

@@ -23,7 +23,7 @@ ghost use Rattle.ion_docs.specs.Converted.{IsConverted};
 ghost use Rattle.ion_streams.specs.Checked.{IsChecked};
 ghost use Rattle.ion_streams.specs.Compared.{IsCompared, IsVerdict};
 ghost use Rattle.ion_streams.specs.Listing.{IsShown};
-ghost use Rattle.ion_docs.specs.declared.conversion.Target.{Target};
+ghost use Rattle.ion_symtab.specs.declared.target.Target.{Target};
 ghost use Rattle.ion_streams.specs.Loaded.{catalog_of, AreApart, DescribesUnder, IsDocumentOf, IsCatalog};
 ghost use Rattle.ion_streams.specs.declared.comparison.Verdict.{Verdict};
 

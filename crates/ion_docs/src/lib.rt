@@ -15,12 +15,13 @@ mod whole;
 mod writers;
 
 pub use catalogs::load_catalog;
-pub use conversion::{Target, convert_items};
+pub use conversion::convert_items;
 pub use doc_reader::DocReader;
 pub use documents::{check, compare, convert, convert_with_hasher, show};
 pub use ion_streams::{
     Side, Verdict, check_items, compare_items, load_items, read_items, read_octets, show_items,
 };
+pub use ion_symtab::Target;
 pub use memory::in_memory;
 pub use paths::{PathText, path_text, spelling_of_path};
 pub use whole::{read_all, read_document};

@@ -12,7 +12,7 @@ use Rattle.ion_streams.specs.declared.comparison.Verdict.TheVariants as verdicts
 use Rattle.ion_docs.specs.Encodings.{encoding_of}
 use Rattle.ion_docs.specs.Formats.{documents}
 use Rattle.ion_docs.specs.Paths.{path_text}
-use Rattle.ion_docs.specs.declared.conversion.Target.{Target}
+use Rattle.ion_symtab.specs.declared.target.Target.{Target}
 use Rattle.ion_memory.specs.Endings.{ending_of, whose_side}
 use Rattle.ion_memory.specs.Octets.{IsCount, IsListing, IsConversion}
 use Rattle.ion_memory.specs.declared.ending.Ending.{Ending}

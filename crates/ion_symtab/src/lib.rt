@@ -18,6 +18,7 @@ mod places;
 mod segments;
 mod shared_table;
 mod symbols;
+mod target;
 mod writing;
 
 pub use catalog::Catalog;
@@ -30,4 +31,5 @@ pub use limits::Limits;
 pub use outlet::{Outlet, ToWrite};
 pub use segments::GREATEST_ID;
 pub use shared_table::SharedTable;
+pub use target::Target;
 pub use writing::{flushed, write_whole};

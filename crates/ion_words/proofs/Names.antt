@@ -14,7 +14,7 @@ use Rattle.clap.specs.Words.{Text}
 use Rattle.clap.proofs.OnLiterals.{clap_on_literals}
 use Rattle.clap.proofs.FaultLemmas.{stopped_fault}
 use Rattle.clap.proofs.WalkLemmas.{walk_stopped}
-use Rattle.ion_words.specs.declared.request.Encoding.TheVariants as encoding
+use Rattle.ion_symtab.specs.declared.target.Target.TheVariants as target
 use Rattle.ion_words.specs.Program.{program}
 use Rattle.ion_words.specs.Asked.{Asked, IsPlain, asked, asked_by, check, show, convert, compare, usual, input_once, is_input, number_in}
 
@@ -121,11 +121,11 @@ pub show_plain : (name : Text) → IsPlain name → asked (codes "show" ∷ name
 unfolding clap_on_literals
 show_plain name plain = in_show (name ∷ []) ∙ plain_step (codes "show") (command_of (codes "show")) nothing_held idle 1 name [] plain
 
-pub to_text_plain : (name : Text) → IsPlain name → asked (codes "convert" ∷ name ∷ codes "--to" ∷ codes "text" ∷ []) ≡ Some (usual (convert name encoding.Text))
+pub to_text_plain : (name : Text) → IsPlain name → asked (codes "convert" ∷ name ∷ codes "--to" ∷ codes "text" ∷ []) ≡ Some (usual (convert name target.Text))
 unfolding clap_on_literals
 to_text_plain name plain = in_convert (name ∷ codes "--to" ∷ codes "text" ∷ []) ∙ plain_step (codes "convert") (command_of (codes "convert")) nothing_held idle 1 name (codes "--to" ∷ codes "text" ∷ []) plain
 
-pub to_binary_plain : (name : Text) → IsPlain name → asked (codes "convert" ∷ name ∷ codes "--to" ∷ codes "binary" ∷ []) ≡ Some (usual (convert name encoding.Binary))
+pub to_binary_plain : (name : Text) → IsPlain name → asked (codes "convert" ∷ name ∷ codes "--to" ∷ codes "binary" ∷ []) ≡ Some (usual (convert name target.Binary))
 unfolding clap_on_literals
 to_binary_plain name plain = in_convert (name ∷ codes "--to" ∷ codes "binary" ∷ []) ∙ plain_step (codes "convert") (command_of (codes "convert")) nothing_held idle 1 name (codes "--to" ∷ codes "binary" ∷ []) plain
 

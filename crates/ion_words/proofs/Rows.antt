@@ -2,7 +2,7 @@
 use Rattle.std.proofs.Common.{◌≡◌, [], Some, None, codes, refl}
 use Rattle.std.specs.Prelude.{◌^◌}
 use Rattle.clap.proofs.OnLiterals.{clap_on_literals}
-use Rattle.ion_words.specs.declared.request.Encoding.TheVariants as encoding
+use Rattle.ion_symtab.specs.declared.target.Target.TheVariants as target
 use Rattle.ion_words.specs.Asked.{asked, check, show, convert, compare, usual}
 use Rattle.ion_words.specs.Lines.{words_in}
 
@@ -17,11 +17,11 @@ pub show_row : asked (words_in (codes "show -")) ≡ Some (usual (show (codes "-
 unfolding clap_on_literals
 show_row = refl
 
-pub target_before : asked (words_in (codes "convert --to binary a")) ≡ Some (usual (convert (codes "a") encoding.Binary))
+pub target_before : asked (words_in (codes "convert --to binary a")) ≡ Some (usual (convert (codes "a") target.Binary))
 unfolding clap_on_literals
 target_before = refl
 
-pub target_behind : asked (words_in (codes "convert a --to=text")) ≡ Some (usual (convert (codes "a") encoding.Text))
+pub target_behind : asked (words_in (codes "convert a --to=text")) ≡ Some (usual (convert (codes "a") target.Text))
 unfolding clap_on_literals
 target_behind = refl
 

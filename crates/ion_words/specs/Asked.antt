@@ -7,8 +7,8 @@ use Rattle.clap.specs.Walk.{is_empty}
 use Rattle.clap.specs.ValueTests.{is_unsigned_in}
 use Rattle.clap.specs.Words.{Row, Text, fault_of, first_of, one_of, subcommand_of}
 use Rattle.ion_symtab.specs.declared.limits.Limits.{Limits}
-use Rattle.ion_words.specs.declared.request.Encoding.{Encoding}
-use Rattle.ion_words.specs.declared.request.Encoding.TheVariants as encoding
+use Rattle.ion_symtab.specs.declared.target.Target.{Target}
+use Rattle.ion_symtab.specs.declared.target.Target.TheVariants as target
 use Rattle.ion_words.specs.declared.request.Task.{Task}
 use Rattle.ion_words.specs.declared.request.Task.TheVariants as task
 use Rattle.ion_words.specs.declared.request.Request.{Request}
@@ -18,7 +18,7 @@ use Rattle.ion_words.specs.Program.{program}
 pub data Job : Type 0 where
   check : Text → Job
   show : Text → Job
-  convert : Text → Encoding → Job
+  convert : Text → Target → Job
   compare : Text → Text → Job
 
 -- and with what catalog, and within which limits
@@ -32,16 +32,16 @@ pub record Asked : Type 0 where
 abbrev pub usual : Job → Asked
 usual job = record { job = job; catalog = None; depth = 64; item = 2 ^ 24 }
 
-abbrev pub encoding_named : Text → Option Encoding
-encoding_named name = if bytes_eq name (codes "text") then Some encoding.Text
-    else if bytes_eq name (codes "binary") then Some encoding.Binary
+abbrev pub target_named : Text → Option Target
+target_named name = if bytes_eq name (codes "text") then Some target.Text
+    else if bytes_eq name (codes "binary") then Some target.Binary
     else None
 
 -- the job of the command of this name, by what was found for it
 abbrev pub job_of : Text → List Row → Option Job
 job_of command rows = if bytes_eq command (codes "check") then option_map check (first_of (codes "FILE") rows)
     else if bytes_eq command (codes "show") then option_map show (first_of (codes "FILE") rows)
-    else if bytes_eq command (codes "convert") then option_and_then (λ file. option_map (convert file) (option_and_then encoding_named (first_of (codes "to") rows))) (first_of (codes "FILE") rows)
+    else if bytes_eq command (codes "convert") then option_and_then (λ file. option_map (convert file) (option_and_then target_named (first_of (codes "to") rows))) (first_of (codes "FILE") rows)
     else if bytes_eq command (codes "compare") then option_and_then (λ left. option_map (compare left) (first_of (codes "RIGHT") rows)) (first_of (codes "LEFT") rows)
     else None
 

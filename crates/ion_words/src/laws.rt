@@ -1,7 +1,7 @@
 //! Laws of what words ask for. Each stands on an empty function: its contract is the law.
 ghost use Rattle.std.specs.Prelude.{◌≡◌, ◌^◌, [], ◌∷◌, ◌++◌, codes, Some, None, option_map};
 ghost use Rattle.clap.specs.Words.{Text};
-ghost use Rattle.ion_words.specs.declared.request.Encoding.TheVariants as encoding;
+ghost use Rattle.ion_symtab.specs.declared.target.Target.TheVariants as target;
 ghost use Rattle.ion_words.specs.Asked.{IsPlain, asked, check, show, convert, compare, input_once, number_in, usual};
 ghost use Rattle.ion_words.specs.Lines.{words_in};
 
@@ -11,9 +11,9 @@ pub fn rows_asked()
     ensures check_row { asked (words_in (codes "check a")) ≡ Some (usual (check (codes "a"))) }
     ensures show_row { asked (words_in (codes "show -")) ≡ Some (usual (show (codes "-"))) }
     ensures target_before { asked (words_in (codes "convert --to binary a")) ≡
-        Some (usual (convert (codes "a") encoding.Binary)) }
+        Some (usual (convert (codes "a") target.Binary)) }
     ensures target_behind { asked (words_in (codes "convert a --to=text")) ≡
-        Some (usual (convert (codes "a") encoding.Text)) }
+        Some (usual (convert (codes "a") target.Text)) }
     ensures sides { asked (words_in (codes "compare a b")) ≡
         Some (usual (compare (codes "a") (codes "b"))) }
     ensures options { asked (words_in (codes "check --catalog c a --depth=3 --item 9")) ≡
@@ -61,10 +61,10 @@ pub fn plain_names()
         asked (codes "show" ∷ name ∷ []) ≡ Some (usual (show name)) }
     ensures text { (name : Text) → IsPlain name →
         asked (codes "convert" ∷ name ∷ codes "--to" ∷ codes "text" ∷ []) ≡
-        Some (usual (convert name encoding.Text)) }
+        Some (usual (convert name target.Text)) }
     ensures binary { (name : Text) → IsPlain name →
         asked (codes "convert" ∷ name ∷ codes "--to" ∷ codes "binary" ∷ []) ≡
-        Some (usual (convert name encoding.Binary)) }
+        Some (usual (convert name target.Binary)) }
     ensures compare { (left right : Text) → IsPlain left → IsPlain right →
         asked (codes "compare" ∷ left ∷ right ∷ []) ≡ Some (usual (compare left right)) }
     ensures catalog { (name catalog : Text) → IsPlain name → IsPlain catalog →

@@ -9,5 +9,5 @@ pub mod laws;
 mod request;
 mod words;
 
-pub use request::{Encoding, Request, Task, WordsError};
+pub use request::{Request, Task, WordsError};
 pub use words::parse;

@@ -7,18 +7,9 @@ ghost use Rattle.ion_words.specs.Errors.{error_name};
 
 use clap::Error;
 use clap::error::ErrorKind;
-use ion_symtab::Limits;
+use ion_symtab::{Limits, Target};
 use std::alloc::AllocError;
 use std::fmt::{self, Display, Formatter};
-
-/// An encoding of Ion 1.0 that a document is converted to.
-#[derive(Clone, Copy, Debug, PartialEq, Eq)]
-pub enum Encoding {
-    /// The text encoding (Ion 1.0, "Ion Text Encoding").
-    Text,
-    /// The binary encoding (Ion 1.0, "Ion Binary Encoding").
-    Binary,
-}
 
 /// What is to be done, with the names of the documents; `-` names the standard input.
 #[derive(Clone, Copy, Debug, PartialEq, Eq)]
@@ -28,7 +19,7 @@ pub enum Task<'a> {
     /// A line for each value of the document of this name.
     Show(&'a str),
     /// The document of this name, converted to that encoding.
-    Convert(&'a str, Encoding),
+    Convert(&'a str, Target),
     /// The documents of these names compared, the left one first.
     Compare(&'a str, &'a str),
 }

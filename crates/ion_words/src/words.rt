@@ -3,12 +3,12 @@ ghost use Rattle.std.specs.Prelude.{◌≡◌, ◌↔◌, ◌≤◌, ◌^◌, �
 ghost use Rattle.clap.specs.Words.{found_of, first_of, one_of, rows_of, kind_of, subcommand_rows_of};
 ghost use Rattle.clap.specs.declared.error.ErrorKind.TheVariants.{OutOfMemory};
 ghost use Rattle.ion_words.specs.declared.request.WordsError.TheVariants.{Memory};
-ghost use Rattle.ion_words.specs.Asked.{asked, asked_by, told, job, job_of, encoding_named, limits_of, limits_told, number_of, up_to, names_input_once, names_of, NamesInputOnce};
+ghost use Rattle.ion_words.specs.Asked.{asked, asked_by, told, job, job_of, target_named, limits_of, limits_told, number_of, up_to, names_input_once, names_of, NamesInputOnce};
 
 use crate::command_line::command_line;
-use crate::request::{Encoding, Request, Task, WordsError};
+use crate::request::{Request, Task, WordsError};
 use clap::{ArgMatches, Error};
-use ion_symtab::Limits;
+use ion_symtab::{Limits, Target};
 use std::alloc::Global;
 use std::convert::AsStr;
 
@@ -93,7 +93,7 @@ fn task_of<'a>(name: &str, matches: &ArgMatches<'a>) -> Option<Task<'a>>
         "convert" => {
             let file = given(matches, "FILE")?;
             let to = given(matches, "to")?;
-            Some(Task::Convert(file, encoding_named(to)?))
+            Some(Task::Convert(file, target_named(to)?))
         }
         "compare" => {
             let left = given(matches, "LEFT")?;
@@ -104,12 +104,12 @@ fn task_of<'a>(name: &str, matches: &ArgMatches<'a>) -> Option<Task<'a>>
     }
 }
 
-fn encoding_named(name: &str) -> Option<Encoding>
-    ensures { result ≡ encoding_named name.now }
+fn target_named(name: &str) -> Option<Target>
+    ensures { result ≡ target_named name.now }
 {
     match name {
-        "text" => Some(Encoding::Text),
-        "binary" => Some(Encoding::Binary),
+        "text" => Some(Target::Text),
+        "binary" => Some(Target::Binary),
         _ => None,
     }
 }

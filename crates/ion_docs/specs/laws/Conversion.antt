@@ -24,8 +24,8 @@ use Rattle.ion_text.specs.Output.{text_of}
 use Rattle.ion_text.specs.laws.writing.RoundTrip.{round_trip as text_round_trip}
 use Rattle.ion_text.specs.laws.reading.Stops.{begins_none}
 use Rattle.ion_text.specs.laws.reading.ValuesKept as text_kept
-use Rattle.ion_docs.specs.declared.conversion.Target.{Target}
-use Rattle.ion_docs.specs.declared.conversion.Target.TheVariants.{Binary, Text}
+use Rattle.ion_symtab.specs.declared.target.Target.{Target}
+use Rattle.ion_symtab.specs.declared.target.Target.TheVariants.{Binary, Text}
 use Rattle.ion_docs.specs.Encodings.{encoding_of}
 use Rattle.ion_docs.specs.Documents.{is_binary, Denotes, in_binary, in_text, Pieces, binary_pieces, text_pieces}
 use Rattle.ion_docs.specs.Formats.{documents}

@@ -2,7 +2,6 @@ use Rattle.std.proofs.Common.{◌∷◌, [], inr}
 use Rattle.std.proofs.lemmas.Result.{IfOk-weaker, IfErr-weaker, on_err_weaker}
 use Rattle.ion_docs.specs.Encodings.{encoding_of}
 use Rattle.ion_words.specs.Asked.{NamesInputOnce}
-use Rattle.ion_command.specs.Owed.{target_of}
 use Rattle.ion_command.proofs.Owing.{first_of_names, behind_first, free_behind, stopped_once, stopped_converting, stopped_comparing, front_checking, front_comparing}
 use Rattle.ion_command.proofs.command.ending_of.Goals as goal
 
@@ -34,7 +33,7 @@ returns-in_ok-source-in-Convert-clause-stopped g c =
     let now = c.converted.new.reader in
     let given = c.in_ok-source-in-Convert.ensures.given in
     rw c.in-Convert.is (IfErr-weaker c.converted.result _ _ (λ fault caused. stopped_converting g.N.Input.Inlet (g.N.Sources.gives c.args.sources.now) (g.N.Sources.refuses c.args.sources.now) c.args.request.now.limits (c.in-Convert.name.now ∷ []) _ _ c.in-Convert.name.now (first_of_names c.in-Convert.name.now [])
-    first now given (encoding_of (target_of c.in-Convert.encoding)) _ (λ s was large. (first, now, given, s, was, large)) g.O.Outlet c.converted.new.out fault caused) c.converted.ensures.cause)
+    first now given (encoding_of c.in-Convert.target) _ (λ s was large. (first, now, given, s, was, large)) g.O.Outlet c.converted.new.out fault caused) c.converted.ensures.cause)
 
 pub returns-in_ok-right-in-Compare-clause-stopped :
     goal.returns-in_ok-right-in-Compare-clause-stopped
