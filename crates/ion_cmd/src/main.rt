@@ -1,7 +1,7 @@
 //! The command: its words, the file system and the standard streams.
 #![tactic(auto)]
 
-use ion_command::{FileSystem, RandomHasher, carry_out, refuse_words};
+use ion_run::{FileSystem, RandomHasher, run_arguments, refuse_words};
 use ion_symtab::ToWrite;
 use ion_words::WordsError;
 use std::env;
@@ -19,7 +19,7 @@ fn main(rt: HostRuntime) -> ExitCode {
             let hashers = RandomHasher::new(&rt);
             let mut out = ToWrite::new(buffered);
             let arguments = env::args(&rt);
-            carry_out(
+            run_arguments(
                 rt.alloc(),
                 arguments,
                 &mut sources,

@@ -4,7 +4,7 @@ use crate::answers::same;
 use crate::shelves::{FrailShelf, Register, Shelf};
 use crate::streams::TWICE;
 use crate::wanted::{Row, Wanted};
-use ion_command::{NameHistory, Sources, run};
+use ion_run::{NameHistory, Sources, run};
 use ion_devices::{FrailWriter, NEVER};
 use ion_symtab::ToWrite;
 use std::alloc::{AllocError, Global};

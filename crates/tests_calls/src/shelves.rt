@@ -1,6 +1,6 @@
 //! Documents in memory, given whole or by readers that fail at one call.
 
-use ion_command::{NameHistory, Sources};
+use ion_run::{NameHistory, Sources};
 use ion_devices::FrailReader;
 use ion_symtab::{Fault, FromRead};
 use std::io::ErrorKind;

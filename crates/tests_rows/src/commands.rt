@@ -1,7 +1,7 @@
 //! What the command makes of rows: each of their documents is given whole, and one octet a call.
 use crate::documents::{Pieces, WHOLE, tables};
 use crate::row::Row;
-use ion_command::{NameHistory, Sources, run};
+use ion_run::{NameHistory, Sources, run};
 use ion_devices::FrailReader;
 use ion_docs::Target;
 use ion_symtab::{Fault, FromRead, ToWrite};

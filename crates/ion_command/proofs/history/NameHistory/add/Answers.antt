@@ -1,5 +1,0 @@
-use Rattle.ion_command.proofs.Spells.{names_more}
-use Rattle.ion_command.proofs.history.NameHistory.add.Goals as goal
-
-pub returns : goal.returns
-returns c = rw (c.of-tag.ensures, ← c.self.view_is) (names_more c.self.inside.tag.numbers c.args.name.now)
