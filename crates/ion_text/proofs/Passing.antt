@@ -24,8 +24,8 @@ use Rattle.ion_text.specs.declared.state.Now.TheVariants as nows
 use Rattle.ion_text.specs.machine.EachToken.{Reading, Symbols, goes, place, settle, turn}
 use Rattle.ion_text.specs.machine.Run.{State, Effect, uses, fails, is_top, shut, reaches, noticed, waits, waits_now, in_segment, unsettled, with_scan, eats, takes, on_scan, on_said, on_settled, behind_left, behind_given, token_of, run, run_on}
 use Rattle.ion_text.specs.machine.Pieces.{led, then_run, run-append, followed, Quiet, Waiting, Stays, drive, go_on}
-use Rattle.ion_text.specs.laws.reading.Fuel.{UsedThen, Twice, twice_fuel}
-use Rattle.ion_text.specs.laws.reading.Meets.{follows_as}
+use Rattle.ion_text.specs.laws.reading.complete.Fuel.{UsedThen, Twice, twice_fuel}
+use Rattle.ion_text.specs.laws.reading.complete.Meets.{follows_as}
 use Rattle.ion_text.specs.machine.Views.{floor, base, IsCalm}
 use Rattle.ion_text.specs.machine.AtOnce.{Passes}
 use Rattle.ion_text.proofs.Stretches.{quiet_within}

@@ -15,8 +15,8 @@ use Rattle.ion_text.specs.declared.reader.TextReader.{TextReader}
 use Rattle.ion_text.specs.machine.EachToken.{place}
 use Rattle.ion_text.specs.machine.Run.{State, Effect, leaves, eats, Run}
 use Rattle.ion_text.specs.machine.Pieces.{led}
-use Rattle.ion_text.specs.laws.reading.Accepts.{ready_still}
-use Rattle.ion_text.specs.laws.reading.Fuel.{NotLeaves, eats_stays}
+use Rattle.ion_text.specs.laws.reading.complete.Accepts.{ready_still}
+use Rattle.ion_text.specs.laws.reading.complete.Fuel.{NotLeaves, eats_stays}
 use Rattle.ion_text.specs.machine.Views.{state_of}
 use Rattle.ion_text.specs.machine.Progress.{resumed, BeginsWith, StopsBefore, Advances, is_quiet, pending_by, pending, octets_used}
 

@@ -15,7 +15,7 @@ use Rattle.ion_text.specs.declared.reader.TextReader.{TextReader}
 use Rattle.ion_text.specs.machine.EachToken.{Reading, goes, at, place, settle}
 use Rattle.ion_text.specs.machine.Run.{State, tells, leaves, fails, eats, run, run_on}
 use Rattle.ion_text.specs.machine.Pieces.{led}
-use Rattle.ion_text.specs.laws.reading.Fuel.{NotLeaves, eats_stays}
+use Rattle.ion_text.specs.laws.reading.complete.Fuel.{NotLeaves, eats_stays}
 use Rattle.ion_text.specs.machine.Views.{state_of, reading_of, Told, DidTake, SameReader}
 use Rattle.ion_text.specs.machine.Progress.{Took, GaveLast}
 use Rattle.ion_text.specs.machine.AtOnce.{Passes, IsStill, IsResting, Inside, Strides}

@@ -41,7 +41,7 @@ use Rattle.ion_text.specs.declared.state.Held.{Held}
 use Rattle.ion_text.specs.declared.state.Held.TheVariants as helds
 use Rattle.ion_text.specs.declared.state.Now.TheVariants as nows
 use Rattle.ion_text.specs.declared.reader.TextReader.{TextReader}
-use Rattle.ion_text.specs.laws.reading.FrontTokens.{ends_symbol, held_of, value_of, Pays, Names, BeginsSymbol, BeginsValue, BeginsName}
+use Rattle.ion_text.specs.machine.FrontTokens.{ends_symbol, held_of, value_of, Pays, Names, BeginsSymbol, BeginsValue, BeginsName}
 use Rattle.ion_text.specs.machine.EachToken.{Setting, Spot, under, spot_in, token_at, Reading, Symbols, goes, late, at, place, place_in, settle, turn, turn_now, on_ready, on_name, ended, paid, held_word, held_payload, held_symbol, noted, keyed, named}
 use Rattle.ion_text.specs.machine.AtOnce.{Passes, IsStill, Inside, Strides}
 use Rattle.ion_text.specs.machine.Run.{is_top, with_scan, token_of}

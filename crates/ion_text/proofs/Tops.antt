@@ -48,7 +48,7 @@ use Rattle.ion_text.specs.machine.Progress.{Advances, Stands}
 use Rattle.ion_text.specs.machine.Run.{State, uses, fails, tells, eats, takes, on_scan, on_said, behind_given, unsettled, reaches, longest_top, is_long_begun, token_of, run, run_on, with_scan}
 use Rattle.ion_text.specs.machine.Views.{state_of, open_frames, with_beside, base}
 use Rattle.ion_text.specs.machine.Walked.{close_of, opened, first_now, behind_note, EndsAtOnce, IsFresh, IsValue, most, rested, FoundNote, FoundScalar, GivesTop, WalkedBare, WalkedContainer, WalkedNote, WalkedNotes, WalkedTop}
-use Rattle.ion_text.specs.laws.reading.FrontTokens.{held_of}
+use Rattle.ion_text.specs.machine.FrontTokens.{held_of}
 use Rattle.ion_text.proofs.Arms.{left_found, given_found, mark_says, at_drop, blank_used}
 use Rattle.ion_text.proofs.Nested.{is_open_left, open_found, close_found, closing}
 use Rattle.ion_text.proofs.Passing.{NoticesNothing, inner_notices, passes_on, passes_none, passes_led, next_octet}

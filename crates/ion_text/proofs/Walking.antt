@@ -33,8 +33,8 @@ use Rattle.ion_text.specs.declared.state.Frame.{Frame}
 use Rattle.ion_text.specs.declared.state.Frame.TheVariants as frames
 use Rattle.ion_text.specs.declared.state.Now.{Now}
 use Rattle.ion_text.specs.declared.state.Now.TheVariants as nows
-use Rattle.ion_text.specs.laws.reading.FrontTokens.{ends_symbol, held_of}
-use Rattle.ion_text.specs.laws.reading.Complete.{depths, field_depths, depth-list, depth-sexp, depth-struct, field_deepest-more}
+use Rattle.ion_text.specs.machine.FrontTokens.{ends_symbol, held_of}
+use Rattle.ion_text.specs.laws.reading.complete.Complete.{depths, field_depths, depth-list, depth-sexp, depth-struct, field_deepest-more}
 use Rattle.ion_text.specs.machine.EachToken.{Setting, Spot, under, spot_at, Reading, Turn, Symbols, goes, at, place, place_in, turn, on_ready, ended}
 use Rattle.ion_text.specs.machine.Run.{is_top, with_scan, token_of}
 use Rattle.ion_text.specs.machine.Pieces.{Quiet}

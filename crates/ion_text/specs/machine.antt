@@ -10,3 +10,5 @@ pub mod AtOnce
 pub mod Nested
 pub mod Walked
 pub mod Alike
+pub mod FrontTokens
+pub mod Places

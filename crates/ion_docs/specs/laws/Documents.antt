@@ -16,13 +16,13 @@ use Rattle.ion_text.specs.machine.Run as text_run
 use Rattle.ion_text.specs.machine.Pieces as text_runs
 use Rattle.ion_text.specs.laws.reading.Promises as text_laws
 use Rattle.ion_text.specs.laws.reading.Stops as text_stops
-use Rattle.ion_text.specs.laws.reading.Small as text_small
-use Rattle.ion_text.specs.laws.showing.Alone as text_alone
-use Rattle.ion_text.specs.laws.showing.Once as text_once
-use Rattle.ion_text.specs.laws.showing.Apart as text_apart
-use Rattle.ion_text.specs.laws.showing.Given as text_given
-use Rattle.ion_text.specs.laws.showing.Refusing as text_refusing
-use Rattle.ion_text.specs.laws.showing.AtItsEnd as text_at_its_end
+use Rattle.ion_text.specs.laws.reading.small.Small as text_small
+use Rattle.ion_text.specs.laws.showing.tokens.Alone as text_alone
+use Rattle.ion_text.specs.laws.showing.tokens.Once as text_once
+use Rattle.ion_text.specs.laws.reading.small.Apart as text_apart
+use Rattle.ion_text.specs.laws.showing.shown.Given as text_given
+use Rattle.ion_text.specs.laws.showing.refused.Refusing as text_refusing
+use Rattle.ion_text.specs.laws.showing.ended.AtItsEnd as text_at_its_end
 use Rattle.ion_docs.specs.Documents.{is_binary, Denotes, in_binary, in_text, Pieces, binary_pieces, text_pieces, OpenAfter, binary_rest, text_rest}
 use Rattle.ion_docs.specs.reading.Chosen.{chosen}
 use Rattle.ion_docs.specs.Formats.{documents}

@@ -10,7 +10,7 @@ use Rattle.ion_binary.specs.laws.reading.Standing as binary_stands
 use Rattle.ion_binary.specs.declared.reader.BinaryReader.{BinaryReader}
 use Rattle.ion_text.specs.machine.Run as text
 use Rattle.ion_text.specs.laws.reading.Stands as text_stands
-use Rattle.ion_text.specs.laws.reading.Bounded as text_bounded
+use Rattle.ion_text.specs.laws.reading.small.Bounded as text_bounded
 use Rattle.ion_text.specs.declared.reader.TextReader.{TextReader}
 use Rattle.ion_docs.specs.declared.doc_reader.Format.{Format}
 use Rattle.ion_docs.specs.declared.doc_reader.Format.TheVariants.{Unbegun, Refused, Binary, Text}

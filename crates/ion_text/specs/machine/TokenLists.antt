@@ -15,7 +15,7 @@ use Rattle.ion_text.specs.declared.state.Now.TheVariants as nows
 use Rattle.ion_text.specs.Grammar.{Says}
 use Rattle.ion_text.specs.machine.EachToken.{Reading, Turn, goes, gives, refuses, late, Token, place, settle, turn}
 use Rattle.ion_text.specs.machine.Run.{token_of, is_top}
-use Rattle.ion_text.specs.laws.reading.Places.{Leading, settle_same, same_place, same_itself}
+use Rattle.ion_text.specs.machine.Places.{Leading, settle_same, same_place, same_itself}
 
 -- values given, and where it led; or a refusal
 pub data Walk : Type 0 where

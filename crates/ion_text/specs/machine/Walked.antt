@@ -29,7 +29,7 @@ use Rattle.ion_text.specs.declared.state.Frame.{Frame}
 use Rattle.ion_text.specs.declared.state.Frame.TheVariants as frames
 use Rattle.ion_text.specs.declared.state.Now.{Now}
 use Rattle.ion_text.specs.declared.state.Now.TheVariants as nows
-use Rattle.ion_text.specs.laws.reading.FrontTokens.{held_of, Pays, BeginsName, BeginsSymbol}
+use Rattle.ion_text.specs.machine.FrontTokens.{held_of, Pays, BeginsName, BeginsSymbol}
 use Rattle.ion_text.specs.machine.EachToken.{Setting, Spot, Symbols, at, begun_at, place_in, on_ready, ended}
 use Rattle.ion_text.specs.machine.AtOnce.{Passes}
 use Rattle.ion_text.specs.machine.Nested.{closes, closed, close_octet}

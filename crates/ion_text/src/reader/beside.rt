@@ -6,7 +6,7 @@ ghost use Rattle.ion_tokens.specs.Bodies.{content};
 ghost use Rattle.ion_tokens.specs.machine.Rests.{resting};
 ghost use Rattle.ion_tokens.specs.machine.Views.{scanned};
 ghost use Rattle.ion_text.specs.declared.state.Now.TheVariants as nows;
-ghost use Rattle.ion_text.specs.laws.reading.FrontTokens.{held_of, value_of, Names, Pays, BeginsValue};
+ghost use Rattle.ion_text.specs.machine.FrontTokens.{held_of, value_of, Names, Pays, BeginsValue};
 ghost use Rattle.ion_text.specs.machine.EachToken.{place};
 ghost use Rattle.ion_text.specs.machine.AtOnce.{Inside, Strides};
 ghost use Rattle.ion_text.specs.machine.Views.{reading_of, SameReader};

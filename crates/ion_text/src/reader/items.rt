@@ -87,15 +87,15 @@ impl Items for TextReader<'_> {
     ghost use Rattle.ion_text.specs.machine.Progress.{Stands, failed, octets_used, octets_kept, pending};
     ghost use Rattle.ion_text.specs.laws.reading.Promises.{exact, one_stream, has_reasons};
     ghost use Rattle.ion_text.specs.laws.reading.Stops.{decided, unfinished, no_tables};
-    ghost use Rattle.ion_text.specs.laws.reading.Small.{is_small};
+    ghost use Rattle.ion_text.specs.laws.reading.small.Small.{is_small};
     ghost use Rattle.ion_text.specs.laws.reading.Stands.{not_failed, not_refused, given_so_far, given_with_next};
-    ghost use Rattle.ion_text.specs.laws.reading.Bounded.{bounded};
-    ghost use Rattle.ion_text.specs.laws.showing.Alone.{document_pieces, whole_document};
-    ghost use Rattle.ion_text.specs.laws.showing.Apart.{nodes_between};
-    ghost use Rattle.ion_text.specs.laws.showing.Once.{one_shown};
-    ghost use Rattle.ion_text.specs.laws.showing.Given.{shown};
-    ghost use Rattle.ion_text.specs.laws.showing.Refusing.{refuses};
-    ghost use Rattle.ion_text.specs.laws.showing.AtItsEnd.{at_its_end};
+    ghost use Rattle.ion_text.specs.laws.reading.small.Bounded.{bounded};
+    ghost use Rattle.ion_text.specs.laws.showing.tokens.Alone.{document_pieces, whole_document};
+    ghost use Rattle.ion_text.specs.laws.reading.small.Apart.{nodes_between};
+    ghost use Rattle.ion_text.specs.laws.showing.tokens.Once.{one_shown};
+    ghost use Rattle.ion_text.specs.laws.showing.shown.Given.{shown};
+    ghost use Rattle.ion_text.specs.laws.showing.refused.Refusing.{refuses};
+    ghost use Rattle.ion_text.specs.laws.showing.ended.AtItsEnd.{at_its_end};
 
     ghost catalog = { λ r. r.catalog.now };
 

@@ -9,7 +9,7 @@ ghost use Rattle.ion_tokens.specs.declared.mode.Mark.TheVariants as marks;
 ghost use Rattle.ion_tokens.specs.declared.mode.Place.TheVariants as places;
 ghost use Rattle.ion_tokens.specs.declared.mode.TokenKind.TheVariants as tokens;
 ghost use Rattle.ion_tokens.specs.machine.Rests.{past_blank, past_token, IsPassed};
-ghost use Rattle.ion_text.specs.laws.reading.FrontTokens.{BeginsName};
+ghost use Rattle.ion_text.specs.machine.FrontTokens.{BeginsName};
 ghost use Rattle.ion_text.specs.machine.Nested.{OpensAt};
 ghost use Rattle.ion_text.specs.machine.Walked.{close_of, kind_of_open, behind_key};
 ghost use Rattle.ion_text.specs.visiting.Parts.{bracket_of, payload_of};

@@ -24,7 +24,7 @@ use Rattle.ion_binary.specs.Deciding.{Decides, Answers}
 pub decides_stopped : (g : Catalog) (l : Limits) (u : List ℕ) (e : Reason) → Decides g l u e → Stopped g l u e
 decides_stopped g l u e d = every_row g l u e d
 
--- 2. each refusal has a row (specs/laws/reading/Sound.antt, where `Leaves` of a refusal is `Decides`)
+-- 2. each refusal has a row (specs/laws/reading/sound/Sound.antt, where `Leaves` of a refusal is `Decides`)
 pub stopped_decides : (g : Catalog) (l : Limits) (u : List ℕ) (r : Refusal) → (p : Stop g l 0 initial u r) → Decides g l (p.before ++ p.b ∷ []) r.reason
 stopped_decides g l u r p =
     let s = ran_stands g l p.before (run g l 0 initial u).given p.n p.ran in

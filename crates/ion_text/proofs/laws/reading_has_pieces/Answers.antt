@@ -1,4 +1,4 @@
-use Rattle.ion_text.specs.laws.showing.Given.{shown}
+use Rattle.ion_text.specs.laws.showing.shown.Given.{shown}
 use Rattle.ion_text.proofs.laws.reading_has_pieces.Goals as goal
 
 pub returns : goal.returns

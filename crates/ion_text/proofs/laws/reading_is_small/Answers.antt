@@ -1,4 +1,4 @@
-use Rattle.ion_text.specs.laws.reading.Small.{is_small}
+use Rattle.ion_text.specs.laws.reading.small.Small.{is_small}
 use Rattle.ion_text.proofs.laws.reading_is_small.Goals as goal
 
 pub returns : goal.returns

@@ -1,4 +1,4 @@
-use Rattle.ion_text.specs.laws.reading.Nodes.{value_nodes}
+use Rattle.ion_text.specs.laws.reading.small.Nodes.{value_nodes}
 use Rattle.ion_text.proofs.laws.values_are_small.Goals as goal
 
 pub returns : goal.returns

@@ -11,9 +11,9 @@ use Rattle.ion_tokens.proofs.Histories.{begins_completes, given_front, left_fron
 use Rattle.ion_tokens.proofs.Runs.{given_used, left_used, next_used}
 use Rattle.ion_text.specs.machine.EachToken.{Reading, place}
 use Rattle.ion_text.specs.machine.TokenLists.{Walk, walked, stopped, then_walk, reads, reads-append}
-use Rattle.ion_text.specs.laws.reading.Pieces.{walked_now}
-use Rattle.ion_text.specs.laws.showing.Compare.{Found', lexeme_in, state_in, placed_same}
-use Rattle.ion_text.specs.laws.showing.Walks.{adds_is, walking_said}
+use Rattle.ion_text.specs.laws.reading.complete.Pieces.{walked_now}
+use Rattle.ion_text.specs.laws.showing.tokens.Compare.{Found', lexeme_in, state_in, placed_same}
+use Rattle.ion_text.specs.laws.showing.tokens.Walks.{adds_is, walking_said}
 use Rattle.ion_text.specs.laws.deciding.Fronts.{origin, Any, last_of, last_behind, Came, Either, HasEnded, found_open}
 
 module _ (g : Catalog) (l : Limits) where

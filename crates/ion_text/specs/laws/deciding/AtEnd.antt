@@ -32,18 +32,18 @@ use Rattle.ion_text.specs.Deciding.{Are, AwaitsColons, EndDecides, HasRow, by_en
 use Rattle.ion_text.specs.machine.EachToken.{Reading, Turn, goes, gives, refuses, late, at, place, settle, turn, begun_at}
 use Rattle.ion_text.specs.machine.Run.{State, begun, run, is_top, is_fresh, token_of, trace, refused_of, ends_of, cut_short, end_late, end_settled, end_turned, end_said, end_waiting, end_ready, end_now}
 use Rattle.ion_text.specs.machine.Passed.{said_body, said_passes}
-use Rattle.ion_text.specs.laws.reading.Admits.{at_end_fine}
-use Rattle.ion_text.specs.laws.reading.Going.{mark_kind, top_place}
-use Rattle.ion_text.specs.laws.reading.Held.{Behind, NoLongText, Reads, Scans, token_read}
-use Rattle.ion_text.specs.laws.reading.Meets.{end_spans}
-use Rattle.ion_text.specs.laws.reading.Quotes.{left_none}
-use Rattle.ion_text.specs.laws.reading.Segments.{never}
-use Rattle.ion_text.specs.laws.reading.Sound.{NowStands, PendingFor}
-use Rattle.ion_text.specs.laws.reading.Steps.{StoodBehind, run_ran, begun_stood}
+use Rattle.ion_text.specs.laws.reading.sound.Admits.{at_end_fine}
+use Rattle.ion_text.specs.laws.reading.complete.Going.{mark_kind, top_place}
+use Rattle.ion_text.specs.laws.reading.sound.Held.{Behind, NoLongText, Reads, Scans, token_read}
+use Rattle.ion_text.specs.laws.reading.complete.Meets.{end_spans}
+use Rattle.ion_text.specs.laws.reading.sound.Quotes.{left_none}
+use Rattle.ion_text.specs.laws.reading.complete.Segments.{never}
+use Rattle.ion_text.specs.laws.reading.sound.Sound.{NowStands, PendingFor}
+use Rattle.ion_text.specs.laws.reading.sound.Steps.{StoodBehind, run_ran, begun_stood}
 use Rattle.ion_text.specs.laws.reading.Stops.{stood_used}
-use Rattle.ion_text.specs.laws.showing.Cuts.{lexed_front}
-use Rattle.ion_text.specs.laws.showing.Froms.{EndsWaiting, Waits, run_waits}
-use Rattle.ion_text.specs.laws.showing.Opened.{symbol_colon}
+use Rattle.ion_text.specs.laws.showing.tokens.Cuts.{lexed_front}
+use Rattle.ion_text.specs.laws.showing.tokens.Froms.{EndsWaiting, Waits, run_waits}
+use Rattle.ion_text.specs.laws.showing.shown.Opened.{symbol_colon}
 use Rattle.ion_text.specs.laws.deciding.Lates.{said_rowless}
 use Rattle.ion_text.specs.laws.deciding.Shows.{Shown, awaits_colons, flag}
 use Rattle.ion_text.specs.laws.deciding.Turns.{Decided, TurnDecided, settled_decided, token_decided}

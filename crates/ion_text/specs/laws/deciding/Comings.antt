@@ -16,13 +16,13 @@ use Rattle.ion_text.specs.Grammar.{Says, IsName, Annotations, ends_long, begins_
 use Rattle.ion_text.specs.Deciding.{Container, InList, InSexp, InStruct, InField, place_of, TakesValue, Open, none_open, list_open, sexp_open, struct_open, named, Comes}
 use Rattle.ion_text.specs.machine.EachToken.{Symbols, at, fresh}
 use Rattle.ion_text.specs.machine.TokenLists.{adds_values, reads}
-use Rattle.ion_text.specs.laws.reading.Complete.{Begins, notes_begin, starts}
-use Rattle.ion_text.specs.laws.reading.Depths.{Deep}
-use Rattle.ion_text.specs.laws.reading.MarkerWords.{both_not}
-use Rattle.ion_text.specs.laws.reading.Pieces.{pieces_read, more_read}
-use Rattle.ion_text.specs.laws.reading.Sound.{Opened, Receives, ReadyFor, value_place}
-use Rattle.ion_text.specs.laws.reading.Tokens.{neither}
-use Rattle.ion_text.specs.laws.showing.Stays.{ready_outer, token_behind, name_there}
+use Rattle.ion_text.specs.laws.reading.complete.Complete.{Begins, notes_begin, starts}
+use Rattle.ion_text.specs.laws.reading.sound.Depths.{Deep}
+use Rattle.ion_text.specs.laws.reading.sound.MarkerWords.{both_not}
+use Rattle.ion_text.specs.laws.reading.complete.Pieces.{pieces_read, more_read}
+use Rattle.ion_text.specs.laws.reading.sound.Sound.{Opened, Receives, ReadyFor, value_place}
+use Rattle.ion_text.specs.laws.reading.complete.Tokens.{neither}
+use Rattle.ion_text.specs.laws.showing.tokens.Stays.{ready_outer, token_behind, name_there}
 use Rattle.ion_text.specs.laws.deciding.Openings.{containers, place_same, levels_same}
 use Rattle.ion_text.specs.laws.deciding.Fronts.{origin, Came, SettlesTo, stands_read, ready_settles, struct_settles}
 

@@ -16,13 +16,13 @@ use Rattle.ion_text.specs.Deciding.{Are, AwaitsColons}
 use Rattle.ion_text.specs.Grammar.{Document}
 use Rattle.ion_text.specs.machine.EachToken.{Reading, fresh, settle}
 use Rattle.ion_text.specs.machine.TokenLists.{walked, stopped, done, on_turn, then_walk, reads, reads-append}
-use Rattle.ion_text.specs.laws.reading.Found.{lexes_operators}
-use Rattle.ion_text.specs.laws.reading.Going.{Going}
-use Rattle.ion_text.specs.laws.reading.Pieces.{ReadSoFar, pieces_read, walked_now}
-use Rattle.ion_text.specs.laws.showing.Compare.{lexes_once, placed_same}
-use Rattle.ion_text.specs.laws.showing.Cuts.{Parted, parted, Is, one_found, begins_once}
-use Rattle.ion_text.specs.laws.showing.Once.{begins_lexed}
-use Rattle.ion_text.specs.laws.showing.Walks.{OneIsFront, walking_said, behind_read, meet}
+use Rattle.ion_text.specs.laws.reading.complete.Found.{lexes_operators}
+use Rattle.ion_text.specs.laws.reading.complete.Going.{Going}
+use Rattle.ion_text.specs.laws.reading.complete.Pieces.{ReadSoFar, pieces_read, walked_now}
+use Rattle.ion_text.specs.laws.showing.tokens.Compare.{lexes_once, placed_same}
+use Rattle.ion_text.specs.laws.showing.tokens.Cuts.{Parted, parted, Is, one_found, begins_once}
+use Rattle.ion_text.specs.laws.showing.tokens.Once.{begins_lexed}
+use Rattle.ion_text.specs.laws.showing.tokens.Walks.{OneIsFront, walking_said, behind_read, meet}
 use Rattle.ion_text.specs.laws.deciding.Fronts.{origin, Any}
 use Rattle.ion_text.specs.laws.deciding.Tokens.{Stops}
 use Rattle.ion_text.specs.laws.deciding.Waiting.{Pends, pend, settling_stops, colons_shown, colons_next}

@@ -25,22 +25,22 @@ use Rattle.ion_text.specs.machine.EachToken.{Reading, goes, Symbols, at, fresh, 
 use Rattle.ion_text.specs.machine.Run.{State, is_fresh}
 use Rattle.ion_text.specs.machine.Passed.{said_body}
 use Rattle.ion_text.specs.machine.TokenLists.{Walk, walked, stopped, adds_values, done, on_turn, then_walk, reads, reads-append}
-use Rattle.ion_text.specs.laws.reading.Admits.{fresh_empty}
-use Rattle.ion_text.specs.laws.reading.Complete.{Begins, starts}
-use Rattle.ion_text.specs.laws.reading.Depths.{Deep}
-use Rattle.ion_text.specs.laws.reading.Found.{next_is}
-use Rattle.ion_text.specs.laws.reading.Going.{says_so, mark_kind}
-use Rattle.ion_text.specs.laws.reading.Held.{none_open, opened_some}
-use Rattle.ion_text.specs.laws.reading.Pieces.{pieces_read, more_read, top_now, walked_now}
-use Rattle.ion_text.specs.laws.reading.Sound.{NowStands, Opened}
-use Rattle.ion_text.specs.laws.reading.Steps.{Stood}
+use Rattle.ion_text.specs.laws.reading.sound.Admits.{fresh_empty}
+use Rattle.ion_text.specs.laws.reading.complete.Complete.{Begins, starts}
+use Rattle.ion_text.specs.laws.reading.sound.Depths.{Deep}
+use Rattle.ion_text.specs.laws.reading.complete.Found.{next_is}
+use Rattle.ion_text.specs.laws.reading.complete.Going.{says_so, mark_kind}
+use Rattle.ion_text.specs.laws.reading.sound.Held.{none_open, opened_some}
+use Rattle.ion_text.specs.laws.reading.complete.Pieces.{pieces_read, more_read, top_now, walked_now}
+use Rattle.ion_text.specs.laws.reading.sound.Sound.{NowStands, Opened}
+use Rattle.ion_text.specs.laws.reading.sound.Steps.{Stood}
 use Rattle.ion_text.specs.laws.reading.Stops.{stood_used}
-use Rattle.ion_text.specs.laws.showing.Compare.{Found', alone, placed_same}
-use Rattle.ion_text.specs.laws.showing.Cuts.{Is, finds_is}
-use Rattle.ion_text.specs.laws.showing.Firsts.{opens_item, now_first}
-use Rattle.ion_text.specs.laws.showing.Once.{begins_lexed}
-use Rattle.ion_text.specs.laws.showing.Stays.{Arrived, arrived, opened_read}
-use Rattle.ion_text.specs.laws.showing.Walks.{walking_said, adds_is, behind_read}
+use Rattle.ion_text.specs.laws.showing.tokens.Compare.{Found', alone, placed_same}
+use Rattle.ion_text.specs.laws.showing.tokens.Cuts.{Is, finds_is}
+use Rattle.ion_text.specs.laws.showing.tokens.Firsts.{opens_item, now_first}
+use Rattle.ion_text.specs.laws.showing.tokens.Once.{begins_lexed}
+use Rattle.ion_text.specs.laws.showing.tokens.Stays.{Arrived, arrived, opened_read}
+use Rattle.ion_text.specs.laws.showing.tokens.Walks.{walking_said, adds_is, behind_read}
 
 abbrev pub Any : Known → List ℕ → Type 0
 Any s octets = Unit {0}

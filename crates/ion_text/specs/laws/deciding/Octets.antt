@@ -32,20 +32,20 @@ use Rattle.ion_text.specs.machine.EachToken.{under, spot_at, Reading, Turn, goes
 use Rattle.ion_text.specs.machine.Run.{State, Effect, uses, tells, leaves, fails, begun, eats, takes, waits, waits_now, in_segment, unsettled, noticed, shut, reaches, or_worse, on_octet, on_scan, on_settled, on_said, behind_given, behind_left, with_scan, token_of, is_top, is_fresh, Run, run, run_on, once_more, trace}
 use Rattle.ion_text.specs.machine.Passed.{said_body, said_passes}
 use Rattle.ion_text.specs.machine.Pieces.{on_now}
-use Rattle.ion_text.specs.laws.reading.Fuel.{UsedHere, Leaving, feed_leaves}
-use Rattle.ion_text.specs.laws.reading.Going.{mark_kind, top_place}
-use Rattle.ion_text.specs.laws.reading.Held.{Behind, Reads, ApartAt, or_parts, settled_read}
-use Rattle.ion_text.specs.laws.reading.Meets.{finely_as}
-use Rattle.ion_text.specs.laws.reading.Places.{Leading, settle_same}
-use Rattle.ion_text.specs.laws.reading.Quotes.{Finely}
-use Rattle.ion_text.specs.laws.reading.Segments.{never}
-use Rattle.ion_text.specs.laws.reading.Sound.{NowStands, PendingFor}
-use Rattle.ion_text.specs.laws.reading.Steps.{Stood, StoodBehind, After, eats_after, left_reads, open_at, run_ran, begun_stood}
+use Rattle.ion_text.specs.laws.reading.complete.Fuel.{UsedHere, Leaving, feed_leaves}
+use Rattle.ion_text.specs.laws.reading.complete.Going.{mark_kind, top_place}
+use Rattle.ion_text.specs.laws.reading.sound.Held.{Behind, Reads, ApartAt, or_parts, settled_read}
+use Rattle.ion_text.specs.laws.reading.complete.Meets.{finely_as}
+use Rattle.ion_text.specs.machine.Places.{Leading, settle_same}
+use Rattle.ion_text.specs.laws.reading.sound.Quotes.{Finely}
+use Rattle.ion_text.specs.laws.reading.complete.Segments.{never}
+use Rattle.ion_text.specs.laws.reading.sound.Sound.{NowStands, PendingFor}
+use Rattle.ion_text.specs.laws.reading.sound.Steps.{Stood, StoodBehind, After, eats_after, left_reads, open_at, run_ran, begun_stood}
 use Rattle.ion_text.specs.laws.reading.Stops.{behind_run, refused_run, stop_of, stop_taken}
-use Rattle.ion_text.specs.laws.reading.Tokens.{left_colons}
-use Rattle.ion_text.specs.laws.showing.Froms.{EndsWaiting, IsFree, Waits, fresh_parts, idle_waits, run_waits, settle_free}
-use Rattle.ion_text.specs.laws.showing.Halts.{left_idle}
-use Rattle.ion_text.specs.laws.showing.Opened.{symbol_colon}
+use Rattle.ion_text.specs.laws.reading.complete.Tokens.{left_colons}
+use Rattle.ion_text.specs.laws.showing.tokens.Froms.{EndsWaiting, IsFree, Waits, fresh_parts, idle_waits, run_waits, settle_free}
+use Rattle.ion_text.specs.laws.showing.refused.Halts.{left_idle}
+use Rattle.ion_text.specs.laws.showing.shown.Opened.{symbol_colon}
 use Rattle.ion_text.specs.laws.deciding.Lates.{GivesNoBare, LateAs, NotLate, TurnLate, ended_late, feed_rowless, late_quiet, noticed_quiet, said_rowless, turn_late, version_quiet, within_late}
 use Rattle.ion_text.specs.laws.deciding.Shows.{BareSaid, IsBare, Shown, flag, given_bare, given_shown, left_shown, no_colons, said_bare}
 use Rattle.ion_text.specs.laws.deciding.Turns.{Decided, TurnDecided, settled_decided, token_decided}

@@ -14,8 +14,8 @@ use Rattle.ion_tokens.specs.Lexed.{Placed, BeginsLexed, LexesTo}
 use Rattle.ion_text.specs.Grammar.{BlankThen}
 use Rattle.ion_text.specs.Deciding.{Decides, EndDecides, Are, AwaitsColons, Comes, Container, InStruct, no_symbol, keyword_as_name, keyword_as_annotation, other_version, null_table, too_deep, struct_too_deep, bad_table}
 use Rattle.ion_text.specs.machine.TokenLists.{stopped, reads}
-use Rattle.ion_text.specs.laws.showing.Cuts.{parted}
-use Rattle.ion_text.specs.laws.showing.Once.{begins_lexed}
+use Rattle.ion_text.specs.laws.showing.tokens.Cuts.{parted}
+use Rattle.ion_text.specs.laws.showing.tokens.Once.{begins_lexed}
 use Rattle.ion_text.specs.laws.deciding.Agree.{agreed}
 use Rattle.ion_text.specs.laws.deciding.Fronts.{origin, Either, HasEnded}
 use Rattle.ion_text.specs.laws.deciding.Lines.{line, lexes_line}

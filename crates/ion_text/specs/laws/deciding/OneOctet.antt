@@ -20,10 +20,10 @@ use Rattle.ion_text.specs.Grammar.{Says, BlankThen, close_place}
 use Rattle.ion_text.specs.Deciding.{Decides, Are, NoColons, Comes, Container, InStruct, place_of, IsKeyword, no_symbol, keyword_as_name, keyword_as_annotation, other_version, null_table, too_deep, struct_too_deep, bad_table}
 use Rattle.ion_text.specs.machine.EachToken.{settle}
 use Rattle.ion_text.specs.machine.TokenLists.{walked, stopped, done, then_walk, reads, reads-append}
-use Rattle.ion_text.specs.laws.reading.Going.{mark_kind}
-use Rattle.ion_text.specs.laws.reading.Pieces.{walked_now}
-use Rattle.ion_text.specs.laws.showing.Cuts.{parted, parts_meet, parts_same, lexed_front}
-use Rattle.ion_text.specs.laws.showing.Once.{begins_lexed}
+use Rattle.ion_text.specs.laws.reading.complete.Going.{mark_kind}
+use Rattle.ion_text.specs.laws.reading.complete.Pieces.{walked_now}
+use Rattle.ion_text.specs.laws.showing.tokens.Cuts.{parted, parts_meet, parts_same, lexed_front}
+use Rattle.ion_text.specs.laws.showing.tokens.Once.{begins_lexed}
 use Rattle.ion_text.specs.laws.deciding.Agree.{agreed}
 use Rattle.ion_text.specs.laws.deciding.AtEnd.{last_ends}
 use Rattle.ion_text.specs.laws.deciding.Fronts.{origin, Came, Either, HasEnded, split}

@@ -16,10 +16,10 @@ use Rattle.ion_text.specs.declared.state.Frame.TheVariants as frames
 use Rattle.ion_text.specs.Grammar.{Says, Annotations, no_annotation, means, Pieces, is_struct, Means, close_place, ends_long, begins_as_long}
 use Rattle.ion_text.specs.Deciding.{Container, InList, InSexp, InStruct, InField, place_of, TakesValue, Open, none_open, list_open, sexp_open, struct_open, named, MayNote, Comes, Ends}
 use Rattle.ion_text.specs.machine.EachToken.{Symbols}
-use Rattle.ion_text.specs.laws.reading.Complete.{depth-struct}
-use Rattle.ion_text.specs.laws.reading.Depths.{Deep}
-use Rattle.ion_text.specs.laws.reading.Held.{IsSome, some_more}
-use Rattle.ion_text.specs.laws.reading.Sound.{Opened, Receives, ReadyFor, value_place}
+use Rattle.ion_text.specs.laws.reading.complete.Complete.{depth-struct}
+use Rattle.ion_text.specs.laws.reading.sound.Depths.{Deep}
+use Rattle.ion_text.specs.laws.reading.sound.Held.{IsSome, some_more}
+use Rattle.ion_text.specs.laws.reading.sound.Sound.{Opened, Receives, ReadyFor, value_place}
 
 abbrev pub container : Frame → Container
 container (frames.List ss vs) = InList

@@ -17,11 +17,11 @@ use Rattle.ion_text.specs.Deciding.{Decides, EndDecides, HasRow, Comes, Containe
 use Rattle.ion_symtab.specs.Trace.{plain}
 use Rattle.ion_text.specs.machine.Run.{State, begun, Run, run, trace, refused_of, ends_of}
 use Rattle.ion_text.specs.machine.Pieces.{on_now}
-use Rattle.ion_text.specs.laws.reading.Accepts.{accepts}
-use Rattle.ion_text.specs.laws.reading.Admits.{admits}
-use Rattle.ion_text.specs.laws.reading.Steps.{Stood, StoodBehind, run_ran, begun_stood}
+use Rattle.ion_text.specs.laws.reading.complete.Accepts.{accepts}
+use Rattle.ion_text.specs.laws.reading.sound.Admits.{admits}
+use Rattle.ion_text.specs.laws.reading.sound.Steps.{Stood, StoodBehind, run_ran, begun_stood}
 use Rattle.ion_text.specs.laws.reading.Stops.{behind_run, stop_of, stop_within, unfinished}
-use Rattle.ion_text.specs.laws.showing.Froms.{Waits, EndsWaiting, run_waits}
+use Rattle.ion_text.specs.laws.showing.tokens.Froms.{Waits, EndsWaiting, run_waits}
 use Rattle.ion_text.specs.laws.deciding.AtEnd.{end_deciding}
 use Rattle.ion_text.specs.laws.deciding.Fronts.{origin, last_in_place, none_refused}
 use Rattle.ion_text.specs.laws.deciding.Octets.{deciding}

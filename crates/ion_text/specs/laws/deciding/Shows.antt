@@ -21,14 +21,14 @@ use Rattle.ion_tokens.proofs.Scans.{placed}
 use Rattle.ion_tokens.proofs.Sounds.{feed_sound}
 use Rattle.ion_text.specs.Grammar.{BlankThen}
 use Rattle.ion_text.specs.Deciding.{Are, AwaitsColons, NoColons, Sight, by_octet}
-use Rattle.ion_text.specs.laws.reading.Admits.{at_end_fine}
-use Rattle.ion_text.specs.laws.reading.Going.{mark_kind}
-use Rattle.ion_text.specs.laws.reading.Meets.{IdleLeft, end_spans, follows_as, idle_left}
-use Rattle.ion_text.specs.laws.reading.Segments.{never}
-use Rattle.ion_text.specs.laws.showing.Ahead.{octet_colons}
-use Rattle.ion_text.specs.laws.showing.Closing.{colons_close}
-use Rattle.ion_text.specs.laws.showing.Cuts.{OpenBehind, Is, behind_tokens, one_found}
-use Rattle.ion_text.specs.laws.showing.Halts.{symbol_colons}
+use Rattle.ion_text.specs.laws.reading.sound.Admits.{at_end_fine}
+use Rattle.ion_text.specs.laws.reading.complete.Going.{mark_kind}
+use Rattle.ion_text.specs.laws.reading.complete.Meets.{IdleLeft, end_spans, follows_as, idle_left}
+use Rattle.ion_text.specs.laws.reading.complete.Segments.{never}
+use Rattle.ion_text.specs.laws.showing.refused.Ahead.{octet_colons}
+use Rattle.ion_text.specs.laws.showing.tokens.Closing.{colons_close}
+use Rattle.ion_text.specs.laws.showing.tokens.Cuts.{OpenBehind, Is, behind_tokens, one_found}
+use Rattle.ion_text.specs.laws.showing.refused.Halts.{symbol_colons}
 
 -- one token more
 lexes_more : (ts : List Placed) (colon : Bool) (before : ℕ) (octets : List ℕ) (after : Bool) (end : ℕ) (rest : List ℕ) (t : Placed) (r : List ℕ) → LexesTo colon before octets ts after end rest → BeginsWith after end rest t r

@@ -41,16 +41,16 @@ use Rattle.ion_text.specs.Deciding.{Container, InList, InSexp, InStruct, InField
 use Rattle.ion_text.specs.machine.EachToken.{under, spot_at, Reading, Turn, goes, gives, refuses, late, Symbols, at, fresh, place, turn, ended, turned, held_word, held_symbol, begun_at, on_ready, resolved, noted}
 use Rattle.ion_text.specs.machine.Run.{token_of}
 use Rattle.ion_text.specs.machine.TokenLists.{Walk, walked, stopped, adds_values, done, on_turn, reads, said_ok, first_token}
-use Rattle.ion_text.specs.laws.reading.Admits.{at_end_fine}
-use Rattle.ion_text.specs.laws.reading.Complete.{depth-struct, starts, notes_read, read_behind, opened_struct, members_read, struct_ends, means_begins}
-use Rattle.ion_text.specs.laws.reading.Depths.{Deep}
-use Rattle.ion_text.specs.laws.reading.Going.{mark_kind}
-use Rattle.ion_text.specs.laws.reading.Meets.{end_spans}
-use Rattle.ion_text.specs.laws.reading.Pieces.{pieces_read, more_read, walked_now}
-use Rattle.ion_text.specs.laws.reading.Places.{pending_at}
-use Rattle.ion_text.specs.laws.reading.Segments.{never}
-use Rattle.ion_text.specs.laws.reading.Sound.{Opened}
-use Rattle.ion_text.specs.laws.showing.Cuts.{lexed_front}
+use Rattle.ion_text.specs.laws.reading.sound.Admits.{at_end_fine}
+use Rattle.ion_text.specs.laws.reading.complete.Complete.{depth-struct, starts, notes_read, read_behind, opened_struct, members_read, struct_ends, means_begins}
+use Rattle.ion_text.specs.laws.reading.sound.Depths.{Deep}
+use Rattle.ion_text.specs.laws.reading.complete.Going.{mark_kind}
+use Rattle.ion_text.specs.laws.reading.complete.Meets.{end_spans}
+use Rattle.ion_text.specs.laws.reading.complete.Pieces.{pieces_read, more_read, walked_now}
+use Rattle.ion_text.specs.machine.Places.{pending_at}
+use Rattle.ion_text.specs.laws.reading.complete.Segments.{never}
+use Rattle.ion_text.specs.laws.reading.sound.Sound.{Opened}
+use Rattle.ion_text.specs.laws.showing.tokens.Cuts.{lexed_front}
 use Rattle.ion_text.specs.laws.deciding.AtEnd.{last_ends}
 use Rattle.ion_text.specs.laws.deciding.Openings.{begins_so}
 use Rattle.ion_text.specs.laws.deciding.Shows.{IsBare, BareSaid, said_bare}

@@ -33,11 +33,11 @@ use Rattle.ion_text.specs.declared.state.Frame.TheVariants as frames
 use Rattle.ion_text.specs.Grammar.{Says, Means, means, one_token, Pieces, close_place, ends_long, begins_as_long, is_keyword, is_version, the_marker}
 use Rattle.ion_text.specs.Deciding.{Ends, IsKeyword, InStruct, Sight, Gives, HasRow, no_symbol, keyword_as_name, keyword_as_annotation, other_version, null_table, too_deep, struct_too_deep, bad_table}
 use Rattle.ion_text.specs.machine.EachToken.{under, spot_at, token_at, Turn, goes, gives, refuses, late, Symbols, at, fresh, place_in, settle, turn_now, ended, within, turned, held_word, held_symbol, released, begun_at, on_ready, on_pending, on_after, on_name, on_comma, on_long, on_long_name, on_keyed, resolved, noted, keyed, named, list_closed, sexp_closed, number_payload}
-use Rattle.ion_text.specs.laws.reading.Depths.{Deep, flat_null}
-use Rattle.ion_text.specs.laws.reading.Held.{none_noted}
-use Rattle.ion_text.specs.laws.reading.Places.{pending_at}
-use Rattle.ion_text.specs.laws.reading.Segments.{never}
-use Rattle.ion_text.specs.laws.reading.Sound.{Opened, ReadyFor, PendingFor, NowStands, IsHeld, symbol_said, value_place}
+use Rattle.ion_text.specs.laws.reading.sound.Depths.{Deep, flat_null}
+use Rattle.ion_text.specs.laws.reading.sound.Held.{none_noted}
+use Rattle.ion_text.specs.machine.Places.{pending_at}
+use Rattle.ion_text.specs.laws.reading.complete.Segments.{never}
+use Rattle.ion_text.specs.laws.reading.sound.Sound.{Opened, ReadyFor, PendingFor, NowStands, IsHeld, symbol_said, value_place}
 use Rattle.ion_text.specs.laws.deciding.Openings.{containers, levels_same, takes_value, says_there, value_comes, name_comes, struct_ends, begins_so}
 use Rattle.ion_text.specs.laws.deciding.Shows.{Shown}
 

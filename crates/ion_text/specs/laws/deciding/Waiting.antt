@@ -36,21 +36,21 @@ use Rattle.ion_text.specs.machine.EachToken.{under, spot_at, Reading, goes, Symb
 use Rattle.ion_text.specs.machine.Run.{State, is_fresh, token_of}
 use Rattle.ion_text.specs.machine.Passed.{said_body}
 use Rattle.ion_text.specs.machine.TokenLists.{Walk, walked, stopped, done, on_turn, continues, reads}
-use Rattle.ion_text.specs.laws.reading.Complete.{starts, pending_goes, released_paid}
-use Rattle.ion_text.specs.laws.reading.Going.{mark_kind}
-use Rattle.ion_text.specs.laws.reading.Held.{no_notes}
-use Rattle.ion_text.specs.laws.reading.Pieces.{pieces_read, walked_now}
-use Rattle.ion_text.specs.laws.reading.Segments.{never}
-use Rattle.ion_text.specs.laws.reading.Sound.{NowStands, EndsAt, symbol_said}
-use Rattle.ion_text.specs.laws.reading.Spans.{IsWaiting}
-use Rattle.ion_text.specs.laws.reading.Steps.{Stood}
-use Rattle.ion_text.specs.laws.showing.Compare.{lexes_once}
-use Rattle.ion_text.specs.laws.showing.Cuts.{parted}
-use Rattle.ion_text.specs.laws.showing.Froms.{Waits}
-use Rattle.ion_text.specs.laws.showing.Opened.{blank_token, colons_token, symbol_colon}
-use Rattle.ion_text.specs.laws.showing.Once.{begins_lexed}
-use Rattle.ion_text.specs.laws.showing.Stays.{Arrived}
-use Rattle.ion_text.specs.laws.showing.Walks.{walking_said, settled_reads, behind_read}
+use Rattle.ion_text.specs.laws.reading.complete.Complete.{starts, pending_goes, released_paid}
+use Rattle.ion_text.specs.laws.reading.complete.Going.{mark_kind}
+use Rattle.ion_text.specs.laws.reading.sound.Held.{no_notes}
+use Rattle.ion_text.specs.laws.reading.complete.Pieces.{pieces_read, walked_now}
+use Rattle.ion_text.specs.laws.reading.complete.Segments.{never}
+use Rattle.ion_text.specs.laws.reading.sound.Sound.{NowStands, EndsAt, symbol_said}
+use Rattle.ion_text.specs.laws.reading.sound.Spans.{IsWaiting}
+use Rattle.ion_text.specs.laws.reading.sound.Steps.{Stood}
+use Rattle.ion_text.specs.laws.showing.tokens.Compare.{lexes_once}
+use Rattle.ion_text.specs.laws.showing.tokens.Cuts.{parted}
+use Rattle.ion_text.specs.laws.showing.tokens.Froms.{Waits}
+use Rattle.ion_text.specs.laws.showing.shown.Opened.{blank_token, colons_token, symbol_colon}
+use Rattle.ion_text.specs.laws.showing.tokens.Once.{begins_lexed}
+use Rattle.ion_text.specs.laws.showing.tokens.Stays.{Arrived}
+use Rattle.ion_text.specs.laws.showing.tokens.Walks.{walking_said, settled_reads, behind_read}
 use Rattle.ion_text.specs.laws.deciding.Openings.{containers, begins_so}
 use Rattle.ion_text.specs.laws.deciding.Shows.{BareSaid, said_bare, awaits_colons, flag, k}
 use Rattle.ion_text.specs.laws.deciding.Fronts.{origin, InPlace, Came, last_in_place, stood_read, item_arrived, item_read, all_told}

@@ -7,8 +7,8 @@ use Rattle.ion_symtab.specs.declared.catalog.Catalog.{Catalog}
 use Rattle.ion_symtab.specs.Trace.{Trace, Streams, plain}
 use Rattle.ion_text.specs.Grammar.{Document}
 use Rattle.ion_text.specs.machine.Run.{trace}
-use Rattle.ion_text.specs.laws.reading.Admits.{admits}
-use Rattle.ion_text.specs.laws.reading.Accepts.{accepts}
+use Rattle.ion_text.specs.laws.reading.sound.Admits.{admits}
+use Rattle.ion_text.specs.laws.reading.complete.Accepts.{accepts}
 use Rattle.ion_atoms.specs.declared.refusal.Reason.{Reason}
 use Rattle.ion_atoms.specs.declared.refusal.Reason.TheVariants as reasons
 use Rattle.ion_symtab.specs.Decided.{IsDecided}

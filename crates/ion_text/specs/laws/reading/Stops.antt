@@ -21,9 +21,9 @@ use Rattle.ion_text.specs.Grammar.{Document}
 use Rattle.ion_text.specs.machine.EachToken.{Reading, Turn, goes, gives, refuses, late, place, settle, turn}
 use Rattle.ion_text.specs.machine.Run.{State, Effect, uses, tells, leaves, fails, begun, eats, Run, run, run_on, once_more, trace, ends_of, refused_of, cut_short, end_late, end_settled, end_turned, end_said, end_waiting, end_ready, end_now, is_fresh, token_of}
 use Rattle.ion_text.specs.machine.Pieces.{run-append, on_now, grows}
-use Rattle.ion_text.specs.laws.reading.Steps.{Stood, StoodBehind, run_ran, begun_stood}
-use Rattle.ion_text.specs.laws.reading.Admits.{stood_accepted}
-use Rattle.ion_text.specs.laws.reading.Accepts.{accepts}
+use Rattle.ion_text.specs.laws.reading.sound.Steps.{Stood, StoodBehind, run_ran, begun_stood}
+use Rattle.ion_text.specs.laws.reading.sound.Admits.{stood_accepted}
+use Rattle.ion_text.specs.laws.reading.complete.Accepts.{accepts}
 use Rattle.ion_text.specs.laws.reading.ValuesKept.{pieces_values}
 use Rattle.ion_tokens.proofs.Ended.{stands_used}
 

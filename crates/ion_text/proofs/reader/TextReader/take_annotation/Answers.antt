@@ -2,7 +2,7 @@ use Rattle.std.proofs.Common.{◌++◌, ◌∷◌, [], ap, ◌∙◌, subst, ref
 use Rattle.ion_tokens.specs.declared.mode.Mark.TheVariants as marks
 use Rattle.ion_tokens.specs.declared.mode.TokenKind.TheVariants as kinds
 use Rattle.ion_tokens.specs.machine.Rests.{past_token, past_blank}
-use Rattle.ion_text.specs.laws.reading.FrontTokens.{BeginsSymbol}
+use Rattle.ion_text.specs.machine.FrontTokens.{BeginsSymbol}
 use Rattle.ion_text.specs.machine.EachToken.{at, place}
 use Rattle.ion_text.specs.machine.Views.{open_frames, reading_of}
 use Rattle.ion_text.proofs.Arms.{Moved}

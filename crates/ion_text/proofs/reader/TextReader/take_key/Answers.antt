@@ -3,7 +3,7 @@ use Rattle.ion_tokens.specs.declared.mode.Mark.TheVariants as marks
 use Rattle.ion_tokens.specs.declared.mode.TokenKind.TheVariants as kinds
 use Rattle.ion_tokens.specs.machine.Rests.{past_token, past_blank}
 use Rattle.ion_text.specs.declared.state.Effect.{Effect}
-use Rattle.ion_text.specs.laws.reading.FrontTokens.{BeginsName}
+use Rattle.ion_text.specs.machine.FrontTokens.{BeginsName}
 use Rattle.ion_text.specs.machine.EachToken.{named, place}
 use Rattle.ion_text.specs.machine.Views.{open_frames, reading_of, Does, SameSetting}
 use Rattle.ion_text.proofs.Arms.{with_scanner, Moved}

@@ -2,7 +2,7 @@ use Rattle.std.proofs.Common.{subst}
 use Rattle.std.specs.Prelude.{IfSome}
 use Rattle.ion_tokens.specs.Bodies.{content}
 use Rattle.ion_tokens.specs.machine.Views.{octets_in}
-use Rattle.ion_text.specs.laws.reading.FrontTokens.{Names}
+use Rattle.ion_text.specs.machine.FrontTokens.{Names}
 use Rattle.ion_text.proofs.Symbols.{inside_beside}
 use Rattle.ion_text.proofs.reader.TextReader.take_rare_name.Goals as goal
 

@@ -1,6 +1,6 @@
 use Rattle.std.proofs.Common.{◌≡◌, ◌-◌, Some, ap, sym, ◌∙◌, subst, take, drop}
 use Rattle.std.proofs.lemmas.List.{take_rest}
-use Rattle.ion_text.specs.laws.reading.FrontTokens.{BeginsName}
+use Rattle.ion_text.specs.machine.FrontTokens.{BeginsName}
 use Rattle.ion_text.proofs.reader.TextReader.take_text_name.Goals as goal
 
 pub take_key-requires-clause-token : goal.take_key-requires-clause-token

@@ -2,7 +2,7 @@ use Rattle.std.proofs.Common.{◌+◌, ◌<◌, Ok, ap, ◌∙◌, subst, arith,
 use Rattle.ion_model.specs.Measures.{annotated}
 use Rattle.ion_tokens.specs.machine.Rests.{past_token}
 use Rattle.ion_text.specs.declared.state.Effect.{Effect}
-use Rattle.ion_text.specs.laws.reading.FrontTokens.{BeginsValue}
+use Rattle.ion_text.specs.machine.FrontTokens.{BeginsValue}
 use Rattle.ion_text.specs.machine.EachToken.{ended}
 use Rattle.ion_text.specs.machine.Views.{setting_of, spot_of, open_frames, Does}
 use Rattle.ion_text.proofs.Arms.{Moved}

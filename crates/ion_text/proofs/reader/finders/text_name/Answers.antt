@@ -1,7 +1,7 @@
 use Rattle.std.proofs.Common.{◌-◌, ◌∙◌, Some, ap, sym, subst, take}
 use Rattle.std.proofs.lemmas.List.{take_rest}
 use Rattle.ion_tokens.specs.declared.mode.Place.TheVariants as places
-use Rattle.ion_text.specs.laws.reading.FrontTokens.{BeginsName}
+use Rattle.ion_text.specs.machine.FrontTokens.{BeginsName}
 use Rattle.ion_text.proofs.reader.finders.text_name.Goals as goal
 
 pub returns : goal.returns

@@ -2,7 +2,7 @@ use Rattle.std.proofs.Common.{◌≡◌, ◌≢◌, ◌∙◌, ap, sym, subst, a
 use Rattle.ion_tokens.specs.declared.mode.Place.TheVariants as places
 use Rattle.ion_tokens.specs.declared.mode.TokenKind.TheVariants as tokens
 use Rattle.ion_text.specs.Grammar.{is_keyword}
-use Rattle.ion_text.specs.laws.reading.FrontTokens.{BeginsName}
+use Rattle.ion_text.specs.machine.FrontTokens.{BeginsName}
 use Rattle.ion_text.proofs.Symbols as symbols
 use Rattle.ion_text.proofs.reader.finders.word_name.Goals as goal
 

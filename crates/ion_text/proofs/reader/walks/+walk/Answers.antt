@@ -5,7 +5,7 @@ use Rattle.ion_visiting.specs.Visits.{bare_visited, no_items, one_item, no_field
 use Rattle.ion_tokens.specs.declared.mode.Mark.TheVariants as marks
 use Rattle.ion_text.specs.declared.state.Frame.TheVariants as frames
 use Rattle.ion_text.specs.declared.state.Now.TheVariants as nows
-use Rattle.ion_text.specs.laws.reading.Complete.{depths, field_depths}
+use Rattle.ion_text.specs.laws.reading.complete.Complete.{depths, field_depths}
 use Rattle.ion_text.proofs.Walking.{gone_none, gone_blank, element_now, element_still, field_now, field_still, field_nodes, ListGone, FieldsGone, list_value_on, sexp_value_on, list_comma_on, field_comma_on, name_on, field_value_on}
 use Rattle.ion_text.proofs.Visited.{containers_visited, container_visited, list_visited, sexp_visited, fields_visited}
 use Rattle.ion_text.proofs.reader.walks.+walk.Goals as goal

@@ -1,7 +1,7 @@
 use Rattle.std.proofs.Common.{Some, ap, sym, subst}
 use Rattle.ion_tokens.specs.Bodies.{content}
 use Rattle.ion_tokens.specs.machine.Views.{octets_in}
-use Rattle.ion_text.specs.laws.reading.FrontTokens.{Names}
+use Rattle.ion_text.specs.machine.FrontTokens.{Names}
 use Rattle.ion_text.proofs.reader.walks.walk_rare_name.Goals as goal
 
 pub walk_key-requires-clause-name : goal.walk_key-requires-clause-name

@@ -1,0 +1,201 @@
+-- The scanner meets the tokens that octets are.
+use Rattle.std.proofs.Common.{◌≡◌, ℕ, ◌+◌, ◌-◌, Bool, true, false, List, [], ◌∷◌, ◌++◌, length, drop, refl, sym, ap, ◌∙◌, subst, arith, Ok, Some, None, ◌⊎◌, inl, inr}
+use Rattle.ion_model.specs.declared.value.Value.{Value}
+use Rattle.ion_symtab.specs.declared.limits.Limits.{Limits}
+use Rattle.ion_symtab.specs.declared.catalog.Catalog.{Catalog}
+use Rattle.ion_tokens.specs.declared.mode.Place.{Place}
+use Rattle.ion_tokens.specs.declared.mode.Place.TheVariants as places
+use Rattle.ion_tokens.specs.declared.mode.TokenKind.TheVariants as kinds
+use Rattle.ion_tokens.specs.machine.Table.{is_sexp}
+use Rattle.ion_tokens.specs.Bodies.{Content}
+use Rattle.ion_tokens.specs.machine.Scanning.{Known, Lexeme, Outcome, Next, Given, Left, Refused, feed, follow, run, at_end, initial}
+use Rattle.ion_tokens.specs.Lexed.{Placed, Lexes, LexesBefore, Begun}
+use Rattle.ion_tokens.proofs.Found as found
+use Rattle.ion_tokens.proofs.Histories.{stands_finds, behind_front}
+use Rattle.ion_tokens.proofs.Runs.{feed_used}
+use Rattle.ion_tokens.proofs.Splits.{GivenSplit, given_split, LeftSplit, left_split}
+use Rattle.ion_text.specs.machine.EachToken.{Reading, Turn, goes, gives, refuses, late, settle, turn}
+use Rattle.ion_text.specs.machine.Run.{is_top, token_of}
+use Rattle.ion_text.specs.machine.TokenLists.{continues}
+use Rattle.ion_text.specs.machine.Places.{Leading, settle_still}
+use Rattle.ion_text.specs.laws.reading.sound.Spans.{IsClose}
+use Rattle.ion_tokens.specs.Lexemes.{IsLexeme}
+use Rattle.ion_tokens.specs.machine.Said.{said}
+use Rattle.ion_text.specs.laws.reading.sound.Quotes.{is_close}
+use Rattle.ion_text.specs.machine.Passed.{said_body}
+use Rattle.ion_text.specs.laws.reading.complete.Meets.{Meets, at_blank, at_token, in_blank, goes_on, is_given, is_left}
+use Rattle.ion_text.specs.laws.reading.complete.Going.{Operators, Going, InsideNext, stays, closed, TurnGoes, going_said, going_turn, going_settle, inside_token, inside_end, top_place, closes_kind}
+use Rattle.ion_text.specs.machine.Pieces.{followed}
+
+-- What the scanner finds in octets up to the end of the input. An operator before a last word that begins as `inf` is told by neither.
+pub data Finds : Known → List ℕ → List Placed → Type 0 where
+  nothing : (s : Known) (octets : List ℕ) → ((p : Place) → (s' : Known) × (run p octets s ≡ Next s') × (at_end p s' ≡ Ok None)) → Finds s octets []
+  last : (s : Known) (octets : List ℕ) (t : Placed) (s' : Known) → run t.place octets s ≡ Next s' → at_end t.place s' ≡ Ok (Some t.lexeme) → Finds s octets (t ∷ [])
+  gives' : (s : Known) (octets : List ℕ) (t : Placed) (ts : List Placed) (s' : Known) → run t.place octets s ≡ Given t.lexeme s' → Finds s' (drop (s'.used - s.used) octets) ts → Finds s octets (t ∷ ts)
+  leaves' : (s : Known) (octets : List ℕ) (t : Placed) (ts : List Placed) (s' : Known) → run t.place octets s ≡ Left t.lexeme s' → Finds s' (drop (s'.used - s.used) octets) ts → Finds s octets (t ∷ ts)
+  unclosed : (s : Known) (octets : List ℕ) (t w : Placed) → t.lexeme.kind ≡ kinds.Operator → w.lexeme.kind ≡ kinds.Word → Finds s octets (t ∷ w ∷ [])
+
+pub next_is : (s t : Known) → Next s ≡ Next t → s ≡ t
+next_is s t e = ap (state_in s) e
+  where
+    state_in : Known → Outcome → Known
+    state_in d (Next x) = x
+    state_in d _ = d
+
+-- Behind letters of a word, at the end of the input, there is no token, or that word alone.
+pub alone_word : (letters : List ℕ) (colon : Bool) (start used : ℕ) (ts : List Placed) → found.Finds (found.in_word letters colon start used) [] ts → (ts ≡ []) ⊎ ((w : Placed) × (ts ≡ w ∷ []) × (w.lexeme.kind ≡ kinds.Word))
+alone_word letters colon start used _ (found.Nothing _ _ f) = inl refl
+alone_word letters colon start used _ (found.Last _ _ t s' e f) = inr (t, refl, kind_of t.lexeme (ap (at_end t.place) (next_is (found.in_word letters colon start used) s' e) ∙ f))
+  where
+    kind_of : (x : Lexeme) → at_end t.place (found.in_word letters colon start used) ≡ Ok (Some x) → x.kind ≡ kinds.Word
+    kind_of x h = cc
+alone_word letters colon start used _ (found.Gives _ _ t ts s' e f) = absurd cc
+alone_word letters colon start used _ (found.Leaves _ _ t ts s' e f) = absurd cc
+alone_word letters colon start used _ (found.Unclosed _ _ t ts s' c more bare e f first operator rest) = absurd (let h = ap (at_end t.place) (next_is (found.in_word letters colon start used) s' e) ∙ f in cc)
+
+lexes_found : (s : Known) (octets : List ℕ) (ts : List Placed) → found.Finds s octets ts → Finds s octets ts
+lexes_found _ _ _ (found.Nothing s octets f) = nothing s octets f
+lexes_found _ _ _ (found.Last s octets t s' e f) = last s octets t s' e f
+lexes_found _ _ _ (found.Gives s octets t ts s' e f) = gives' s octets t ts s' e (lexes_found s' (drop (s'.used - s.used) octets) ts f)
+lexes_found _ _ _ (found.Leaves s octets t ts s' e f) = leaves' s octets t ts s' e (lexes_found s' (drop (s'.used - s.used) octets) ts f)
+lexes_found _ _ _ (found.Unclosed s octets t ts s' colon letters bare e f first operator rest) = by (alone_word letters colon t.lexeme.end s'.used ts rest)
+  where
+    by : (ts ≡ []) ⊎ ((w : Placed) × (ts ≡ w ∷ []) × (w.lexeme.kind ≡ kinds.Word)) → Finds s octets (t ∷ ts)
+    by (inl none) = absurd (bare none)
+    by (inr (w, alone, word)) = subst (λ y. Finds s octets (t ∷ y)) (sym alone) (unclosed s octets t w operator word)
+
+pub lexes_finds : (octets : List ℕ) (ts : List Placed) → Lexes false 0 octets ts → Finds initial octets ts
+lexes_finds octets ts h = lexes_found initial octets ts (stands_finds initial [] [] [] octets ts Begun octets refl h)
+
+blank_met : (os : List ℕ) (s s' : Known) → run places.Top os s ≡ Next s' → at_end places.Top s' ≡ Ok None → Meets s os []
+blank_met [] s s' e f = at_blank s (ap (at_end places.Top) (next_is s s' e) ∙ f)
+blank_met (o ∷ os) s s' e f =
+    let h = followed (feed places.Top s o) (λ k. run places.Top os k) s' e in
+    in_blank s o os h.0 h.1 (blank_met os h.0 s' h.2 f)
+
+last_met : (os : List ℕ) (s s' : Known) (t : Placed) → run t.place os s ≡ Next s' → at_end t.place s' ≡ Ok (Some t.lexeme) → Meets s os (t ∷ [])
+last_met [] s s' t e f = at_token s t (ap (at_end t.place) (next_is s s' e) ∙ f)
+last_met (o ∷ os) s s' t e f =
+    let h = followed (feed t.place s o) (λ k. run t.place os k) s' e in
+    goes_on s o os t [] h.0 h.1 (last_met os h.0 s' t h.2 f)
+
+no_more : (os : List ℕ) → length os ≡ 0 → os ≡ []
+no_more [] h = refl
+no_more (o ∷ os) h = absurd (omega arith)
+
+given_met : (os rest : List ℕ) (s s' : Known) (t : Placed) (ts : List Placed) → run t.place os s ≡ Given t.lexeme s' → s'.used ≡ s.used + length os → Meets s' rest ts → Meets s (os ++ rest) (t ∷ ts)
+given_met [] rest s s' t ts e n m = absurd cc
+given_met (o ∷ os) rest s s' t ts e n m = go (feed t.place s o) refl e (λ k f i. given_met os rest k s' t ts f i m)
+  where
+    one : (l : Lexeme) → feed t.place s o ≡ Given l s' → s'.used ≡ s.used + 1
+    one l f = by (given_split t.place (o ∷ []) s s' l (ap (λ y. follow y (λ k. Next k)) f))
+      where
+        by : GivenSplit t.place (o ∷ []) s s' l → s'.used ≡ s.used + 1
+        by d = cut d.octets d.rest d.cut d.ran d.used
+          where
+            cut : (xs ys : List ℕ) → o ∷ [] ≡ xs ++ ys → run t.place xs s ≡ Given l s' → s'.used ≡ s.used + length xs → s'.used ≡ s.used + 1
+            cut [] ys c r u = absurd cc
+            cut (y ∷ []) ys c r u = u
+            cut (y ∷ z ∷ xs) ys c r u = absurd cc
+
+    go : (x : Outcome) → feed t.place s o ≡ x → follow x (λ k. run t.place os k) ≡ Given t.lexeme s' → ((k : Known) → run t.place os k ≡ Given t.lexeme s' → s'.used ≡ k.used + length os → Meets k (os ++ rest) (t ∷ ts)) → Meets s (o ∷ os ++ rest) (t ∷ ts)
+    go (Next k) f h more = goes_on s o (os ++ rest) t ts k f (more k h (let u = feed_used t.place s k o f in omega (arith, u, n)))
+    go (Given x k) f h more =
+        let u = one t.lexeme (f ∙ h) in
+        let none : os ≡ [] = no_more os (omega (arith, u, n)) in
+        is_given s o (os ++ rest) t ts s' (f ∙ h) (subst (λ y. Meets s' (y ++ rest) ts) (sym none) m)
+    go (Left x k) f h more = absurd cc
+    go (Refused i x) f h more = absurd cc
+
+left_met : (os : List ℕ) (x : ℕ) (rest : List ℕ) (s s' : Known) (t : Placed) (ts : List Placed) → run t.place (os ++ x ∷ []) s ≡ Left t.lexeme s' → s'.used ≡ s.used + length os → Meets s' (x ∷ rest) ts → Meets s (os ++ x ∷ rest) (t ∷ ts)
+left_met [] x rest s s' t ts e n m = go (feed t.place s x) refl e
+  where
+    go : (y : Outcome) → feed t.place s x ≡ y → follow y (λ k. Next k) ≡ Left t.lexeme s' → Meets s (x ∷ rest) (t ∷ ts)
+    go (Left l k) f h = is_left s x rest t ts s' (f ∙ h) m
+    go (Next k) f h = absurd cc
+    go (Given l k) f h = absurd cc
+    go (Refused i l) f h = absurd cc
+left_met (o ∷ os) x rest s s' t ts e n m = go (feed t.place s o) refl e (λ k f i. left_met os x rest k s' t ts f i m)
+  where
+    one : (l : Lexeme) → feed t.place s o ≡ Left l s' → s'.used ≡ s.used
+    one l f = by (left_split t.place (o ∷ []) s s' l (ap (λ y. follow y (λ k. Next k)) f))
+      where
+        by : LeftSplit t.place (o ∷ []) s s' l → s'.used ≡ s.used
+        by d = cut d.octets d.octet d.rest d.cut d.used
+          where
+            cut : (xs : List ℕ) (y : ℕ) (ys : List ℕ) → o ∷ [] ≡ xs ++ y ∷ ys → s'.used ≡ s.used + length xs → s'.used ≡ s.used
+            cut [] y ys c u = omega (arith, u)
+            cut (z ∷ []) y ys c u = absurd cc
+            cut (z ∷ w ∷ xs) y ys c u = absurd cc
+
+    go : (y : Outcome) → feed t.place s o ≡ y → follow y (λ k. run t.place (os ++ x ∷ []) k) ≡ Left t.lexeme s' → ((k : Known) → run t.place (os ++ x ∷ []) k ≡ Left t.lexeme s' → s'.used ≡ k.used + length os → Meets k (os ++ x ∷ rest) (t ∷ ts)) → Meets s (o ∷ os ++ x ∷ rest) (t ∷ ts)
+    go (Next k) f h more = goes_on s o (os ++ x ∷ rest) t ts k f (more k h (let u = feed_used t.place s k o f in omega (arith, u, n)))
+    go (Left l k) f h more = let u = one t.lexeme (f ∙ h) in absurd (omega (arith, u, n))
+    go (Given l k) f h more = absurd cc
+    go (Refused i l) f h more = absurd cc
+
+module _ (g : Catalog) (l : Limits) where
+  -- some reading from which the tokens go on
+  abbrev pub Goes : List Placed → Type 0
+  Goes ts = (r : Reading) × (all : List Value) × Going g l r ts all
+
+  turned_goes : (t : Turn) (ts : List Placed) (all : List Value) → TurnGoes g l t ts all → Goes ts
+  turned_goes (goes r) ts all d = (r, all, d)
+  turned_goes (gives v r) ts all d = (r, d.0, d.2)
+  turned_goes (refuses e) ts all d = absurd d
+  turned_goes (late e r) ts all d = absurd d
+
+  -- from the tokens behind one
+  next_goes : (t : Placed) (ts : List Placed) → Goes (t ∷ ts) → Goes ts
+  next_goes t ts (r, all, d) = go (continues r (token_of t.lexeme (going_said g l r t ts all d).1)) refl
+    where
+      settled : (x : Turn) → Leading g l (λ n. settle g l n ≡ goes n) x → TurnGoes g l x (t ∷ ts) all → Goes ts
+      settled (goes m) k e = let p = going_said g l m t ts all e in turned_goes (turn g l m (token_of t.lexeme p.1)) ts all (going_turn g l m t ts all p.1 e p.2 (inr k))
+      settled (gives v m) k e = let p = going_said g l m t ts e.0 e.2 in turned_goes (turn g l m (token_of t.lexeme p.1)) ts e.0 (going_turn g l m t ts e.0 p.1 e.2 p.2 (inr k))
+      settled (refuses y) k e = absurd e
+      settled (late y m) k e = absurd e
+
+      go : (b : Bool) → continues r (token_of t.lexeme (going_said g l r t ts all d).1) ≡ b → Goes ts
+      go true w = let p = going_said g l r t ts all d in turned_goes (turn g l r (token_of t.lexeme p.1)) ts all (going_turn g l r t ts all p.1 d p.2 (inl w))
+      go false w = let p = going_said g l r t ts all d in settled (settle g l r) (settle_still g l r.start r.context r.frames r.notes r.now) (going_settle g l r t ts all p.1 d p.2 w)
+
+  -- an s-expression is closed behind its operators
+  pub never_unclosed : (t w : Placed) → Operators (t ∷ w ∷ []) → t.lexeme.kind ≡ kinds.Operator → w.lexeme.kind ≡ kinds.Word → Goes (t ∷ w ∷ []) → ⊥
+  never_unclosed t w ops k j (r, all, d) = by (is_top r.frames) refl
+    where
+      no_close : (x : Placed) (c : Content) → said x.lexeme.kind x.lexeme.octets ≡ Ok c → is_close x.lexeme.kind ≡ false → IsClose false c → ⊥
+      no_close x c e f i = let n : true ≡ false = sym (closes_kind x.lexeme.kind x.lexeme.octets c i (said_body x.lexeme.kind x.lexeme.octets c e)) ∙ f in cc
+
+      second : (start : ℕ) (c : Content) → InsideNext g l start t c (w ∷ []) → said t.lexeme.kind t.lexeme.octets ≡ Ok c → ⊥
+      second start c (closed a b) e = no_close t c e (ap is_close k) b
+      second start c (stays m rest a b d) e = let p = going_said g l m w [] rest d in third m.start p.1 (inside_token g l m w p.1 [] rest a d p.2) p.2
+        where
+          third : (start : ℕ) (c : Content) → InsideNext g l start w c [] → said w.lexeme.kind w.lexeme.octets ≡ Ok c → ⊥
+          third start c (closed a b) e = no_close w c e (ap is_close j) b
+          third start c (stays m rest a b d) e = inside_end g l m rest a d
+
+      by : (b : Bool) → is_top r.frames ≡ b → ⊥
+      by true h = let p = going_said g l r t (w ∷ []) all d in let n : true ≡ false = sym (ops.0 k) ∙ ap is_sexp (p.0 ∙ top_place r.frames r.now h) in cc
+      by false h = let p = going_said g l r t (w ∷ []) all d in second r.start p.1 (inside_token g l r t p.1 (w ∷ []) all h d p.2) p.2
+
+  -- Of a document the scanner meets the tokens octet by octet.
+  pub finds_met : (s : Known) (os : List ℕ) (ts : List Placed) → Finds s os ts → Operators ts → Goes ts → Meets s os ts
+  finds_met _ _ _ (nothing s os f) ops d = let h = f places.Top in blank_met os s h.0 h.1 h.2
+  finds_met _ _ _ (last s os t s' e f) ops d = last_met os s s' t e f
+  finds_met _ _ _ (gives' s os t ts s' e f) ops d =
+      let x = given_split t.place os s s' t.lexeme e in
+      let rest = finds_met s' (drop (s'.used - s.used) os) ts f ops.1 (next_goes t ts d) in
+      let same : drop (s'.used - s.used) os ≡ x.rest = ap (λ y. drop (s'.used - s.used) y) x.cut ∙ behind_front x.octets x.rest s.used s'.used x.used in
+      subst (λ y. Meets s y (t ∷ ts)) (sym x.cut) (given_met x.octets x.rest s s' t ts x.ran x.used (subst (λ y. Meets s' y ts) same rest))
+  finds_met _ _ _ (leaves' s os t ts s' e f) ops d =
+      let x = left_split t.place os s s' t.lexeme e in
+      let rest = finds_met s' (drop (s'.used - s.used) os) ts f ops.1 (next_goes t ts d) in
+      let same : drop (s'.used - s.used) os ≡ x.octet ∷ x.rest = ap (λ y. drop (s'.used - s.used) y) x.cut ∙ behind_front x.octets (x.octet ∷ x.rest) s.used s'.used x.used in
+      subst (λ y. Meets s y (t ∷ ts)) (sym x.cut) (left_met x.octets x.octet x.rest s s' t ts x.ran x.used (subst (λ y. Meets s' y ts) same rest))
+  finds_met _ _ _ (unclosed s os t w k j) ops d = absurd (never_unclosed t w ops k j d)
+
+-- operators stand in s-expressions
+pub lexes_operators : (End : Bool → ℕ → List ℕ → Type 0) (ts : List Placed) (colon : Bool) (before : ℕ) (octets : List ℕ) → LexesBefore End colon before octets ts → Operators ts
+lexes_operators End [] colon before octets h = tt
+lexes_operators End (t ∷ ts) colon before octets (rest, b, more) =
+    ((λ e. (subst (λ k. IsLexeme t.place colon b.token rest k t.lexeme.octets) e b.is).1), lexes_operators End ts _ t.lexeme.end rest more)

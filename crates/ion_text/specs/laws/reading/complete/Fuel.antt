@@ -1,0 +1,191 @@
+-- An octet that is left is taken up at most twice more, so that three tries are enough.
+use Rattle.std.proofs.Common.{◌≡◌, ℕ, suc, Bool, true, false, refl, sym, ap, subst, Result, Ok, Err, if◌then◌else◌, ◌⊎◌, inl, inr}
+use Rattle.std.specs.Prelude.{◌&&◌, not, nat_le}
+use Rattle.ion_atoms.specs.declared.refusal.Reason.{Reason}
+use Rattle.ion_atoms.specs.declared.refusal.Reason.TheVariants as reasons
+use Rattle.ion_tokens.specs.machine.Bounds.{is_idle}
+use Rattle.ion_symtab.specs.declared.limits.Limits.{Limits}
+use Rattle.ion_symtab.specs.declared.catalog.Catalog.{Catalog}
+use Rattle.ion_tokens.specs.declared.mode.Place.{Place}
+use Rattle.ion_tokens.specs.declared.mode.Mode.{Mode}
+use Rattle.ion_tokens.specs.declared.mode.Mode.TheVariants as modes
+use Rattle.ion_tokens.specs.declared.mode.TokenKind.TheVariants as kinds
+use Rattle.ion_tokens.specs.Bodies.{Content}
+use Rattle.ion_tokens.specs.machine.Scanning.{Known, Lexeme, Outcome, Next, Given, Left, Refused, feed}
+use Rattle.ion_tokens.specs.machine.Said.{said}
+use Rattle.ion_text.specs.machine.EachToken.{Reading, Turn, goes, gives, refuses, late, place, settle, turn}
+use Rattle.ion_text.specs.machine.Run.{State, Effect, uses, tells, leaves, fails, eats, takes, unsettled, shut, reaches, noticed, on_octet, on_scan, on_settled, on_said, behind_given, behind_left, or_worse, with_scan, token_of, Run, run_on, once_more}
+use Rattle.ion_tokens.specs.machine.Ahead.{IsUsed, LeftIn, LeavesIn}
+use Rattle.ion_tokens.specs.laws.Again as again
+use Rattle.ion_tokens.specs.laws.Again.{blank_uses, slash_uses, word_leaves}
+use Rattle.ion_text.specs.laws.reading.sound.Quotes.{Fine, Finely, feed_fine}
+
+-- the octet is used from here in each place
+abbrev pub UsedHere : Known → ℕ → Type 0
+UsedHere s o = (p : Place) → IsUsed (feed p s o)
+
+-- it is used, or left where it is used next
+abbrev pub UsedThen : ℕ → Outcome → Type 0
+UsedThen o (Left x t) = UsedHere t o
+UsedThen o _ = Unit {0}
+
+-- it is used, or left once more
+abbrev pub Twice : Known → ℕ → Type 0
+Twice s o = (p : Place) → UsedThen o (feed p s o)
+
+-- what comes of an octet that ended a token before it
+abbrev pub Leaving : ℕ → Outcome → Type 0
+Leaving o (Left x s) = (UsedHere s o ⊎ (x.kind ≡ kinds.Operator)) × Twice s o
+Leaving o _ = Unit {0}
+
+used_then : (o : ℕ) (x : Outcome) → IsUsed x → UsedThen o x
+used_then o (Left x t) u = absurd u
+used_then o (Next t) u = tt
+used_then o (Given x t) u = tt
+used_then o (Refused n e) u = tt
+
+used_twice : (s : Known) (o : ℕ) → UsedHere s o → Twice s o
+used_twice s o h p = used_then o (feed p s o) (h p)
+
+word_twice : (s : Known) (o : ℕ) → s.mode ≡ modes.Word → Twice s o
+word_twice s o e p = go (feed p s o) refl
+  where
+    go : (x : Outcome) → feed p s o ≡ x → UsedThen o x
+    go (Left x t) f = λ q. blank_uses q t o (word_leaves p s t o x e f)
+    go (Next t) f = tt
+    go (Given x t) f = tt
+    go (Refused n y) f = tt
+
+by_mode : (s : Known) (x : Lexeme) (o : ℕ) → LeftIn o s.mode → (is_idle s.mode ≡ true) ⊎ (x.kind ≡ kinds.Operator) → Leaving o (Left x s)
+by_mode s x o = go s.mode refl
+  where
+    once : UsedHere s o → Leaving o (Left x s)
+    once f = (inl f, used_twice s o f)
+
+    go : (m : Mode) → s.mode ≡ m → LeftIn o m → (is_idle m ≡ true) ⊎ (x.kind ≡ kinds.Operator) → Leaving o (Left x s)
+    go modes.Blank e h i = once (λ p. blank_uses p s o e)
+    go modes.Slash e h i = once (λ p. slash_uses p s o e h)
+    go modes.Word e h (inl i) = absurd cc
+    go modes.Word e h (inr i) = (inr i, word_twice s o e)
+    go modes.LineComment e h i = absurd h
+    go modes.BlockComment e h i = absurd h
+    go modes.BlockCommentStar e h i = absurd h
+    go modes.Colon e h i = absurd h
+    go modes.KindName e h i = absurd h
+    go modes.Number e h i = absurd h
+    go modes.NumberSlash e h i = absurd h
+    go (modes.Operator n) e h i = absurd h
+    go modes.OperatorSlash e h i = absurd h
+    go (modes.Infinity n) e h i = absurd h
+    go modes.Quote e h i = absurd h
+    go modes.Quotes e h i = absurd h
+    go (modes.Text t w) e h i = absurd h
+    go modes.Brace e h i = absurd h
+    go (modes.Lob t) e h i = absurd h
+
+pub feed_leaves : (p : Place) (s : Known) (o : ℕ) → Fine s → Leaving o (feed p s o)
+feed_leaves p s o f = go (feed p s o) (again.feed_leaves p s o) (feed_fine p s o f)
+  where
+    go : (x : Outcome) → LeavesIn o x → Finely s.mode x → Leaving o x
+    go (Left x t) h k = by_mode t x o h k.4
+    go (Next t) h k = tt
+    go (Given x t) h k = tt
+    go (Refused n e) h k = tt
+
+module _ (g : Catalog) (l : Limits) where
+  -- where the octet is used, it isn't taken up again
+  scan_used : (a b : State → Effect) (r : Reading) (x : Outcome) → IsUsed x → on_scan g l a r x ≡ on_scan g l b r x
+  scan_used a b r (Next s) u = refl
+  scan_used a b r (Given x s) u = refl
+  scan_used a b r (Left x s) u = absurd u
+  scan_used a b r (Refused n e) u = refl
+
+  settled_used : (a b : State → Effect) (s : Known) (x : Outcome) (t : Turn) → ((r : Reading) → on_scan g l a r x ≡ on_scan g l b r x) → on_settled g l a s x t ≡ on_settled g l b s x t
+  settled_used a b s x (goes r) h = h r
+  settled_used a b s x (gives v r) h = refl
+  settled_used a b s x (refuses e) h = refl
+  settled_used a b s x (late e r) h = ap (or_worse e) (h r)
+
+  octet_used : (a b : State → Effect) (m : State) (x : Outcome) → ((r : Reading) → on_scan g l a r x ≡ on_scan g l b r x) → on_octet g l a m x ≡ on_octet g l b m x
+  octet_used a b m x h = go (unsettled m.scan m.reading x)
+    where
+      go : (w : Bool) → (if w then on_scan g l a m.reading x else on_settled g l a m.scan x (settle g l m.reading)) ≡ (if w then on_scan g l b m.reading x else on_settled g l b m.scan x (settle g l m.reading))
+      go true = h m.reading
+      go false = settled_used a b m.scan x (settle g l m.reading) h
+
+  once_fuel : (n k : ℕ) (m : State) (o : ℕ) → UsedHere m.scan o → takes g l (suc n) m o ≡ takes g l (suc k) m o
+  once_fuel n k m o u = octet_used (λ x. takes g l n x o) (λ x. takes g l k x o) m (feed (place m.reading) m.scan o) (λ r. scan_used (λ x. takes g l n x o) (λ x. takes g l k x o) r (feed (place m.reading) m.scan o) (u (place m.reading)))
+
+  left_same : (a b : State → Effect) (s : Known) (t : Turn) → ((r : Reading) → a (with_scan s r) ≡ b (with_scan s r)) → behind_left a s t ≡ behind_left b s t
+  left_same a b s (goes r) h = h r
+  left_same a b s (gives v r) h = refl
+  left_same a b s (refuses e) h = refl
+  left_same a b s (late e r) h = ap (or_worse e) (h r)
+
+  said_same : (f h : Content → Effect) (c : Result Content Reason) → ((c : Content) → f c ≡ h c) → on_said c f ≡ on_said c h
+  said_same f h (Ok c) e = e c
+  said_same f h (Err x) e = refl
+
+  -- two tries more are as good as three
+  pub twice_fuel : (m : State) (o : ℕ) → Twice m.scan o → takes g l 2 m o ≡ takes g l 3 m o
+  twice_fuel m o u = octet_used (λ x. takes g l 1 x o) (λ x. takes g l 2 x o) m (feed (place m.reading) m.scan o) (λ r. same r (feed (place m.reading) m.scan o) (u (place m.reading)))
+    where
+      same : (r : Reading) (x : Outcome) → UsedThen o x → on_scan g l (λ x. takes g l 1 x o) r x ≡ on_scan g l (λ x. takes g l 2 x o) r x
+      same r (Next s) h = refl
+      same r (Given x s) h = refl
+      same r (Refused n e) h = refl
+      same r (Left x s) h =
+          said_same (λ c. behind_left (λ x. takes g l 1 x o) s (turn g l r (token_of x c))) (λ c. behind_left (λ x. takes g l 2 x o) s (turn g l r (token_of x c))) (said x.kind x.octets)
+          (λ c. left_same (λ x. takes g l 1 x o) (λ x. takes g l 2 x o) s (turn g l r (token_of x c)) (λ n. once_fuel 0 1 (with_scan s n) o h))
+
+  -- where an octet is used and nothing waits, it ends no value before it
+  abbrev pub NotLeaves : Effect → Type 0
+  NotLeaves (leaves v m) = ⊥
+  NotLeaves _ = Unit {0}
+
+  pub noticed_stays : (r : Reading) (s : Known) → NotLeaves (noticed l r s)
+  noticed_stays r s = go (shut r.now && not (is_idle s.mode)) (nat_le (reaches r.frames r s) l.item)
+    where
+      go : (a b : Bool) → NotLeaves (if a then fails reasons.Unexpected else (if b then uses (record { scan = s; reading = r }) else fails reasons.ItemTooLong))
+      go true b = tt
+      go false true = tt
+      go false false = tt
+
+  worse_stays : (e : Reason) (x : Effect) → NotLeaves (or_worse e x)
+  worse_stays e (uses m) = tt
+  worse_stays e (tells v m) = tt
+  worse_stays e (leaves v m) = tt
+  worse_stays e (fails f) = tt
+
+  pub given_stays : (s : Known) (t : Turn) → NotLeaves (behind_given l s t)
+  given_stays s (goes r) = noticed_stays r s
+  given_stays s (gives v r) = tt
+  given_stays s (refuses e) = tt
+  given_stays s (late e r) = worse_stays e (noticed l r s)
+
+  pub said_stays : (c : Result Content Reason) (f : Content → Effect) → ((c : Content) → NotLeaves (f c)) → NotLeaves (on_said c f)
+  said_stays (Ok c) f h = h c
+  said_stays (Err e) f h = tt
+
+  scan_stays : (again : State → Effect) (r : Reading) (x : Outcome) → IsUsed x → NotLeaves (on_scan g l again r x)
+  scan_stays again r (Next s) u = noticed_stays r s
+  scan_stays again r (Given x s) u = said_stays (said x.kind x.octets) _ (λ c. given_stays s (turn g l r (token_of x c)))
+  scan_stays again r (Left x s) u = absurd u
+  scan_stays again r (Refused n e) u = tt
+
+  pub eats_stays : (r : Reading) (s : Known) (o : ℕ) → settle g l r ≡ goes r → IsUsed (feed (place r) s o) → NotLeaves (eats g l (with_scan s r) o)
+  eats_stays r s o e u = go (unsettled s r (feed (place r) s o))
+    where
+      again : State → Effect
+      again = λ k. takes g l 2 k o
+
+      go : (w : Bool) → NotLeaves (if w then on_scan g l again r (feed (place r) s o) else on_settled g l again s (feed (place r) s o) (settle g l r))
+      go true = scan_stays again r (feed (place r) s o) u
+      go false = subst (λ t. NotLeaves (on_settled g l again s (feed (place r) s o) t)) (sym e) (scan_stays again r (feed (place r) s o) u)
+
+  -- then once more is as at the first time
+  pub more_same : (to : ℕ) (again : State → Effect) (rest : State → Run) (x : Effect) → NotLeaves x → once_more to rest x ≡ run_on to again rest x
+  more_same to again rest (uses m) h = refl
+  more_same to again rest (tells v m) h = refl
+  more_same to again rest (leaves v m) h = absurd h
+  more_same to again rest (fails e) h = refl

@@ -1,0 +1,364 @@
+-- In octets that are a document the reader of octets finds no reason to refuse before a token has ended.
+use Rattle.std.proofs.Common.{◌≡◌, ℕ, ◌+◌, ◌-◌, ◌≤◌, ◌==◌, List, [], ◌∷◌, Bool, true, false, ◌&&◌, ◌||◌, not, Ok, Option, Some, None, refl, ap, sym, ◌∙◌, subst, arith, if◌then◌else◌, ◌⊎◌, inl, inr}
+use Rattle.std.proofs.lemmas.Bool.{cond-false, cond-true}
+use Rattle.ion_model.specs.declared.value.Value.{Value}
+use Rattle.ion_symtab.specs.declared.limits.Limits.{Limits}
+use Rattle.ion_symtab.specs.declared.catalog.Catalog.{Catalog}
+use Rattle.ion_symtab.specs.Slots.{Slot}
+use Rattle.ion_tokens.specs.declared.mode.Place.TheVariants as places
+use Rattle.ion_tokens.specs.declared.mode.Style.TheVariants as styles
+use Rattle.ion_tokens.specs.declared.mode.Mode.{Mode}
+use Rattle.ion_tokens.specs.declared.mode.Mode.TheVariants as modes
+use Rattle.ion_tokens.specs.declared.mode.Mark.{Mark}
+use Rattle.ion_tokens.specs.declared.mode.Mark.TheVariants as marks
+use Rattle.ion_tokens.specs.declared.mode.TokenKind.TheVariants as kinds
+use Rattle.ion_tokens.specs.machine.Bounds.{is_idle}
+use Rattle.ion_tokens.specs.machine.Views.{behind, form_of, begun_in}
+use Rattle.ion_tokens.specs.Bodies.{Content, Word, Id, Quoted, Short, Long, Number', TypedNull, Operator, Clob, Blob, Mark', IsBody}
+use Rattle.ion_tokens.specs.machine.Scanning.{Known, Next}
+use Rattle.ion_tokens.specs.Lexed.{Placed}
+use Rattle.ion_text.specs.declared.state.Held.{Held}
+use Rattle.ion_text.specs.declared.state.Now.{Now}
+use Rattle.ion_text.specs.declared.state.Now.TheVariants as nows
+use Rattle.ion_text.specs.declared.state.Frame.{Frame}
+use Rattle.ion_tokens.specs.machine.Said.{said}
+use Rattle.ion_text.specs.machine.EachToken.{under, token_at, Reading, goes, Symbols, at, settle, turn_now}
+use Rattle.ion_text.specs.machine.Run.{uses, noticed, shut, reaches, longest_top, is_long_begun, with_scan, token_of, is_top, is_fresh}
+use Rattle.ion_text.specs.machine.TokenLists.{continues}
+use Rattle.ion_tokens.specs.machine.Ahead.{is_quoting, is_sane, is_closing, is_long_form}
+use Rattle.ion_text.specs.laws.reading.sound.Quotes.{Fine, le_to}
+use Rattle.ion_text.specs.machine.Passed.{said_body}
+use Rattle.ion_text.specs.laws.reading.sound.Held.{segment_says}
+use Rattle.ion_text.specs.laws.reading.sound.Sound.{EndsAt, start_now}
+use Rattle.ion_text.specs.laws.reading.sound.Spans.{IsTopNow, IsWaiting}
+use Rattle.ion_text.specs.laws.reading.complete.Meets.{Meets, at_blank, in_blank, begun_closing, begun_span, idle_span, long_segment, is_long_text, follows_as}
+use Rattle.ion_text.specs.laws.reading.complete.Going.{Operators, Going, TurnGoes, TurnEnds, TopOk, Direct, EndsPast, going_said, going_turn, going_ends, limit, top_limit, idle_past, used_inside, mark_kind, no_operator}
+use Rattle.ion_tokens.proofs.Begins.{end_idle}
+
+-- while something waits at the top level, no token has begun with which it doesn't go on
+abbrev pub CalmNow : Now → Mode → Type 0
+CalmNow nows.Ready m = Unit {0}
+CalmNow (nows.Pending h end) m = is_idle m ≡ true
+CalmNow (nows.Long w end) m = (is_idle m || is_quoting m) ≡ true
+CalmNow _ m = ⊥
+
+-- what waits ended within these octets
+abbrev pub EndedIn : ℕ → Now → Type 0
+EndedIn used (nows.Pending h end) = end ≤ used
+EndedIn used (nows.Long w end) = end ≤ used
+EndedIn used _ = Unit {0}
+
+pub ended_more : (n : Now) (used more : ℕ) → used ≤ more → EndedIn used n → EndedIn more n
+ended_more (nows.Pending h end) used more le e = omega (arith, le, e)
+ended_more (nows.Long w end) used more le e = omega (arith, le, e)
+ended_more nows.Ready used more le e = tt
+ended_more nows.After used more le e = tt
+ended_more nows.Name used more le e = tt
+ended_more (nows.LongName w) used more le e = tt
+ended_more (nows.Keyed s) used more le e = tt
+
+pub ended_at : (n : Now) (end : ℕ) → EndsAt n end → EndedIn end n
+ended_at (nows.Pending h e) end at' = omega (arith, at')
+ended_at (nows.Long w e) end at' = omega (arith, at')
+ended_at nows.Ready end at' = tt
+ended_at nows.After end at' = tt
+ended_at nows.Name end at' = tt
+ended_at (nows.LongName w) end at' = tt
+ended_at (nows.Keyed s) end at' = tt
+
+abbrev pub Calm : Known → Reading → Type 0
+Calm s r = is_top r.frames ≡ true → CalmNow r.now s.mode × EndedIn s.used r.now
+
+pub calm_now : (n : Now) (m : Mode) → CalmNow n m → IsTopNow n
+calm_now nows.Ready m c = tt
+calm_now (nows.Pending h end) m c = tt
+calm_now (nows.Long w end) m c = tt
+calm_now nows.After m c = c
+calm_now nows.Name m c = c
+calm_now (nows.LongName w) m c = c
+calm_now (nows.Keyed s) m c = c
+
+pub calm_ok : (g : Catalog) (l : Limits) (s : Known) (r : Reading) → Calm s r → TopOk g l r
+calm_ok g l s r c h = calm_now r.now s.mode (c h).0
+
+-- a blank is no token that has begun
+pub blank_idle : (s : Known) (os : List ℕ) → Meets s os [] → is_sane s.mode ≡ true → is_idle s.mode ≡ true
+blank_idle _ _ (at_blank s e) h = end_idle places.Top s s.mode e
+blank_idle _ _ (in_blank s o os s' e m) h = go (is_idle s.mode) refl (blank_idle s' os m (follows_as places.Top s o (Next s') h e).0)
+  where
+    go : (b : Bool) → is_idle s.mode ≡ b → is_idle s'.mode ≡ true → b ≡ true
+    go true i j = refl
+    go false i j = absurd (let n : true ≡ false = sym j ∙ (follows_as places.Top s o (Next s') h e).1 i in cc)
+
+long_is : (m : Mode) → is_idle m ≡ false → is_long_form (form_of m) ≡ true → (is_long_begun (Some (record { start = 0; end = 0; form = form_of m })) == 0) ≡ false → is_long_text m ≡ true
+long_is (modes.Text styles.LongString w) i h k = refl
+long_is modes.Quote i h k = absurd cc
+long_is modes.Quotes i h k = absurd cc
+long_is (modes.Text styles.ShortString w) i h k = absurd cc
+long_is (modes.Text styles.QuotedSymbol w) i h k = absurd cc
+long_is (modes.Text styles.ShortClob w) i h k = absurd cc
+long_is (modes.Text styles.LongClob w) i h k = absurd cc
+long_is modes.Blank i h k = absurd cc
+long_is modes.Slash i h k = absurd cc
+long_is modes.LineComment i h k = absurd cc
+long_is modes.BlockComment i h k = absurd cc
+long_is modes.BlockCommentStar i h k = absurd cc
+long_is modes.Colon i h k = absurd cc
+long_is modes.Word i h k = absurd cc
+long_is modes.KindName i h k = absurd cc
+long_is modes.Number i h k = absurd cc
+long_is modes.NumberSlash i h k = absurd cc
+long_is (modes.Operator e) i h k = absurd cc
+long_is modes.OperatorSlash i h k = absurd cc
+long_is (modes.Infinity n) i h k = absurd cc
+long_is modes.Brace i h k = absurd cc
+long_is (modes.Lob l) i h k = absurd cc
+
+module _ (g : Catalog) (l : Limits) where
+  -- behind an element or a name a mark comes that is whole with its last octet, or a colon
+  abbrev ClosingSaid : Content → Type 0
+  ClosingSaid c = (m : Mark) × (c ≡ Mark' m) × (is_closing (kinds.Mark m) ≡ true)
+
+  shut_said : (begin end start : ℕ) (slots : List Slot) (fs : List Frame) (ss : Symbols) (c : Content) (now : Now) (ts : List Placed) (all : List Value) → shut now ≡ true → TurnGoes g l (turn_now (under g l) (at start slots fs ss now) (token_at begin end c) now) ts all → ClosingSaid c
+  shut_said begin end start slots fs ss (Mark' marks.Comma) nows.After ts all h d = (marks.Comma, refl, refl)
+  shut_said begin end start slots fs ss (Mark' marks.ListClose) nows.After ts all h d = (marks.ListClose, refl, refl)
+  shut_said begin end start slots fs ss (Mark' marks.FieldsClose) nows.After ts all h d = (marks.FieldsClose, refl, refl)
+  shut_said begin end start slots fs ss (Mark' marks.FieldsOpen) nows.After ts all h d = absurd d
+  shut_said begin end start slots fs ss (Mark' marks.ListOpen) nows.After ts all h d = absurd d
+  shut_said begin end start slots fs ss (Mark' marks.SexpOpen) nows.After ts all h d = absurd d
+  shut_said begin end start slots fs ss (Mark' marks.SexpClose) nows.After ts all h d = absurd d
+  shut_said begin end start slots fs ss (Mark' marks.Colon) nows.After ts all h d = absurd d
+  shut_said begin end start slots fs ss (Mark' marks.Colons) nows.After ts all h d = absurd d
+  shut_said begin end start slots fs ss (Mark' marks.Colon) (nows.Keyed s) ts all h d = (marks.Colon, refl, refl)
+  shut_said begin end start slots fs ss (Mark' marks.Colons) (nows.Keyed s) ts all h d = absurd d
+  shut_said begin end start slots fs ss (Mark' marks.Comma) (nows.Keyed s) ts all h d = absurd d
+  shut_said begin end start slots fs ss (Mark' marks.FieldsOpen) (nows.Keyed s) ts all h d = absurd d
+  shut_said begin end start slots fs ss (Mark' marks.FieldsClose) (nows.Keyed s) ts all h d = absurd d
+  shut_said begin end start slots fs ss (Mark' marks.ListOpen) (nows.Keyed s) ts all h d = absurd d
+  shut_said begin end start slots fs ss (Mark' marks.ListClose) (nows.Keyed s) ts all h d = absurd d
+  shut_said begin end start slots fs ss (Mark' marks.SexpOpen) (nows.Keyed s) ts all h d = absurd d
+  shut_said begin end start slots fs ss (Mark' marks.SexpClose) (nows.Keyed s) ts all h d = absurd d
+  shut_said begin end start slots fs ss (Word w) nows.After ts all h d = absurd d
+  shut_said begin end start slots fs ss (Word w) (nows.Keyed s) ts all h d = absurd d
+  shut_said begin end start slots fs ss (Id n) nows.After ts all h d = absurd d
+  shut_said begin end start slots fs ss (Id n) (nows.Keyed s) ts all h d = absurd d
+  shut_said begin end start slots fs ss (Quoted w) nows.After ts all h d = absurd d
+  shut_said begin end start slots fs ss (Quoted w) (nows.Keyed s) ts all h d = absurd d
+  shut_said begin end start slots fs ss (Short w) nows.After ts all h d = absurd d
+  shut_said begin end start slots fs ss (Short w) (nows.Keyed s) ts all h d = absurd d
+  shut_said begin end start slots fs ss (Long w) nows.After ts all h d = absurd d
+  shut_said begin end start slots fs ss (Long w) (nows.Keyed s) ts all h d = absurd d
+  shut_said begin end start slots fs ss (Number' n) nows.After ts all h d = absurd d
+  shut_said begin end start slots fs ss (Number' n) (nows.Keyed s) ts all h d = absurd d
+  shut_said begin end start slots fs ss (TypedNull n) nows.After ts all h d = absurd d
+  shut_said begin end start slots fs ss (TypedNull n) (nows.Keyed s) ts all h d = absurd d
+  shut_said begin end start slots fs ss (Operator w) nows.After ts all h d = absurd d
+  shut_said begin end start slots fs ss (Operator w) (nows.Keyed s) ts all h d = absurd d
+  shut_said begin end start slots fs ss (Clob w) nows.After ts all h d = absurd d
+  shut_said begin end start slots fs ss (Clob w) (nows.Keyed s) ts all h d = absurd d
+  shut_said begin end start slots fs ss (Blob w) nows.After ts all h d = absurd d
+  shut_said begin end start slots fs ss (Blob w) (nows.Keyed s) ts all h d = absurd d
+  shut_said begin end start slots fs ss c nows.Ready ts all h d = absurd cc
+  shut_said begin end start slots fs ss c (nows.Pending k e) ts all h d = absurd cc
+  shut_said begin end start slots fs ss c (nows.Long w e) ts all h d = absurd cc
+  shut_said begin end start slots fs ss c nows.Name ts all h d = absurd cc
+  shut_said begin end start slots fs ss c (nows.LongName w) ts all h d = absurd cc
+
+  shut_still : (r : Reading) → shut r.now ≡ true → settle g l r ≡ goes r
+  shut_still r h = go r.now refl
+    where
+      go : (n : Now) → r.now ≡ n → settle g l r ≡ goes r
+      go nows.After e = subst (λ n. settle g l (at r.start r.context r.frames r.notes n) ≡ goes (at r.start r.context r.frames r.notes n)) (sym e) refl
+      go (nows.Keyed s) e = subst (λ n. settle g l (at r.start r.context r.frames r.notes n) ≡ goes (at r.start r.context r.frames r.notes n)) (sym e) refl
+      go nows.Ready e = absurd (let n : false ≡ true = sym (ap shut e) ∙ h in cc)
+      go (nows.Pending k x) e = absurd (let n : false ≡ true = sym (ap shut e) ∙ h in cc)
+      go (nows.Long w x) e = absurd (let n : false ≡ true = sym (ap shut e) ∙ h in cc)
+      go nows.Name e = absurd (let n : false ≡ true = sym (ap shut e) ∙ h in cc)
+      go (nows.LongName w) e = absurd (let n : false ≡ true = sym (ap shut e) ∙ h in cc)
+
+  module _ (s : Known) (os : List ℕ) (sane : is_sane s.mode ≡ true) (fine : Fine s) (used : 1 ≤ s.used) (r : Reading) (all : List Value) (calm : Calm s r) where
+    not_shut : (ts : List Placed) → Meets s os ts → Going g l r ts all → is_idle s.mode ≡ false → shut r.now ≡ true → ⊥
+    not_shut [] m d i h =
+        let e = subst (λ t. TurnEnds g l t all) (shut_still r h) (going_ends g l r all d) in
+        let n : true ≡ false = sym h ∙ ap (λ (x : Reading). shut x.now) e.0.1 in cc
+    not_shut (t ∷ ts) m d i h =
+        let p = going_said g l r t ts all d in
+        let c = shut_said t.lexeme.start t.lexeme.end r.start r.context r.frames r.notes p.1 r.now ts all h (going_turn g l r t ts all p.1 d p.2 (inr (shut_still r h))) in
+        closes p.1 p.2 c
+      where
+        closes : (c : Content) → said t.lexeme.kind t.lexeme.octets ≡ Ok c → ClosingSaid c → ⊥
+        closes c e k =
+            let body = subst (λ x. IsBody t.lexeme.kind t.lexeme.octets (Ok x)) k.1 (said_body t.lexeme.kind t.lexeme.octets c e) in
+            let kind = mark_kind t.lexeme.kind t.lexeme.octets k.0 body in
+            let n : true ≡ false = sym k.2 ∙ (ap is_closing (sym kind) ∙ begun_closing s os t ts m sane i) in cc
+
+    shut_quiet : (ts : List Placed) → Meets s os ts → Going g l r ts all → (shut r.now && not (is_idle s.mode)) ≡ false
+    shut_quiet ts m d = go (shut r.now) refl (is_idle s.mode) refl
+      where
+        go : (a : Bool) → shut r.now ≡ a → (b : Bool) → is_idle s.mode ≡ b → (a && not b) ≡ false
+        go false e b f = refl
+        go true e true f = refl
+        go true e false f = absurd (not_shut ts m d f e)
+
+    -- the token that has begun, or comes next
+    module _ (t : Placed) (ts : List Placed) (m : Meets s os (t ∷ ts)) (ops : Operators (t ∷ ts)) (d : Going g l r (t ∷ ts) all) (top : is_top r.frames ≡ true) where
+      own : t.lexeme.kind ≡ kinds.Operator → ⊥
+      own k = no_operator g l r t top (going_said g l r t ts all d).0 ops.0 k
+
+      within' : (c : Content) → said t.lexeme.kind t.lexeme.octets ≡ Ok c → Direct g l r (token_of t.lexeme c) → t.lexeme.end ≤ start_now r.now r.start t.lexeme.start r.frames r.notes + l.item
+      within' c e w = limit g l s os (t ∷ ts) m fine ops r all c (calm_ok g l s r calm) d e w
+
+      begun_end : is_idle s.mode ≡ false → (t.lexeme.start ≡ s.start) × (s.used - behind s.mode ≤ t.lexeme.end)
+      begun_end i = let x = begun_span s os t ts m i used in (x.0, by x.1)
+        where
+          by : (s.used - behind s.mode ≤ t.lexeme.end) ⊎ (t.lexeme.kind ≡ kinds.Operator) → s.used - behind s.mode ≤ t.lexeme.end
+          by (inl h) = h
+          by (inr h) = absurd (own h)
+
+      next_end : is_idle s.mode ≡ true → s.used ≤ t.lexeme.end
+      next_end i = by (idle_span s os t ts m fine i)
+        where
+          by : (s.used ≤ t.lexeme.end) ⊎ (t.lexeme.kind ≡ kinds.Operator) → s.used ≤ t.lexeme.end
+          by (inl h) = h
+          by (inr h) = absurd (own h)
+
+    ready_same : (fs : List Frame) (ss : Symbols) → r.frames ≡ fs → r.notes ≡ ss → r.now ≡ nows.Ready → r ≡ at r.start r.context fs ss nows.Ready
+    ready_same fs ss a b c = ap (λ x. at r.start r.context x r.notes r.now) a ∙ (ap (λ x. at r.start r.context fs x r.now) b ∙ ap (λ x. at r.start r.context fs ss x) c)
+
+    module _ (ts : List Placed) (m : Meets s os ts) (ops : Operators ts) (d : Going g l r ts all) (none : r.frames ≡ []) where
+      top : is_top r.frames ≡ true
+      top = ap is_top none
+
+      -- an item that begins
+      fresh_reaches : r.notes ≡ [] → r.now ≡ nows.Ready → (i : Bool) → is_idle s.mode ≡ i → longest_top r.start s.used nows.Ready [] (if i then None else Some (record { start = s.start; end = s.used - behind s.mode; form = form_of s.mode })) (is_long_begun (begun_in s)) ≤ l.item
+      fresh_reaches a b true i = omega arith
+      fresh_reaches a b false i = by ts m ops d
+        where
+          same : r ≡ at r.start r.context [] [] nows.Ready
+          same = ready_same [] [] none a b
+
+          still : settle g l r ≡ goes r
+          still = ap (settle g l) same ∙ ap goes (sym same)
+
+          by : (ts : List Placed) → Meets s os ts → Operators ts → Going g l r ts all → s.used - behind s.mode - s.start ≤ l.item
+          by [] m ops d = absurd (let n : true ≡ false = sym (blank_idle s os m sane) ∙ i in cc)
+          by (t ∷ ts) m ops d =
+              let p = going_said g l r t ts all d in
+              let k = within' t ts m ops d top p.1 p.2 (inr still) in
+              let x = begun_end t ts m ops d top i in
+              let e : start_now r.now r.start t.lexeme.start r.frames r.notes ≡ t.lexeme.start = ap (λ (y : Reading). start_now y.now r.start t.lexeme.start y.frames y.notes) same in
+              omega (arith, k, x.0, x.1, e)
+
+      -- behind annotations
+      noted_reaches : (n : Option (List ℕ)) (ns : Symbols) → r.notes ≡ n ∷ ns → r.now ≡ nows.Ready → (i : Bool) → is_idle s.mode ≡ i
+          → longest_top r.start s.used nows.Ready (n ∷ ns) (if i then None else Some (record { start = s.start; end = s.used - behind s.mode; form = form_of s.mode })) (is_long_begun (begun_in s)) ≤ l.item
+      noted_reaches n ns a b i e = by ts m ops d i e
+        where
+          same : r ≡ at r.start r.context [] (n ∷ ns) nows.Ready
+          same = ready_same [] (n ∷ ns) none a b
+
+          still : settle g l r ≡ goes r
+          still = ap (settle g l) same ∙ ap goes (sym same)
+
+          by : (ts : List Placed) → Meets s os ts → Operators ts → Going g l r ts all → (i : Bool) → is_idle s.mode ≡ i → longest_top r.start s.used nows.Ready (n ∷ ns) (if i then None else Some (record { start = s.start; end = s.used - behind s.mode; form = form_of s.mode })) (is_long_begun (begun_in s)) ≤ l.item
+          by [] m ops d i e =
+              let x = subst (λ y. TurnEnds g l y all) still (going_ends g l r all d) in
+              absurd (let z : false ≡ true = sym (ap is_fresh same) ∙ ap is_fresh x.0.1 in cc)
+          by (t ∷ ts) m ops d true e =
+              let p = going_said g l r t ts all d in
+              let k = within' t ts m ops d top p.1 p.2 (inr still) in
+              let f : start_now r.now r.start t.lexeme.start r.frames r.notes ≡ r.start = ap (λ (y : Reading). start_now y.now r.start t.lexeme.start y.frames y.notes) same in
+              omega (arith, k, next_end t ts m ops d top e, f)
+          by (t ∷ ts) m ops d false e =
+              let p = going_said g l r t ts all d in
+              let k = within' t ts m ops d top p.1 p.2 (inr still) in
+              let x = begun_end t ts m ops d top e in
+              let f : start_now r.now r.start t.lexeme.start r.frames r.notes ≡ r.start = ap (λ (y : Reading). start_now y.now r.start t.lexeme.start y.frames y.notes) same in
+              omega (arith, k, x.1, f)
+
+      -- behind a long string, one more segment
+      long_reaches : (w : List ℕ) (end : ℕ) → r.now ≡ nows.Long w end → is_idle s.mode ≡ false → is_long_text s.mode ≡ true → s.used - behind s.mode - r.start ≤ l.item
+      long_reaches w end a i h = by ts m ops d
+        where
+          by : (ts : List Placed) → Meets s os ts → Operators ts → Going g l r ts all → s.used - behind s.mode - r.start ≤ l.item
+          by [] m ops d = absurd (let n : true ≡ false = sym (blank_idle s os m sane) ∙ i in cc)
+          by (t ∷ ts) m ops d =
+              let p = going_said g l r t ts all d in
+              let c = segment_says t.lexeme.kind t.lexeme.octets p.1 (long_segment s os t ts m h) (said_body t.lexeme.kind t.lexeme.octets p.1 p.2) in
+              let w' : continues r (token_of t.lexeme p.1) ≡ true = ap (λ y. continues r (token_of t.lexeme y)) c ∙ ap (λ y. continues (at r.start r.context r.frames r.notes y) (token_of t.lexeme (Long t.lexeme.octets))) a in
+              let k = within' t ts m ops d top p.1 p.2 (inl w') in
+              let x = begun_end t ts m ops d top i in
+              let f : start_now r.now r.start t.lexeme.start r.frames r.notes ≡ r.start = ap (λ y. start_now y r.start t.lexeme.start r.frames r.notes) a in
+              omega (arith, k, x.1, f)
+
+      -- what waits
+      ended : EndedIn s.used r.now
+      ended = (calm top).1
+
+      waiting_unfresh : (fs : List Frame) (ss : Symbols) (n : Now) → IsWaiting g l n → is_fresh (at r.start r.context fs ss n) ≡ false
+      waiting_unfresh [] [] (nows.Pending h e) w = refl
+      waiting_unfresh [] [] (nows.Long v e) w = refl
+      waiting_unfresh [] [] nows.Ready w = absurd w
+      waiting_unfresh [] [] nows.After w = absurd w
+      waiting_unfresh [] [] nows.Name w = absurd w
+      waiting_unfresh [] [] (nows.LongName v) w = absurd w
+      waiting_unfresh [] [] (nows.Keyed x) w = absurd w
+      waiting_unfresh [] (x ∷ ss) n w = refl
+      waiting_unfresh (f ∷ fs) ss n w = refl
+
+      waiting_reaches : (end : ℕ) → end ≤ s.used → IsWaiting g l r.now → IsTopNow r.now → EndsAt r.now end → EndsPast g l s.used ts → end - r.start ≤ l.item
+      waiting_reaches end le w ok at' past =
+          let k = top_limit g l s os end fine le ts m ops (limit g l s os ts m fine ops) past r all top (waiting_unfresh r.frames r.notes r.now w) ok at' d in omega (arith, k)
+
+      pending_reaches : (h : Held) (end : ℕ) → r.now ≡ nows.Pending h end → end - r.start ≤ l.item
+      pending_reaches h end e =
+          waiting_reaches end (subst (EndedIn s.used) e ended) (subst (IsWaiting g l) (sym e) tt) (subst IsTopNow (sym e) tt) (subst (λ n. EndsAt n end) (sym e) refl)
+          (idle_past g l s os ts m fine (subst (λ n. CalmNow n s.mode) e (calm top).0))
+
+      held_reaches : (w : List ℕ) (end : ℕ) → r.now ≡ nows.Long w end → end - r.start ≤ l.item
+      held_reaches w end e =
+          waiting_reaches end (subst (EndedIn s.used) e ended) (subst (IsWaiting g l) (sym e) tt) (subst IsTopNow (sym e) tt) (subst (λ n. EndsAt n end) (sym e) refl)
+          (past (is_idle s.mode) refl ts m ops d)
+        where
+          quoting_behind : (k : Mode) → (is_idle k || is_quoting k) ≡ true → behind k ≡ 0
+          quoting_behind modes.NumberSlash q = absurd cc
+          quoting_behind modes.OperatorSlash q = absurd cc
+          quoting_behind _ q = refl
+
+          past : (i : Bool) → is_idle s.mode ≡ i → (ts : List Placed) → Meets s os ts → Operators ts → Going g l r ts all → EndsPast g l s.used ts
+          past true i ts m ops d = idle_past g l s os ts m fine i
+          past false i [] m ops d = tt
+          past false i (t ∷ ts) m ops d =
+              let x = begun_end t ts m ops d top i in
+              let k = quoting_behind s.mode (subst (λ n. CalmNow n s.mode) e (calm top).0) in
+              inl (omega (arith, x.1, k))
+
+      long_longest : (w : List ℕ) (end : ℕ) → r.now ≡ nows.Long w end → (i : Bool) → is_idle s.mode ≡ i
+          → longest_top r.start s.used (nows.Long w end) r.notes (if i then None else Some (record { start = s.start; end = s.used - behind s.mode; form = form_of s.mode })) (is_long_begun (if i then None else Some (record { start = s.start; end = s.used - behind s.mode; form = form_of s.mode }))) ≤ l.item
+      long_longest w end a true i = held_reaches w end a
+      long_longest w end a false i = go (is_long_form (form_of s.mode)) refl (is_long_begun (Some (record { start = 0; end = 0; form = form_of s.mode })) == 0) refl
+        where
+          go : (x : Bool) → is_long_form (form_of s.mode) ≡ x → (y : Bool) → (is_long_begun (Some (record { start = 0; end = 0; form = form_of s.mode })) == 0) ≡ y → (if x && not y then s.used - behind s.mode - r.start else end - r.start) ≤ l.item
+          go false e y f = held_reaches w end a
+          go true e true f = held_reaches w end a
+          go true e false f = long_reaches w end a i (long_is s.mode i e f)
+
+      top_reaches : (n : Now) → r.now ≡ n → (ss : Symbols) → r.notes ≡ ss → IsTopNow n → longest_top r.start s.used n ss (begun_in s) (is_long_begun (begun_in s)) ≤ l.item
+      top_reaches nows.Ready e [] f k = fresh_reaches f e (is_idle s.mode) refl
+      top_reaches nows.Ready e (x ∷ ss) f k = noted_reaches x ss f e (is_idle s.mode) refl
+      top_reaches (nows.Pending h end) e ss f k = pending_reaches h end e
+      top_reaches (nows.Long w end) e ss f k = subst (λ y. longest_top r.start s.used (nows.Long w end) y (begun_in s) (is_long_begun (begun_in s)) ≤ l.item) f (long_longest w end e (is_idle s.mode) refl)
+      top_reaches nows.After e ss f k = absurd k
+      top_reaches nows.Name e ss f k = absurd k
+      top_reaches (nows.LongName w) e ss f k = absurd k
+      top_reaches (nows.Keyed x) e ss f k = absurd k
+
+    reaches_within : (ts : List Placed) → Meets s os ts → Operators ts → Going g l r ts all → (fs : List Frame) → r.frames ≡ fs → reaches fs r s ≤ l.item
+    reaches_within ts m ops d [] e = top_reaches ts m ops d e r.now refl r.notes refl (calm_ok g l s r calm (ap is_top e))
+    reaches_within ts m ops d (f ∷ fs) e = let k = used_inside g l s os ts m fine r all (ap is_top e) d in omega (arith, k)
+
+    -- There is nothing to refuse.
+    pub quiet : (ts : List Placed) → Meets s os ts → Operators ts → Going g l r ts all → noticed l r s ≡ uses (with_scan s r)
+    quiet ts m ops d =
+        cond-false _ _ _ (shut_quiet ts m d)
+        ∙ cond-true _ _ _ (le_to (reaches r.frames r s) l.item (reaches_within ts m ops d r.frames refl))

@@ -1,0 +1,130 @@
+-- Behind a long string that waits: while a segment of it is open, each octet goes on with it, or is refused.
+use Rattle.std.proofs.Common.{◌≡◌, ℕ, Bool, true, false, ◌||◌, refl, sym, ap, ◌∙◌, subst, Some, None, if◌then◌else◌, ◌-◌}
+use Rattle.ion_tokens.specs.declared.mode.Place.{Place}
+use Rattle.ion_tokens.specs.declared.mode.Mode.{Mode}
+use Rattle.ion_tokens.specs.declared.mode.Mode.TheVariants as modes
+use Rattle.ion_tokens.specs.declared.mode.Style.TheVariants as styles
+use Rattle.ion_tokens.specs.machine.Bounds.{is_idle}
+use Rattle.ion_tokens.specs.machine.Ahead.{is_quoting}
+use Rattle.ion_tokens.specs.machine.Views.{behind, form_of}
+use Rattle.ion_tokens.specs.machine.Scanning.{Known, Outcome, Next, Given, Left, Refused, feed}
+use Rattle.ion_text.specs.declared.state.Now.{Now}
+use Rattle.ion_text.specs.declared.state.Now.TheVariants as nows
+use Rattle.ion_text.specs.machine.EachToken.{Reading}
+use Rattle.ion_text.specs.machine.Run.{has_segment, in_segment, is_top, unsettled, waits, waits_now}
+use Rattle.ion_text.specs.laws.reading.complete.Meets.{LongOn, is_long_text, long_feed}
+
+pub never : (b : Bool) → b ≡ false → b ≡ true → ⊥
+never true e f = cc
+never false e f = cc
+
+pub long_quoting : (m : Mode) → is_long_text m ≡ true → is_quoting m ≡ true
+long_quoting (modes.Text styles.LongString w) h = refl
+long_quoting (modes.Text styles.ShortString w) h = absurd cc
+long_quoting (modes.Text styles.QuotedSymbol w) h = absurd cc
+long_quoting (modes.Text styles.ShortClob w) h = absurd cc
+long_quoting (modes.Text styles.LongClob w) h = absurd cc
+long_quoting modes.Quote h = refl
+long_quoting modes.Quotes h = refl
+long_quoting modes.Blank h = absurd cc
+long_quoting modes.Slash h = absurd cc
+long_quoting modes.LineComment h = absurd cc
+long_quoting modes.BlockComment h = absurd cc
+long_quoting modes.BlockCommentStar h = absurd cc
+long_quoting modes.Colon h = absurd cc
+long_quoting modes.Word h = absurd cc
+long_quoting modes.KindName h = absurd cc
+long_quoting modes.Number h = absurd cc
+long_quoting modes.NumberSlash h = absurd cc
+long_quoting (modes.Operator x) h = absurd cc
+long_quoting modes.OperatorSlash h = absurd cc
+long_quoting (modes.Infinity n) h = absurd cc
+long_quoting modes.Brace h = absurd cc
+long_quoting (modes.Lob l) h = absurd cc
+
+quoting_goes : (m : Mode) → is_quoting m ≡ true → (is_idle m || is_quoting m) ≡ true
+quoting_goes m h = go (is_idle m) (is_quoting m) h
+  where
+    go : (a b : Bool) → b ≡ true → (a || b) ≡ true
+    go true b h = refl
+    go false b h = h
+
+segment_text : (m : Mode) (start used : ℕ) (b : Bool) → has_segment (if b then None else Some (record { start = start; end = used; form = form_of m })) ≡ true → is_long_text m ≡ true
+segment_text m start used true h = absurd cc
+segment_text (modes.Text styles.LongString w) start used false h = refl
+segment_text (modes.Text styles.ShortString w) start used false h = absurd cc
+segment_text (modes.Text styles.QuotedSymbol w) start used false h = absurd cc
+segment_text (modes.Text styles.ShortClob w) start used false h = absurd cc
+segment_text (modes.Text styles.LongClob w) start used false h = absurd cc
+segment_text modes.Blank start used false h = absurd cc
+segment_text modes.Slash start used false h = absurd cc
+segment_text modes.LineComment start used false h = absurd cc
+segment_text modes.BlockComment start used false h = absurd cc
+segment_text modes.BlockCommentStar start used false h = absurd cc
+segment_text modes.Colon start used false h = absurd cc
+segment_text modes.Word start used false h = absurd cc
+segment_text modes.KindName start used false h = absurd cc
+segment_text modes.Number start used false h = absurd cc
+segment_text modes.NumberSlash start used false h = absurd cc
+segment_text (modes.Operator e) start used false h = absurd cc
+segment_text modes.OperatorSlash start used false h = absurd cc
+segment_text (modes.Infinity n) start used false h = absurd cc
+segment_text modes.Quote start used false h = absurd cc
+segment_text modes.Quotes start used false h = absurd cc
+segment_text modes.Brace start used false h = absurd cc
+segment_text (modes.Lob l) start used false h = absurd cc
+
+-- where a segment is open, a long text is
+pub in_text : (s : Known) (w : _) (end : ℕ) → in_segment (nows.Long w end) s ≡ true → is_long_text s.mode ≡ true
+in_text s w end h = segment_text s.mode s.start (s.used - behind s.mode) (is_idle s.mode) h
+
+-- and where none is, none is
+pub no_text : (s : Known) (w : _) (end : ℕ) → in_segment (nows.Long w end) s ≡ false → is_long_text s.mode ≡ false
+no_text s w end h = go s.mode h
+  where
+    go : (m : Mode) → has_segment (if is_idle m then None else Some (record { start = s.start; end = s.used - behind m; form = form_of m })) ≡ false → is_long_text m ≡ false
+    go (modes.Text styles.LongString w) h = absurd cc
+    go _ h = refl
+
+-- it is used, or left
+abbrev pub NotRefused : Outcome → Type 0
+NotRefused (Refused n e) = ⊥
+NotRefused _ = Unit {0}
+
+long_text_goes : (top : Bool) (x : Outcome) → LongOn x → NotRefused x → (w : _) (end : ℕ) → waits_now top (nows.Long w end) x ≡ true
+long_text_goes top (Next t) h n w end = quoting_goes t.mode (long_quoting t.mode h)
+long_text_goes top (Given x t) h n w end = h
+long_text_goes top (Left x t) h n w end = absurd h
+long_text_goes top (Refused i e) h n w end = absurd n
+
+segment_goes : (p : Place) (s : Known) (top : Bool) (now : Now) (o : ℕ) → in_segment now s ≡ true → NotRefused (feed p s o) → waits_now top now (feed p s o) ≡ true
+segment_goes p s top (nows.Long w end) o h n = long_text_goes top (feed p s o) (long_feed p s o (segment_text s.mode s.start (s.used - behind s.mode) (is_idle s.mode) h)) n w end
+segment_goes p s top (nows.Pending k end) o h n = absurd cc
+segment_goes p s top nows.Ready o h n = absurd cc
+segment_goes p s top nows.After o h n = absurd cc
+segment_goes p s top nows.Name o h n = absurd cc
+segment_goes p s top (nows.LongName w) o h n = absurd cc
+segment_goes p s top (nows.Keyed k) o h n = absurd cc
+
+-- What stays at an octet that isn't refused waits for more.
+pub unsettled_waits : (p : Place) (s : Known) (r : Reading) (o : ℕ) → NotRefused (feed p s o) → unsettled s r (feed p s o) ≡ true → waits r (feed p s o) ≡ true
+unsettled_waits p s r o n h = go (waits r (feed p s o)) refl (in_segment r.now s) refl h
+  where
+    go : (a : Bool) → waits r (feed p s o) ≡ a → (b : Bool) → in_segment r.now s ≡ b → (a || b) ≡ true → waits r (feed p s o) ≡ true
+    go true e b f k = e
+    go false e true f k = segment_goes p s (is_top r.frames) r.now o f n
+    go false e false f k = absurd cc
+
+-- what doesn't wait for more is settled before it
+pub settles_then : (p : Place) (s : Known) (r : Reading) (o : ℕ) (x : Outcome) → feed p s o ≡ x → NotRefused x → waits r x ≡ false → unsettled s r x ≡ false
+settles_then p s r o x e n w = go (in_segment r.now s) refl
+  where
+    go : (b : Bool) → in_segment r.now s ≡ b → (waits r x || b) ≡ false
+    go false f = ap (λ a. a || false) w
+    go true f =
+        let k = subst (λ y. waits_now (is_top r.frames) r.now y ≡ true) e (segment_goes p s (is_top r.frames) r.now o f (subst NotRefused (sym e) n)) in
+        absurd (let never : true ≡ false = sym k ∙ w in cc)
+
+-- what waits for more stays
+pub waits_unsettled : (s : Known) (r : Reading) (x : Outcome) → waits r x ≡ true → unsettled s r x ≡ true
+waits_unsettled s r x w = ap (λ a. a || in_segment r.now s) w

@@ -1,0 +1,354 @@
+-- No more octets are kept than an item may have.
+use Rattle.std.proofs.Common.{◌≡◌, ℕ, zero, suc, ◌+◌, ◌-◌, ◌≤◌, Bool, true, false, ◌&&◌, ◌||◌, not, nat_le, List, [], ◌∷◌, ◌++◌, length, Result, Ok, Err, Option, Some, None, refl, sym, ap, ◌∙◌, subst, arith, ◌⊎◌, inl, inr, if◌then◌else◌}
+use Rattle.ion_model.specs.declared.value.Value.{Value}
+use Rattle.ion_model.specs.declared.value.Payload.{Payload}
+use Rattle.ion_atoms.specs.declared.refusal.Reason.{Reason}
+use Rattle.ion_atoms.specs.declared.refusal.Reason.TheVariants as reasons
+use Rattle.ion_symtab.specs.declared.limits.Limits.{Limits}
+use Rattle.ion_symtab.specs.declared.catalog.Catalog.{Catalog}
+use Rattle.ion_symtab.specs.Slots.{Slot}
+use Rattle.ion_symtab.specs.Trace.{plain}
+use Rattle.ion_tokens.specs.declared.mode.Place.{Place}
+use Rattle.ion_tokens.specs.declared.mode.Mode.{Mode}
+use Rattle.ion_tokens.specs.declared.mode.Mode.TheVariants as modes
+use Rattle.ion_tokens.specs.declared.mode.Style.TheVariants as styles
+use Rattle.ion_tokens.specs.declared.mode.TokenKind.TheVariants as kinds
+use Rattle.ion_tokens.specs.declared.token.Begun.{Begun}
+use Rattle.ion_tokens.specs.declared.token.Form.{Form}
+use Rattle.ion_tokens.specs.declared.token.Form.TheVariants as forms
+use Rattle.ion_tokens.specs.machine.Ahead.{Follows, is_long_form, is_sane}
+use Rattle.ion_tokens.specs.Bodies.{Content, Operator, IsBody}
+use Rattle.ion_tokens.specs.machine.Bounds.{is_idle, unkept, IsSteady}
+use Rattle.ion_tokens.specs.laws.Follows.{feed_follows}
+use Rattle.ion_tokens.specs.Lexed.{Placed, LexesTo}
+use Rattle.ion_tokens.specs.Places.{is_sexp}
+use Rattle.ion_tokens.specs.machine.Said.{said}
+use Rattle.ion_tokens.specs.machine.Scanning.{Known, Lexeme, Outcome, Next, Given, Left, Refused, feed}
+use Rattle.ion_tokens.specs.machine.Views.{looks, behind, form_of, begun_in, held_in}
+use Rattle.ion_tokens.proofs.Holds.{InMode}
+use Rattle.ion_tokens.proofs.Reaches.{begun_stays}
+use Rattle.ion_text.specs.declared.reader.TextReader.{TextReader}
+use Rattle.ion_text.specs.declared.state.Held.{Held}
+use Rattle.ion_text.specs.declared.state.Now.{Now}
+use Rattle.ion_text.specs.declared.state.Now.TheVariants as nows
+use Rattle.ion_text.specs.declared.state.Frame.{Frame}
+use Rattle.ion_text.specs.declared.state.Frame.TheVariants as frames
+use Rattle.ion_text.specs.laws.reading.sound.Held.{IsFirst, none_open}
+use Rattle.ion_text.specs.machine.EachToken.{Spot, under, spot_at, token_at, Reading, Turn, goes, gives, refuses, late, Symbols, at, place, place_in, settle, settled, turn, turn_now, ended, paid, released, held_payload}
+use Rattle.ion_text.specs.machine.Passed.{said_body}
+use Rattle.ion_text.specs.machine.Places.{Leading, settle_same}
+use Rattle.ion_text.specs.machine.Progress.{Ran, Stands, octets_kept}
+use Rattle.ion_text.specs.laws.reading.complete.Quiet.{CalmNow}
+use Rattle.ion_text.specs.laws.reading.sound.Quotes.{Fine, Finely, feed_fine}
+use Rattle.ion_text.specs.machine.Run.{State, Effect, uses, tells, leaves, fails, begun, run, takes, unsettled, noticed, on_octet, on_scan, on_settled, on_said, behind_given, behind_left, or_worse, with_scan, token_of, shut, is_top, reaches, longest_top, is_long_begun, Run}
+use Rattle.ion_text.specs.laws.reading.sound.Sound.{NowStands}
+use Rattle.ion_text.specs.laws.reading.sound.Steps.{Stood, run_ran, begun_stood, StoodBehind}
+use Rattle.ion_text.specs.machine.Views.{state_of}
+use Rattle.ion_text.specs.laws.showing.tokens.Cuts.{OpenBehind, behind_tokens}
+use Rattle.ion_text.specs.laws.showing.shown.OpenRests.{start_before}
+use Rattle.ion_text.specs.laws.showing.shown.Within.{Within, EndsWithin, begun_within}
+
+-- 1. Where no octet is awaited, the open token is in the open item.
+
+-- where a `/` isn't counted, it isn't kept
+slash_unkept : (m : Mode) → behind m ≤ unkept m
+slash_unkept modes.NumberSlash = omega arith
+slash_unkept modes.OperatorSlash = omega arith
+slash_unkept _ = omega arith
+
+-- nothing is kept of quotes of which it isn't known yet what they open
+quote_kept : (p : Place) (colon : Bool) (k : ℕ) (m : Mode) (kept : List ℕ) (start : ℕ) (since : List ℕ) → form_of m ≡ forms.Quote → InMode p colon k m kept start since → kept ≡ []
+quote_kept p colon k modes.Quote kept start since e h = h.is.1
+quote_kept p colon k modes.Quotes kept start since e h = h.is.1
+quote_kept p colon k (modes.Text styles.LongString w) kept start since e h = absurd cc
+quote_kept p colon k _ kept start since e h = absurd cc
+
+module _ (g : Catalog) (l : Limits) (u : List ℕ) (vs : List Value) (m : State) (b : Stood g l u vs m) (within : Within g l m) (looked : ℕ) (steady : IsSteady m.scan looked) where
+  abbrev s : Known
+  s = m.scan
+
+  abbrev r : Reading
+  r = m.reading
+
+  abbrev p : Place
+  p = place m.reading
+
+  abbrev ts : List Placed
+  ts = b.front ++ b.item
+
+  k : OpenBehind p s u ts []
+  k = behind_tokens p s u ts [] b.scanned
+
+  module _ (open' : is_idle s.mode ≡ false) where
+    sizes : (length s.kept + behind s.mode + s.start ≤ s.used) × (s.start ≡ k.end + length k.fronted.blank)
+    sizes =
+        let begins = begun_stays s.mode s.start s.used open' in
+        (omega (arith, steady.within, slash_unkept s.mode, begins), omega (arith, k.fronted.at, begins))
+
+    abbrev token : Form → Begun
+    token f = record { start = s.start; end = s.used - behind s.mode; form = f }
+
+    seen : (P : Option Begun → Type 0) → P (begun_in s) → P (Some (token (form_of s.mode)))
+    seen P h = subst (λ i. P (if i then None else Some (token (form_of s.mode)))) open' h
+
+    -- as much of it is kept as counts, at most
+    counted : (from : ℕ) → from ≤ s.start → (s.used - behind s.mode) - from ≤ l.item → length s.kept ≤ l.item
+    counted from h fits = omega (arith, sizes.0, h, fits)
+
+    -- where no item is open
+    none_kept : b.item ≡ [] → length s.kept ≤ l.item
+    none_kept none =
+        let o : (r.frames ≡ []) × (r.notes ≡ []) × (r.now ≡ nows.Ready) = none_open r.context r.frames r.notes r.now (subst (λ x. NowStands r.context r.frames r.notes x r.now) none b.stands) in
+        let reach : longest_top r.start s.used nows.Ready [] (begun_in s) (is_long_begun (begun_in s)) ≤ l.item =
+        subst (λ n. longest_top r.start s.used n [] (begun_in s) (is_long_begun (begun_in s)) ≤ l.item) o.2
+        (subst (λ n. longest_top r.start s.used r.now n (begun_in s) (is_long_begun (begun_in s)) ≤ l.item) o.1
+        (subst (λ fs. reaches fs r s ≤ l.item) o.0 within.0)) in
+        counted s.start (omega arith) (seen (λ x. longest_top r.start s.used nows.Ready [] x (is_long_begun x) ≤ l.item) reach)
+
+    -- the item begins no later than the token
+    begins_before : (t : Placed) (us : List Placed) → b.item ≡ t ∷ us → r.start ≤ s.start
+    begins_before t us e =
+        let lexes = subst (λ x. LexesTo false 0 (u ++ []) (b.front ++ x) k.colon k.end (k.since ++ [])) e (k.lexes [] ([], refl)) in
+        let first : t.lexeme.start ≡ r.start = subst (λ x. IsFirst x r.start) e b.begins in
+        omega (arith, start_before b.front t us false 0 (u ++ []) k.colon k.end (k.since ++ []) lexes, first, sizes.1)
+
+    module _ (before : r.start ≤ s.start) where
+      ready_kept : (ss : Symbols) → longest_top r.start s.used nows.Ready ss (Some (token (form_of s.mode))) (is_long_begun (Some (token (form_of s.mode)))) ≤ l.item → length s.kept ≤ l.item
+      ready_kept [] h = counted s.start (omega arith) h
+      ready_kept (x ∷ ss) h = counted r.start before h
+
+      long_kept : (w : List ℕ) (last : ℕ) (ss : Symbols) (f : Form) → form_of s.mode ≡ f → is_long_form f ≡ true → longest_top r.start s.used (nows.Long w last) ss (Some (token f)) (is_long_begun (Some (token f))) ≤ l.item → length s.kept ≤ l.item
+      long_kept w last ss forms.Quote e q h = omega (arith, ap length (quote_kept p k.colon k.end s.mode s.kept s.start k.since e k.holds.mode))
+      long_kept w last ss forms.Long e q h = counted r.start before h
+      long_kept w last ss forms.Other e q h = absurd cc
+
+      top_kept : (n : Now) (ss : Symbols) → CalmNow n s.mode → longest_top r.start s.used n ss (Some (token (form_of s.mode))) (is_long_begun (Some (token (form_of s.mode)))) ≤ l.item → length s.kept ≤ l.item
+      top_kept nows.Ready ss c h = ready_kept ss h
+      top_kept (nows.Pending x last) ss c h = absurd (let n : false ≡ true = sym open' ∙ c in cc)
+      top_kept (nows.Long w last) ss c h = long_kept w last ss (form_of s.mode) refl (sym (ap (λ i. i || is_long_form (form_of s.mode)) open') ∙ c) h
+      top_kept nows.After ss c h = absurd c
+      top_kept nows.Name ss c h = absurd c
+      top_kept (nows.LongName w) ss c h = absurd c
+      top_kept (nows.Keyed x) ss c h = absurd c
+
+      some_kept : (fs : List Frame) → r.frames ≡ fs → length s.kept ≤ l.item
+      some_kept (f ∷ fs) e = let h = subst (λ x. reaches x r s ≤ l.item) e within.0 in omega (arith, h, sizes.0, before)
+      some_kept [] e =
+          top_kept r.now r.notes (within.1 (ap is_top e))
+          (seen (λ x. longest_top r.start s.used r.now r.notes x (is_long_begun x) ≤ l.item) (subst (λ fs. reaches fs r s ≤ l.item) e within.0))
+
+    open_kept : length s.kept ≤ l.item
+    open_kept = go b.item refl
+      where
+        go : (us : List Placed) → b.item ≡ us → length s.kept ≤ l.item
+        go [] e = none_kept e
+        go (t ∷ us) e = some_kept (begins_before t us e) r.frames refl
+
+  stood_kept : held_in s ≤ l.item
+  stood_kept = go (is_idle s.mode) refl
+    where
+      go : (i : Bool) → is_idle s.mode ≡ i → (if i then 0 else length s.kept) ≤ l.item
+      go true e = omega arith
+      go false e = open_kept e
+
+-- 2. Where an octet is awaited, the scanner knows what it knew before it, or nothing is kept.
+
+sexp_open : (fs : List Frame) (now : Now) → is_sexp (place_in fs now) ≡ true → is_top fs ≡ false
+sexp_open [] now h = absurd cc
+sexp_open (f ∷ fs) now h = refl
+
+operator_says : (x : Lexeme) (c : Content) → x.kind ≡ kinds.Operator → said x.kind x.octets ≡ Ok c → c ≡ Operator x.octets
+operator_says x c k e = let h : IsBody kinds.Operator x.octets (Ok c) = subst (λ y. IsBody y x.octets (Ok c)) k (said_body x.kind x.octets c e) in h.0
+
+idle_held : (s : Known) → is_idle s.mode ≡ true → held_in s ≡ 0
+idle_held s e = ap (λ (i : Bool). if i then 0 else length s.kept) e
+
+module _ (g : Catalog) (l : Limits) where
+  -- a value of the top level is given where no container is open
+  abbrev TopGives : List Frame → Turn → Type 0
+  TopGives fs (gives v n) = is_top fs ≡ true
+  TopGives fs _ = Unit {0}
+
+  at_top : (t : Turn) → TopGives [] t
+  at_top (goes n) = tt
+  at_top (gives v n) = refl
+  at_top (refuses e) = tt
+  at_top (late e n) = tt
+
+  ended_top : (spot : Spot) (fs : List Frame) (v : Value) → TopGives fs (ended (under g l) spot fs v)
+  ended_top spot [] v = at_top (ended (under g l) spot [] v)
+  ended_top spot (frames.List ss vs ∷ fs) v = tt
+  ended_top spot (frames.Sexp ss vs ∷ fs) v = tt
+  ended_top spot (frames.Named ss ms x ∷ fs) v = tt
+  ended_top spot (frames.Fields ss ms ∷ fs) v = tt
+
+  paid_top : (spot : Spot) (fs : List Frame) (ss : Symbols) (q : Result Payload Reason) → TopGives fs (paid (under g l) spot fs ss q)
+  paid_top spot fs ss (Ok q) = ended_top spot fs _
+  paid_top spot fs ss (Err e) = tt
+
+  released_top : (spot : Spot) (fs : List Frame) (ss : Symbols) (h : Held) → TopGives fs (released (under g l) spot fs ss h)
+  released_top spot [] ss h = at_top (released (under g l) spot [] ss h)
+  released_top spot (f ∷ fs) ss h = paid_top spot (f ∷ fs) ss (held_payload h)
+
+  settled_top : (start : ℕ) (c : List Slot) (fs : List Frame) (ss : Symbols) (now : Now) → TopGives fs (settled (under g l) start c fs ss now)
+  settled_top start c fs ss (nows.Pending h end) = released_top (spot_at end start c) fs ss h
+  settled_top start c fs ss (nows.Long w end) = ended_top (spot_at end start c) fs _
+  settled_top start c fs ss (nows.LongName w) = tt
+  settled_top start c fs ss nows.Ready = tt
+  settled_top start c fs ss nows.After = tt
+  settled_top start c fs ss nows.Name = tt
+  settled_top start c fs ss (nows.Keyed x) = tt
+
+  -- in a container it stays open, and gives nothing
+  abbrev StaysInside : Turn → Type 0
+  StaysInside (goes n) = is_top n.frames ≡ false
+  StaysInside (gives v n) = ⊥
+  StaysInside _ = Unit {0}
+
+  ended_inside : (spot : Spot) (fs : List Frame) (v : Value) → is_top fs ≡ false → StaysInside (ended (under g l) spot fs v)
+  ended_inside spot [] v h = absurd cc
+  ended_inside spot (frames.List ss vs ∷ fs) v h = refl
+  ended_inside spot (frames.Sexp ss vs ∷ fs) v h = refl
+  ended_inside spot (frames.Named ss ms x ∷ fs) v h = refl
+  ended_inside spot (frames.Fields ss ms ∷ fs) v h = tt
+
+  operator_inside : (begin end start : ℕ) (c : List Slot) (fs : List Frame) (ss : Symbols) (w : List ℕ) (now : Now) → is_top fs ≡ false → StaysInside (turn_now (under g l) (at start c fs ss now) (token_at begin end (Operator w)) now)
+  operator_inside begin end start c fs ss w nows.Ready h = ended_inside _ fs _ h
+  operator_inside begin end start c fs ss w (nows.Pending x n) h = tt
+  operator_inside begin end start c fs ss w (nows.Long v n) h = tt
+  operator_inside begin end start c fs ss w nows.After h = tt
+  operator_inside begin end start c fs ss w nows.Name h = tt
+  operator_inside begin end start c fs ss w (nows.LongName v) h = tt
+  operator_inside begin end start c fs ss w (nows.Keyed x) h = tt
+
+  module _ (first : Known) where
+    abbrev NoneOrFirst : Known → Type 0
+    NoneOrFirst s = (held_in s ≡ 0) ⊎ (s ≡ first)
+
+    abbrev KeptTop : Known → Reading → Type 0
+    KeptTop s r = is_top r.frames ≡ true → NoneOrFirst s
+
+    abbrev KeptBehind : Effect → Type 0
+    KeptBehind (leaves v m) = NoneOrFirst m.scan
+    KeptBehind _ = Unit {0}
+
+    noticed_kept : (r : Reading) (s : Known) → KeptBehind (noticed l r s)
+    noticed_kept r s = go (shut r.now && not (is_idle s.mode)) (nat_le (reaches r.frames r s) l.item)
+      where
+        go : (a b : Bool) → KeptBehind (if a then fails reasons.Unexpected else (if b then uses (record { scan = s; reading = r }) else fails reasons.ItemTooLong))
+        go true b = tt
+        go false true = tt
+        go false false = tt
+
+    worse_kept : (e : Reason) (x : Effect) → KeptBehind (or_worse e x)
+    worse_kept e (fails f) = tt
+    worse_kept e (uses m) = tt
+    worse_kept e (tells v m) = tt
+    worse_kept e (leaves v m) = tt
+
+    given_kept : (s : Known) (t : Turn) → KeptBehind (behind_given l s t)
+    given_kept s (goes r) = noticed_kept r s
+    given_kept s (gives v r) = tt
+    given_kept s (refuses e) = tt
+    given_kept s (late e r) = worse_kept e (noticed l r s)
+
+    said_kept : (x : Result Content Reason) (f : Content → Effect) → ((c : Content) → x ≡ Ok c → KeptBehind (f c)) → KeptBehind (on_said x f)
+    said_kept (Ok c) f h = h c refl
+    said_kept (Err e) f h = tt
+
+    abbrev AgainKept : (State → Effect) → Type 0
+    AgainKept again = (k : State) → is_sane k.scan.mode ≡ true → Fine k.scan → KeptTop k.scan k.reading → KeptBehind (again k)
+
+    -- behind a token that was left none is open
+    left_idle : (again : State → Effect) (s : Known) (t : Turn) → AgainKept again → is_sane s.mode ≡ true → Fine s → held_in s ≡ 0 → KeptBehind (behind_left again s t)
+    left_idle again s (goes r) f sane fine h = f (with_scan s r) sane fine (λ _. inl h)
+    left_idle again s (gives v r) f sane fine h = inl h
+    left_idle again s (refuses e) f sane fine h = tt
+    left_idle again s (late e r) f sane fine h = worse_kept e (again (with_scan s r))
+
+    -- or it is an operator in an s-expression
+    left_inside : (again : State → Effect) (s : Known) (t : Turn) → AgainKept again → is_sane s.mode ≡ true → Fine s → StaysInside t → KeptBehind (behind_left again s t)
+    left_inside again s (goes r) f sane fine h = f (with_scan s r) sane fine (λ e. absurd (let n : true ≡ false = sym e ∙ h in cc))
+    left_inside again s (gives v r) f sane fine h = absurd h
+    left_inside again s (refuses e) f sane fine h = tt
+    left_inside again s (late e r) f sane fine h = worse_kept e (again (with_scan s r))
+
+    module _ (r : Reading) (p : Place) (inside : is_sexp p ≡ true → is_top r.frames ≡ false) (again : State → Effect) (f : AgainKept again) where
+      left_kept : (m : Mode) (x : Lexeme) (s : Known) → Follows p m (Left x s) → Finely m (Left x s) → (c : Content) → said x.kind x.octets ≡ Ok c → KeptBehind (behind_left again s (turn g l r (token_of x c)))
+      left_kept m x s fo fi c e = by fi.4 (is_sexp p) refl
+        where
+          idle : is_idle s.mode ≡ true → KeptBehind (behind_left again s (turn g l r (token_of x c)))
+          idle i = left_idle again s (turn g l r (token_of x c)) f fi.3 fi.0 (idle_held s i)
+
+          by : (is_idle s.mode ≡ true) ⊎ (x.kind ≡ kinds.Operator) → (b : Bool) → is_sexp p ≡ b → KeptBehind (behind_left again s (turn g l r (token_of x c)))
+          by (inl i) b q = idle i
+          by (inr k) false q = idle (fo.0 q)
+          by (inr k) true q =
+              left_inside again s (turn g l r (token_of x c)) f fi.3 fi.0
+              (subst (λ y. StaysInside (turn g l r (token_of x y))) (sym (operator_says x c k e)) (operator_inside x.start x.end r.start r.context r.frames r.notes x.octets r.now (inside q)))
+
+      scan_kept : (m : Mode) (x : Outcome) → Follows p m x → Finely m x → KeptBehind (on_scan g l again r x)
+      scan_kept m (Next s) fo fi = noticed_kept r s
+      scan_kept m (Given x s) fo fi = said_kept (said x.kind x.octets) (λ c. behind_given l s (turn g l r (token_of x c))) (λ c e. given_kept s (turn g l r (token_of x c)))
+      scan_kept m (Left x s) fo fi = said_kept (said x.kind x.octets) (λ c. behind_left again s (turn g l r (token_of x c))) (left_kept m x s fo fi)
+      scan_kept m (Refused n e) fo fi = tt
+
+    module _ (s : Known) (r : Reading) (kept : KeptTop s r) (again : State → Effect) (f : AgainKept again) where
+      turned_kept : (x : Outcome) → Follows (place r) s.mode x → Finely s.mode x → (t : Turn) → Leading g l (λ n. is_top n.frames ≡ is_top r.frames) t → TopGives r.frames t → KeptBehind (on_settled g l again s x t)
+      turned_kept x fo fi (goes n) same top = scan_kept n (place r) (λ h. same ∙ sexp_open r.frames r.now h) again f s.mode x fo fi
+      turned_kept x fo fi (gives v n) same top = kept top
+      turned_kept x fo fi (refuses e) same top = tt
+      turned_kept x fo fi (late e n) same top = worse_kept e (on_scan g l again n x)
+
+      same_top : (t : Turn) → Leading g l (λ n. (place n ≡ place r) × (is_top n.frames ≡ is_top r.frames)) t → Leading g l (λ n. is_top n.frames ≡ is_top r.frames) t
+      same_top (goes n) h = h.1
+      same_top (gives v n) h = h.1
+      same_top (refuses e) h = tt
+      same_top (late e n) h = tt
+
+      octet_kept : (x : Outcome) → Follows (place r) s.mode x → Finely s.mode x → KeptBehind (on_octet g l again (with_scan s r) x)
+      octet_kept x fo fi = go (unsettled s r x)
+        where
+          go : (w : Bool) → KeptBehind (if w then on_scan g l again r x else on_settled g l again s x (settle g l r))
+          go true = scan_kept r (place r) (λ h. sexp_open r.frames r.now h) again f s.mode x fo fi
+          go false =
+              turned_kept x fo fi (settle g l r) (same_top (settle g l r) (settle_same g l r.start r.context r.frames r.notes r.now))
+              (settled_top r.start r.context r.frames r.notes r.now)
+
+    takes_kept : (n : ℕ) (m : State) (o : ℕ) → is_sane m.scan.mode ≡ true → Fine m.scan → KeptTop m.scan m.reading → KeptBehind (takes g l n m o)
+    takes_kept zero m o sane fine kept = tt
+    takes_kept (suc n) m o sane fine kept =
+        octet_kept m.scan m.reading kept (λ k. takes g l n k o) (λ k i j h. takes_kept n k o i j h) (feed (place m.reading) m.scan o) (feed_follows (place m.reading) m.scan o sane) (feed_fine (place m.reading) m.scan o fine)
+
+  -- 3. What is held stands for octets.
+
+  -- behind octets of which none is refused
+  led_stood : (u : List ℕ) (s : List (Value × ℕ)) (m : State) → run g l 0 begun u ≡ record { given = s; now = Ok m } → Stood g l u (plain s) m
+  led_stood u s m h = subst (StoodBehind g l u []) h (run_ran g l u [] [] 0 begun (begun_stood g l))
+
+  led_within : (u : List ℕ) (s : List (Value × ℕ)) (m : State) → run g l 0 begun u ≡ record { given = s; now = Ok m } → Within g l m
+  led_within u s m h = subst (λ (x : Run). EndsWithin g l x.now) h (begun_within g l u)
+
+  led_kept : (u : List ℕ) (s : List (Value × ℕ)) (m : State) (looked : ℕ) → run g l 0 begun u ≡ record { given = s; now = Ok m } → IsSteady m.scan looked → held_in m.scan ≤ l.item
+  led_kept u s m looked h steady = let b = led_stood u s m h in stood_kept g l u (plain s) m b (led_within u s m h) looked steady
+
+  ran_kept : (u : List ℕ) (s : List (Value × ℕ)) (m : State) (awaited : Option ℕ) (looked : ℕ) → Ran g l u s m awaited → IsSteady m.scan looked → held_in m.scan ≤ l.item
+  ran_kept u s m None looked h steady = led_kept u s m looked h steady
+  ran_kept u s m (Some o) looked h steady = by left
+    where
+      b : Stood g l u (plain h.given) h.before
+      b = led_stood u h.given h.before h.ran
+
+      left : NoneOrFirst h.before.scan m.scan
+      left = subst (KeptBehind h.before.scan) h.left (takes_kept h.before.scan 3 h.before o b.sane b.fine (λ e. inr refl))
+
+      by : (held_in m.scan ≡ 0) ⊎ (m.scan ≡ h.before.scan) → held_in m.scan ≤ l.item
+      by (inl e) = omega (arith, e)
+      by (inr e) = subst (λ k. held_in k ≤ l.item) (sym e) (led_kept u h.given h.before looked h.ran (subst (λ k. IsSteady k looked) e steady))
+
+-- The octets kept are of the open item, and within the limit on items.
+pub bounded : (r : TextReader) (u : List ℕ) (s : List (Value × ℕ)) → Stands r u s → octets_kept r ≤ r.limits.item
+bounded r u s h =
+    let held = ran_kept r.catalog.now r.limits u s (state_of r) r.awaited (looks r.scanner) h.ran h.steady in
+    let beside = ap length r.beside.none_open in
+    omega arith

@@ -1,0 +1,582 @@
+-- Each value has at most as many nodes as octets were used since the value before it, and as the limit on items allows octets.
+use Rattle.std.proofs.Common.{◌≡◌, ℕ, zero, suc, ◌+◌, ◌≤◌, max, nat_le, List, [], ◌∷◌, ◌++◌, length, Bool, true, false, ◌&&◌, ◌||◌, not, Result, Ok, Err, Option, Some, None, refl, ap, sym, ◌∙◌, subst, arith, if◌then◌else◌, ◌⊎◌, inl, inr}
+use Rattle.ion_model.specs.declared.value.Value.{Value}
+use Rattle.ion_atoms.specs.declared.refusal.Reason.{Reason}
+use Rattle.ion_atoms.specs.declared.refusal.Reason.TheVariants as reasons
+use Rattle.ion_atoms.specs.declared.refusal.Refusal.{Refusal}
+use Rattle.ion_symtab.specs.declared.limits.Limits.{Limits}
+use Rattle.ion_symtab.specs.declared.catalog.Catalog.{Catalog}
+use Rattle.ion_symtab.specs.Slots.{Slot}
+use Rattle.ion_symtab.specs.Promises.{HasSpan, Spaced, IsSmall}
+use Rattle.ion_tokens.specs.declared.mode.Place.{Place}
+use Rattle.ion_tokens.specs.declared.mode.Place.TheVariants as places
+use Rattle.ion_tokens.specs.declared.mode.Mode.{Mode}
+use Rattle.ion_tokens.specs.declared.mode.Mode.TheVariants as modes
+use Rattle.ion_tokens.specs.declared.mode.Mark.TheVariants as marks
+use Rattle.ion_tokens.specs.declared.mode.TokenKind.TheVariants as kinds
+use Rattle.ion_tokens.specs.Places.{is_sexp}
+use Rattle.ion_tokens.specs.machine.Bounds.{is_idle}
+use Rattle.ion_tokens.specs.machine.Table.{end_of}
+use Rattle.ion_tokens.specs.machine.Ahead.{is_quoting, is_quoted, long_waits}
+use Rattle.ion_tokens.specs.Bodies.{Content, Operator, Mark', IsBody}
+use Rattle.ion_tokens.specs.machine.Said.{said}
+use Rattle.ion_tokens.specs.machine.Scanning.{Known, Lexeme, Outcome, Next, Given, Left, Refused, feed, at_end}
+use Rattle.ion_text.specs.declared.state.Now.{Now}
+use Rattle.ion_text.specs.declared.state.Now.TheVariants as nows
+use Rattle.ion_text.specs.declared.state.Frame.{Frame}
+use Rattle.ion_text.specs.declared.state.Frame.TheVariants as frames
+use Rattle.ion_text.specs.machine.EachToken.{under, token_at, Reading, Turn, goes, gives, refuses, late, Symbols, at, fresh, place, place_in, settle, turn, turn_now}
+use Rattle.ion_text.specs.machine.Run.{State, Effect, uses, tells, leaves, fails, begun, eats, takes, waits, waits_now, in_segment, unsettled, noticed, shut, reaches, or_worse, on_scan, on_settled, on_said, behind_given, behind_left, with_scan, token_of, is_top, Run, run, run_on, once_more, trace, ends_of, cut_short, end_late, end_settled, end_turned, end_said, end_waiting, end_ready, end_now, is_fresh}
+use Rattle.ion_text.specs.laws.reading.sound.Held.{or_parts}
+use Rattle.ion_text.specs.laws.reading.complete.Segments.{NotRefused, unsettled_waits}
+use Rattle.ion_text.specs.laws.reading.sound.Sound.{start_now}
+use Rattle.ion_text.specs.machine.Passed.{said_body}
+use Rattle.ion_text.specs.machine.Places.{Leading, settle_same}
+use Rattle.ion_text.specs.laws.reading.complete.Meets.{IdleLeft, idle_left, end_spans}
+use Rattle.ion_text.specs.laws.reading.small.Lengths.{wants, wants_next, next_wants, idle_next, quoting_next, Sized, sized_initial, EndedToken, Measured, feed_measured, token_wants}
+use Rattle.ion_text.specs.laws.reading.small.Sizes.{frames_nodes, now_nodes, open_nodes, WaitsSince, TopWaits, Weighs, turn_weighs, settle_weighs, wait_end}
+
+-- what waits ended behind so many octets, and within those used
+abbrev pub WaitsFrom : ℕ → ℕ → Now → Type 0
+WaitsFrom b used (nows.Pending h end) = (b ≤ end) × (end ≤ used)
+WaitsFrom b used (nows.Long w end) = (b ≤ end) × (end ≤ used)
+WaitsFrom b used _ = Unit {0}
+
+-- behind it no token is open, but quotes behind a long string
+abbrev pub WaitsIn : Now → Mode → Type 0
+WaitsIn (nows.Pending h end) m = is_idle m ≡ true
+WaitsIn (nows.Long w end) m = (is_idle m ≡ true) ⊎ (is_quoting m ≡ true)
+WaitsIn _ m = Unit {0}
+
+-- Behind `from` octets, which were used when the value before came, there is an octet for each node of what is open. They are counted from
+-- `base`: where the item begins or, if its first quote was used before that value came, one octet later.
+pub record Near (from : ℕ) (s : Known) (r : Reading) : Type 0 where
+  pub base : ℕ
+  pub behind : from ≤ base
+  pub starts : r.start ≤ base
+  pub far : base + open_nodes r + wants s.mode ≤ s.used
+  pub waiting : is_top r.frames ≡ true → WaitsFrom (base + open_nodes r) s.used r.now
+  pub quiet : is_top r.frames ≡ true → WaitsIn r.now s.mode
+  pub sized : Sized s
+
+-- the same where a token ended
+pub record EndedNear (from : ℕ) (r : Reading) (x : Lexeme) (t : Known) : Type 0 where
+  pub base : ℕ
+  pub behind : from ≤ base
+  pub starts : r.start ≤ base
+  pub far : base + open_nodes r + 1 ≤ x.end
+  pub some : x.start + 1 ≤ x.end
+  pub rest : x.end + wants t.mode ≤ t.used
+  pub idle : is_top r.frames ≡ true → is_idle t.mode ≡ true
+  pub sized : Sized t
+
+-- Where no item is open, one begins with the token. Its octets count from where it begins, but for those used before.
+opened : (now : Now) (fs : List Frame) (ss : Symbols) (start begin base end : ℕ) → start ≤ base → base + (frames_nodes fs + length ss + now_nodes now) + 1 ≤ end → begin + 1 ≤ end
+    → (b : ℕ) × (base ≤ b) × (start_now now start begin fs ss ≤ b) × (b + (frames_nodes fs + length ss + now_nodes now) + 1 ≤ end)
+opened nows.Ready [] [] start begin base end h k n = (max base begin, omega arith, omega arith, omega (arith, k, n))
+opened nows.Ready [] (s ∷ ss) start begin base end h k n = (base, omega arith, h, k)
+opened nows.Ready (f ∷ fs) [] start begin base end h k n = (base, omega arith, h, k)
+opened nows.Ready (f ∷ fs) (s ∷ ss) start begin base end h k n = (base, omega arith, h, k)
+opened (nows.Pending x e) fs ss start begin base end h k n = (base, omega arith, h, k)
+opened (nows.Long w e) fs ss start begin base end h k n = (base, omega arith, h, k)
+opened nows.After fs ss start begin base end h k n = (base, omega arith, h, k)
+opened nows.Name fs ss start begin base end h k n = (base, omega arith, h, k)
+opened (nows.LongName w) fs ss start begin base end h k n = (base, omega arith, h, k)
+opened (nows.Keyed s) fs ss start begin base end h k n = (base, omega arith, h, k)
+
+-- what is said of the top level
+at_top : (end : ℕ) (top : Bool) (fs : List Frame) (now : Now) → TopWaits end top fs now → is_top fs ≡ true → WaitsSince end top now
+at_top end top [] now h e = h
+at_top end top (f ∷ fs) now h e = absurd cc
+
+-- what began to wait with a token
+since_behind : (b used end : ℕ) (top : Bool) (now : Now) → WaitsSince end top now → b ≤ end → end ≤ used → WaitsFrom b used now
+since_behind b used end top (nows.Pending h e) w k n = (omega (arith, w.0, k), omega (arith, w.0, n))
+since_behind b used end top (nows.Long v e) w k n = (omega (arith, w.0, k), omega (arith, w.0, n))
+since_behind b used end top nows.Ready w k n = tt
+since_behind b used end top nows.After w k n = tt
+since_behind b used end top nows.Name w k n = tt
+since_behind b used end top (nows.LongName v) w k n = tt
+since_behind b used end top (nows.Keyed s) w k n = tt
+
+since_in : (end : ℕ) (top : Bool) (now : Now) (m : Mode) → WaitsSince end top now → (top ≡ true → is_idle m ≡ true) → WaitsIn now m
+since_in end top (nows.Pending h e) m w i = i w.1
+since_in end top (nows.Long v e) m w i = inl (i w.1)
+since_in end top nows.Ready m w i = tt
+since_in end top nows.After m w i = tt
+since_in end top nows.Name m w i = tt
+since_in end top (nows.LongName v) m w i = tt
+since_in end top (nows.Keyed s) m w i = tt
+
+-- nothing was told to wait behind what didn't stand at the top level
+none_since : (b used end : ℕ) (now : Now) → WaitsSince end false now → WaitsFrom b used now
+none_since b used end (nows.Pending h e) w = absurd (let n : false ≡ true = w.1 in cc)
+none_since b used end (nows.Long v e) w = absurd (let n : false ≡ true = w.1 in cc)
+none_since b used end nows.Ready w = tt
+none_since b used end nows.After w = tt
+none_since b used end nows.Name w = tt
+none_since b used end (nows.LongName v) w = tt
+none_since b used end (nows.Keyed s) w = tt
+
+none_in : (end : ℕ) (now : Now) (m : Mode) → WaitsSince end false now → WaitsIn now m
+none_in end now m w = since_in end false now m w (λ e. absurd cc)
+
+-- more octets change nothing
+longer : (b used later : ℕ) (now : Now) → WaitsFrom b used now → used ≤ later → WaitsFrom b later now
+longer b used later (nows.Pending h e) w k = (w.0, omega (arith, w.1, k))
+longer b used later (nows.Long v e) w k = (w.0, omega (arith, w.1, k))
+longer b used later nows.Ready w k = tt
+longer b used later nows.After w k = tt
+longer b used later nows.Name w k = tt
+longer b used later (nows.LongName v) w k = tt
+longer b used later (nows.Keyed s) w k = tt
+
+-- no item is open, and no octet behind the values before belongs to one
+near_fresh : (from : ℕ) (s : Known) (r : Reading) → r ≡ fresh r.context → from + wants s.mode ≤ s.used → Sized s → Near from s r
+near_fresh from s r e h z = subst (Near from s) (sym e) (record { base = from; behind = omega arith; starts = omega arith; far = omega (arith, h); waiting = λ _. tt; quiet = λ _. tt; sized = z })
+
+one_true : (a b : Bool) → (a || b) ≡ true → (a ≡ true) ⊎ (b ≡ true)
+one_true true b h = inl refl
+one_true false b h = inr h
+
+-- what waits goes on to wait at an octet
+waits_in : (now : Now) (top : Bool) (t : Known) → waits_now top now (Next t) ≡ true → WaitsIn now t.mode
+waits_in (nows.Pending h e) top t w = w
+waits_in (nows.Long v e) top t w = one_true (is_idle t.mode) (is_quoting t.mode) w
+waits_in nows.Ready top t w = tt
+waits_in nows.After top t w = tt
+waits_in nows.Name top t w = tt
+waits_in (nows.LongName v) top t w = tt
+waits_in (nows.Keyed s) top t w = tt
+
+-- no operators stand at the top level
+top_sexp : (fs : List Frame) (now : Now) → is_top fs ≡ true → is_sexp (place_in fs now) ≡ false
+top_sexp [] now h = refl
+top_sexp (f ∷ fs) now h = absurd cc
+
+-- where no operator may end, none is open behind a token
+ended_idle : (p : Place) (x : Lexeme) (m : Mode) → (is_idle m ≡ true) ⊎ ((x.kind ≡ kinds.Operator) × (is_sexp p ≡ true)) → is_sexp p ≡ false → is_idle m ≡ true
+ended_idle p x m (inl h) e = h
+ended_idle p x m (inr h) e = absurd (let n : true ≡ false = sym h.1 ∙ e in cc)
+
+-- an operator in a container ends no value of the top level
+abbrev GivesNone : Turn → Type 0
+GivesNone (gives v r) = ⊥
+GivesNone _ = Unit {0}
+
+operator_body : (octets : List ℕ) (c : Content) → IsBody kinds.Operator octets (Ok c) → c ≡ Operator octets
+operator_body octets c h = h.0
+
+colon_body : (octets : List ℕ) (c : Content) → IsBody (kinds.Mark marks.Colon) octets (Ok c) → c ≡ Mark' marks.Colon
+colon_body octets c h = let e : Ok c ≡ Ok (Mark' marks.Colon) = h in cc
+
+module _ (g : Catalog) (l : Limits) where
+  -- what a token leads to
+  abbrev TurnNear : ℕ → Known → Turn → Type 0
+  TurnNear from t (goes r) = Near from t r
+  TurnNear from t (gives v r) = HasSpan l.item from t.used v × (r ≡ fresh r.context)
+  TurnNear from t (refuses e) = Unit {0}
+  TurnNear from t (late e r) = Unit {0}
+
+  led_near : (from : ℕ) (r : Reading) (x : Lexeme) (t : Known) (turned : Turn) (e : EndedNear from r x t) → Weighs (open_nodes r + 1) l.item (start_now r.now r.start x.start r.frames r.notes) x.end (is_top r.frames) turned → TurnNear from t turned
+  led_near from r x t (goes n) e w =
+      let b = opened r.now r.frames r.notes r.start x.start e.base x.end e.starts e.far e.some in
+      let less : b.0 + open_nodes n ≤ x.end = omega (arith, b.3, w.0) in
+      record {
+        base = b.0;
+        behind = omega (arith, e.behind, b.1);
+        starts = omega (arith, w.1, b.2);
+        far = omega (arith, less, e.rest);
+        waiting = λ i. since_behind (b.0 + open_nodes n) t.used x.end (is_top r.frames) n.now (at_top x.end (is_top r.frames) n.frames n.now w.2 i) less (omega (arith, e.rest));
+        quiet = λ i. since_in x.end (is_top r.frames) n.now t.mode (at_top x.end (is_top r.frames) n.frames n.now w.2 i) e.idle;
+        sized = e.sized;
+      }
+  led_near from r x t (gives v n) e w =
+      let b = opened r.now r.frames r.notes r.start x.start e.base x.end e.starts e.far e.some in
+      (record { start = b.0; end = x.end; behind = omega (arith, e.behind, b.1); within = omega (arith, e.rest); fits = omega (arith, w.1, b.2); holds = omega (arith, w.0, b.3) }, w.2)
+  led_near from r x t (refuses y) e w = tt
+  led_near from r x t (late y n) e w = tt
+
+  token_near : (from : ℕ) (r : Reading) (x : Lexeme) (t : Known) (c : Content) → EndedNear from r x t → TurnNear from t (turn g l r (token_of x c))
+  token_near from r x t c e = led_near from r x t (turn g l r (token_of x c)) e (turn_weighs g l r (token_of x c))
+
+  -- what settling leads to
+  settled_near : (from : ℕ) (s : Known) (r : Reading) (turned : Turn) (h : Near from s r) → Weighs (open_nodes r) l.item r.start (wait_end r.now) false turned → (GivesNone turned ⊎ ((h.base + open_nodes r ≤ wait_end r.now) × (wait_end r.now ≤ s.used))) → TurnNear from s turned
+  settled_near from s r (goes n) h w k = record {
+    base = h.base;
+    behind = h.behind;
+    starts = omega (arith, h.starts, w.1);
+    far = omega (arith, h.far, w.0);
+    waiting = λ i. none_since (h.base + open_nodes n) s.used (wait_end r.now) n.now (at_top (wait_end r.now) false n.frames n.now w.2 i);
+    quiet = λ i. none_in (wait_end r.now) n.now s.mode (at_top (wait_end r.now) false n.frames n.now w.2 i);
+    sized = h.sized;
+  }
+  settled_near from s r (gives v n) h w (inl k) = absurd k
+  settled_near from s r (gives v n) h w (inr k) =
+      (record { start = h.base; end = wait_end r.now; behind = h.behind; within = k.1; fits = omega (arith, w.1, h.starts); holds = omega (arith, w.0, k.0) }, w.2)
+  settled_near from s r (refuses e) h w k = tt
+  settled_near from s r (late e n) h w k = tt
+
+  -- where a container is open settling gives no value
+  inside : (n start end : ℕ) (fs : List Frame) (now : Now) (turned : Turn) → Leading g l (λ (r : Reading). (place r ≡ place_in fs now) × (is_top r.frames ≡ is_top fs)) turned → Weighs n l.item start end false turned → is_top fs ≡ false → GivesNone turned
+  inside n start end fs now (goes r) h w e = tt
+  inside n start end fs now (gives v r) h w e = absurd (let k : true ≡ false = sym (ap (λ (x : Reading). is_top x.frames) w.2) ∙ (h.1 ∙ e) in cc)
+  inside n start end fs now (refuses x) h w e = tt
+  inside n start end fs now (late x r) h w e = tt
+
+  open_none : (start : ℕ) (c : List Slot) (f : Frame) (fs : List Frame) (ss : Symbols) (now : Now) → GivesNone (settle g l (at start c (f ∷ fs) ss now))
+  open_none start c f fs ss now =
+      inside (open_nodes (at start c (f ∷ fs) ss now)) start (wait_end now) (f ∷ fs) now (settle g l (at start c (f ∷ fs) ss now))
+      (settle_same g l start c (f ∷ fs) ss now) (settle_weighs g l (at start c (f ∷ fs) ss now)) refl
+
+  -- what gives a value waited
+  waited_near : (from : ℕ) (s : Known) (start : ℕ) (c : List Slot) (fs : List Frame) (ss : Symbols) (now : Now) (h : Near from s (at start c fs ss now))
+      → GivesNone (settle g l (at start c fs ss now)) ⊎ ((h.base + open_nodes (at start c fs ss now) ≤ wait_end now) × (wait_end now ≤ s.used))
+  waited_near from s start c (f ∷ fs) ss now h = inl (open_none start c f fs ss now)
+  waited_near from s start c [] ss (nows.Pending k e) h = inr (h.waiting refl)
+  waited_near from s start c [] ss (nows.Long w e) h = inr (h.waiting refl)
+  waited_near from s start c [] ss nows.Ready h = inl tt
+  waited_near from s start c [] ss nows.After h = inl tt
+  waited_near from s start c [] ss nows.Name h = inl tt
+  waited_near from s start c [] ss (nows.LongName w) h = inl tt
+  waited_near from s start c [] ss (nows.Keyed k) h = inl tt
+
+  settle_near : (from : ℕ) (s : Known) (r : Reading) → Near from s r → TurnNear from s (settle g l r)
+  settle_near from s r h = settled_near from s r (settle g l r) h (settle_weighs g l r) (waited_near from s r.start r.context r.frames r.notes r.now h)
+
+  -- nothing waits behind what was settled
+  abbrev SettledNear : Turn → Type 0
+  SettledNear (goes r) = (m : Mode) → is_top r.frames ≡ true → WaitsIn r.now m
+  SettledNear _ = Unit {0}
+
+  settled_in : (n start end : ℕ) (turned : Turn) → Weighs n l.item start end false turned → SettledNear turned
+  settled_in n start end (goes r) w = λ m i. none_in end r.now m (at_top end false r.frames r.now w.2 i)
+  settled_in n start end (gives v r) w = tt
+  settled_in n start end (refuses e) w = tt
+  settled_in n start end (late e r) w = tt
+
+  -- what came of an octet at the scanner: where an octet showed the end of a value, it may be a colon, which is refused
+  abbrev ScannedNear : ℕ → Reading → Outcome → Type 0
+  ScannedNear from r (Next t) = Near from t r
+  ScannedNear from r (Given x t) = EndedNear from r x t
+  ScannedNear from r (Left x t) = EndedNear from r x t ⊎ ((x.kind ≡ kinds.Mark marks.Colon) × (r ≡ fresh r.context))
+  ScannedNear from r (Refused n e) = Unit {0}
+
+  module _ (from : ℕ) (s : Known) (r : Reading) (h : Near from s r) where
+    idle_ended : (x : Lexeme) (t : Known) → EndedToken (place r) s x t → is_top r.frames ≡ true → is_idle t.mode ≡ true
+    idle_ended x t e i = ended_idle (place r) x t.mode e.idle (top_sexp r.frames r.now i)
+
+    ends_near : (x : Lexeme) (t : Known) → EndedToken (place r) s x t → EndedNear from r x t
+    ends_near x t e = record { base = h.base; behind = h.behind; starts = h.starts; far = omega (arith, h.far, e.behind); some = e.some; rest = e.rest; idle = idle_ended x t e; sized = e.sized }
+
+    comes_near : (x : Outcome) → Measured (place r) s x → ((t : Known) → x ≡ Next t → is_top r.frames ≡ true → WaitsIn r.now t.mode) → ScannedNear from r x
+    comes_near (Next t) z w = record {
+      base = h.base;
+      behind = h.behind;
+      starts = h.starts;
+      far = omega (arith, h.far, z.1, z.2, next_wants s.mode);
+      waiting = λ i. longer (h.base + open_nodes r) s.used t.used r.now (h.waiting i) (omega (arith, z.1));
+      quiet = w t refl;
+      sized = z.0;
+    }
+    comes_near (Given x t) z w = ends_near x t z.0
+    comes_near (Left x t) z w = inl (ends_near x t z.0)
+    comes_near (Refused n e) z w = tt
+
+  -- Behind a value, at the octet that showed its end. Behind a long string one quote may be used then: of the symbol that it begins an
+  -- octet more comes before the token ends, so that the octets from here on suffice.
+  comes_again : (p : Place) (s : Known) (r : Reading) (x : Outcome) → r ≡ fresh r.context → p ≡ places.Top → wants_next s.mode ≡ 1 → Measured p s x → ((y : Lexeme) (t : Known) → x ≡ Left y t → y.kind ≡ kinds.Mark marks.Colon) → ScannedNear s.used r x
+  comes_again p s r (Next t) e q m z k = near_fresh s.used t r e (omega (arith, z.1, z.2, m)) z.0
+  comes_again p s r (Given y t) e q m z k =
+      subst (λ n. EndedNear s.used n y t) (sym e)
+      (record { base = s.used; behind = omega arith; starts = omega arith; far = omega (arith, z.2); some = z.0.some; rest = z.0.rest; idle = λ _. ended_idle p y t.mode z.0.idle (ap is_sexp q); sized = z.0.sized })
+  comes_again p s r (Left y t) e q m z k = inr (k y t refl, e)
+  comes_again p s r (Refused n y) e q m z k = tt
+
+  idle_colon : (s : Known) (o : ℕ) → is_idle s.mode ≡ true → (y : Lexeme) (t : Known) → feed places.Top s o ≡ Left y t → y.kind ≡ kinds.Mark marks.Colon
+  idle_colon s o h y t e = by (subst (IdleLeft places.Top s.used) e (idle_left places.Top s o h))
+    where
+      by : ((y.kind ≡ kinds.Mark marks.Colon) × (s.used ≤ y.end)) ⊎ ((y.kind ≡ kinds.Operator) × (is_sexp places.Top ≡ true)) → y.kind ≡ kinds.Mark marks.Colon
+      by (inl k) = k.0
+      by (inr k) = absurd (let n : false ≡ true = k.1 in cc)
+
+  -- a value came of an octet, or what is read goes on
+  abbrev CameNear : ℕ → ℕ → ℕ → Effect → Type 0
+  CameNear from used o (uses m) = Near from m.scan m.reading × (m.scan.used ≡ used + 1)
+  CameNear from used o (tells v m) = HasSpan l.item from (used + 1) v × Near (used + 1) m.scan m.reading × (m.scan.used ≡ used + 1)
+  CameNear from used o (leaves v m) = HasSpan l.item from used v × (m.scan.used ≡ used) × (m.reading ≡ fresh m.reading.context) × ScannedNear used m.reading (feed (place m.reading) m.scan o) × Sized m.scan
+  CameNear from used o (fails e) = Unit {0}
+
+  module _ (from used o : ℕ) where
+    worse_came : (e : Reason) (x : Effect) → CameNear from used o (or_worse e x)
+    worse_came e (fails f) = tt
+    worse_came e (uses m) = tt
+    worse_came e (tells v m) = tt
+    worse_came e (leaves v m) = tt
+
+    noticed_came : (r : Reading) (t : Known) → Near from t r → t.used ≡ used + 1 → CameNear from used o (noticed l r t)
+    noticed_came r t h e = go (shut r.now && not (is_idle t.mode)) (nat_le (reaches r.frames r t) l.item)
+      where
+        go : (x y : Bool) → CameNear from used o (if x then fails reasons.Unexpected else (if y then uses (record { scan = t; reading = r }) else fails reasons.ItemTooLong))
+        go true y = tt
+        go false true = (h, e)
+        go false false = tt
+
+    said_came : (r : Result Content Reason) (f : Content → Effect) → ((c : Content) → r ≡ Ok c → CameNear from used o (f c)) → CameNear from used o (on_said r f)
+    said_came (Ok c) f h = h c refl
+    said_came (Err e) f h = tt
+
+    given_came : (t : Known) (turned : Turn) → TurnNear from t turned → t.used ≡ used + 1 → wants t.mode ≡ 0 → Sized t → CameNear from used o (behind_given l t turned)
+    given_came t (goes r) h e w z = noticed_came r t h e
+    given_came t (gives v r) h e w z = (subst (λ n. HasSpan l.item from n v) e h.0, near_fresh (used + 1) t r h.1 (omega (arith, e, w)) z, e)
+    given_came t (refuses x) h e w z = tt
+    given_came t (late x r) h e w z = worse_came x (noticed l r t)
+
+    -- where the reader goes on at the octet
+    abbrev AgainNear : (State → Effect) → Type 0
+    AgainNear again = (k : State) → Near from k.scan k.reading → k.scan.used ≡ used → CameNear from used o (again k)
+
+    left_came : (again : State → Effect) (t : Known) (turned : Turn) → AgainNear again → TurnNear from t turned → t.used ≡ used → (GivesNone turned ⊎ (is_idle t.mode ≡ true)) → Sized t → CameNear from used o (behind_left again t turned)
+    left_came again t (goes r) f h e i z = f (with_scan t r) h e
+    left_came again t (gives v r) f h e (inl i) z = absurd i
+    left_came again t (gives v r) f h e (inr i) z =
+        let top : place r ≡ places.Top = ap place h.1 in (
+          subst (λ n. HasSpan l.item from n v) e h.0,
+          e,
+          h.1,
+          subst (λ n. ScannedNear n r (feed (place r) t o)) e (comes_again (place r) t r (feed (place r) t o) h.1 top (idle_next t.mode i) (feed_measured (place r) t o z) (λ y k q. idle_colon t o i y k (ap (λ p. feed p t o) (sym top) ∙ q))),
+          z,
+        )
+    left_came again t (refuses x) f h e i z = tt
+    left_came again t (late x r) f h e i z = worse_came x (again (with_scan t r))
+
+    -- a colon where no item is open
+    colon_fails : (again : State → Effect) (t : Known) (r : Reading) (x : Lexeme) (c : Content) → r ≡ fresh r.context → c ≡ Mark' marks.Colon → CameNear from used o (behind_left again t (turn g l r (token_of x c)))
+    colon_fails again t r x c e k =
+        subst (λ n. CameNear from used o (behind_left again t (turn g l n (token_of x c)))) (sym e)
+        (subst (λ b. CameNear from used o (behind_left again t (turn g l (fresh r.context) (token_of x b)))) (sym k) tt)
+
+    operator_gives : (begin end start : ℕ) (c : List Slot) (fs : List Frame) (ss : Symbols) (now : Now) (w : List ℕ) → is_top fs ≡ false → GivesNone (turn_now (under g l) (at start c fs ss now) (token_at begin end (Operator w)) now)
+    operator_gives begin end start c [] ss now w h = absurd cc
+    operator_gives begin end start c (frames.List xs vs ∷ fs) ss nows.Ready w h = tt
+    operator_gives begin end start c (frames.Sexp xs vs ∷ fs) ss nows.Ready w h = tt
+    operator_gives begin end start c (frames.Fields xs vs ∷ fs) ss nows.Ready w h = tt
+    operator_gives begin end start c (frames.Named xs vs s ∷ fs) ss nows.Ready w h = tt
+    operator_gives begin end start c (f ∷ fs) ss (nows.Pending k e) w h = tt
+    operator_gives begin end start c (f ∷ fs) ss (nows.Long k e) w h = tt
+    operator_gives begin end start c (f ∷ fs) ss nows.After w h = tt
+    operator_gives begin end start c (f ∷ fs) ss nows.Name w h = tt
+    operator_gives begin end start c (f ∷ fs) ss (nows.LongName k) w h = tt
+    operator_gives begin end start c (f ∷ fs) ss (nows.Keyed k) w h = tt
+
+    -- a token that is left gives a value where none is open behind it
+    left_idle : (p : Place) (r : Reading) (x : Lexeme) (t : Known) (c : Content) → p ≡ place r → (is_idle t.mode ≡ true) ⊎ ((x.kind ≡ kinds.Operator) × (is_sexp p ≡ true)) → said x.kind x.octets ≡ Ok c → GivesNone (turn g l r (token_of x c)) ⊎ (is_idle t.mode ≡ true)
+    left_idle p r x t c q (inl i) e = inr i
+    left_idle p r x t c q (inr i) e = by (is_top r.frames) refl
+      where
+        by : (b : Bool) → is_top r.frames ≡ b → GivesNone (turn g l r (token_of x c)) ⊎ (is_idle t.mode ≡ true)
+        by true k = absurd (let n : true ≡ false = sym i.1 ∙ (ap is_sexp q ∙ top_sexp r.frames r.now k) in cc)
+        by false k =
+            let operator : c ≡ Operator x.octets = operator_body x.octets c (subst (λ y. IsBody y x.octets (Ok c)) i.0 (said_body x.kind x.octets c e)) in
+            inl (subst (λ y. GivesNone (turn g l r (token_of x y))) (sym operator) (operator_gives x.start x.end r.start r.context r.frames r.notes r.now x.octets k))
+
+    -- An octet at the scanner.
+    scan_came : (p : Place) (s : Known) (r : Reading) (again : State → Effect) (x : Outcome) → p ≡ place r → s.used ≡ used → AgainNear again → Measured p s x → ScannedNear from r x → CameNear from used o (on_scan g l again r x)
+    scan_came p s r again (Next t) q e f z h = noticed_came r t h (omega (arith, z.1, e))
+    scan_came p s r again (Given x t) q e f z h =
+        said_came (said x.kind x.octets) (λ c. behind_given l t (turn g l r (token_of x c)))
+        (λ c k. given_came t (turn g l r (token_of x c)) (token_near from r x t c h) (omega (arith, z.1, e)) (omega (arith, z.1, z.2, h.rest)) h.sized)
+    scan_came p s r again (Left x t) q e f z (inl h) =
+        said_came (said x.kind x.octets) (λ c. behind_left again t (turn g l r (token_of x c)))
+        (λ c k. left_came again t (turn g l r (token_of x c)) f (token_near from r x t c h) (omega (arith, z.1, e)) (left_idle p r x t c q z.0.idle k) h.sized)
+    scan_came p s r again (Left x t) q e f z (inr h) =
+        said_came (said x.kind x.octets) (λ c. behind_left again t (turn g l r (token_of x c)))
+        (λ c k. colon_fails again t r x c h.1 (colon_body x.octets c (subst (λ y. IsBody y x.octets (Ok c)) h.0 (said_body x.kind x.octets c k))))
+    scan_came p s r again (Refused n y) q e f z h = tt
+
+    -- What gives a value before the octet waited, and the octet ends no token behind it but a colon.
+    abbrev ShowsEnd : Known → Type 0
+    ShowsEnd s = (wants_next s.mode ≡ 1) × ((y : Lexeme) (t : Known) → feed places.Top s o ≡ Left y t → y.kind ≡ kinds.Mark marks.Colon)
+
+    never_quoted : (b : Bool) → b ≡ true → (true && b) ≡ false → ⊥
+    never_quoted true h k = cc
+    never_quoted false h k = cc
+
+    long_shows : (s : Known) → Sized s → long_waits true (feed places.Top s o) ≡ false → (is_idle s.mode ≡ true) ⊎ (is_quoting s.mode ≡ true) → ShowsEnd s
+    long_shows s z w (inl i) = (idle_next s.mode i, idle_colon s o i)
+    long_shows s z w (inr q) = (quoting_next s.mode q, λ y t e. absurd (quoted (feed places.Top s o) (feed_measured places.Top s o z) w y t e))
+      where
+        quoted : (x : Outcome) → Measured places.Top s x → long_waits true x ≡ false → (y : Lexeme) (t : Known) → x ≡ Left y t → ⊥
+        quoted (Left x k) h w y t e = never_quoted (is_quoted x.kind) (h.2 q) w
+        quoted (Next k) h w y t e = cc
+        quoted (Given x k) h w y t e = cc
+        quoted (Refused n x) h w y t e = cc
+
+    shown_before : (s : Known) (start : ℕ) (c : List Slot) (fs : List Frame) (ss : Symbols) (now : Now) → Near from s (at start c fs ss now) → waits (at start c fs ss now) (feed (place_in fs now) s o) ≡ false
+        → GivesNone (settle g l (at start c fs ss now)) ⊎ ShowsEnd s
+    shown_before s start c (f ∷ fs) ss now h w = inl (open_none start c f fs ss now)
+    shown_before s start c [] ss (nows.Pending k e) h w = inr (idle_next s.mode (h.quiet refl), idle_colon s o (h.quiet refl))
+    shown_before s start c [] ss (nows.Long v e) h w = inr (long_shows s h.sized w (h.quiet refl))
+    shown_before s start c [] ss nows.Ready h w = inl tt
+    shown_before s start c [] ss nows.After h w = inl tt
+    shown_before s start c [] ss nows.Name h w = inl tt
+    shown_before s start c [] ss (nows.LongName v) h w = inl tt
+    shown_before s start c [] ss (nows.Keyed k) h w = inl tt
+
+    on_place : (p q : Place) (s : Known) → p ≡ q → Sized s → Measured q s (feed p s o)
+    on_place p q s e z = subst (λ k. Measured k s (feed p s o)) e (feed_measured p s o z)
+
+    -- where it was settled before the octet
+    settled_came : (s : Known) (fs : List Frame) (now : Now) (again : State → Effect) (turned : Turn) → s.used ≡ used → Sized s → AgainNear again → TurnNear from s turned → SettledNear turned
+        → Leading g l (λ (r : Reading). (place r ≡ place_in fs now) × (is_top r.frames ≡ is_top fs)) turned → GivesNone turned ⊎ ShowsEnd s → CameNear from used o (on_settled g l again s (feed (place_in fs now) s o) turned)
+    settled_came s fs now again (goes r) e z f h i k w =
+        let x : Outcome = feed (place_in fs now) s o in
+        let there = on_place (place_in fs now) (place r) s (sym k.0) z in
+        scan_came (place r) s r again x refl e f there (comes_near from s r h x there (λ t q j. i t.mode j))
+    settled_came s fs now again (gives v r) e z f h i k (inl w) = absurd w
+    settled_came s fs now again (gives v r) e z f h i k (inr w) =
+        let top : place r ≡ places.Top = ap place h.1 in (
+          subst (λ n. HasSpan l.item from n v) e h.0,
+          e,
+          h.1,
+          subst (λ n. ScannedNear n r (feed (place r) s o)) e (comes_again (place r) s r (feed (place r) s o) h.1 top w.0 (feed_measured (place r) s o z) (λ y t q. w.1 y t (ap (λ p. feed p s o) (sym top) ∙ q))),
+          z,
+        )
+    settled_came s fs now again (refuses x) e z f h i k w = tt
+    settled_came s fs now again (late x r) e z f h i k w = worse_came x (on_scan g l again r (feed (place_in fs now) s o))
+
+    -- An octet behind what is read.
+    takes_came : (n : ℕ) (s : Known) (r : Reading) → Near from s r → s.used ≡ used → CameNear from used o (takes g l n (with_scan s r) o)
+    takes_came zero s r h e = tt
+    takes_came (suc n) s r h e = go (unsettled s r (feed (place r) s o)) refl (λ k i j. takes_came n k.scan k.reading i j)
+      where
+        again : State → Effect
+        again k = takes g l n k o
+
+        go : (b : Bool) → unsettled s r (feed (place r) s o) ≡ b → AgainNear again → CameNear from used o (if b then on_scan g l again r (feed (place r) s o) else on_settled g l again s (feed (place r) s o) (settle g l r))
+        go true w f =
+            let z = feed_measured (place r) s o h.sized in
+            scan_came (place r) s r again (feed (place r) s o) refl e f z (comes_near from s r h (feed (place r) s o) z (λ t q i. waits_in r.now (is_top r.frames) t (subst (λ x. waits r x ≡ true) q (unsettled_waits (place r) s r o (subst NotRefused (sym q) tt) w))))
+        go false w f =
+            settled_came s r.frames r.now again (settle g l r) e h.sized f (settle_near from s r h) (settled_in (open_nodes r) r.start (wait_end r.now) (settle g l r) (settle_weighs g l r))
+            (settle_same g l r.start r.context r.frames r.notes r.now) (shown_before s r.start r.context r.frames r.notes r.now h (or_parts (waits r (feed (place r) s o)) (in_segment r.now s) w).0)
+
+    -- the octet that showed the end of a value, again
+    fresh_came : (s : Known) (c : List Slot) → ScannedNear from (fresh c) (feed places.Top s o) → s.used ≡ used → Sized s → CameNear from used o (takes g l 3 (with_scan s (fresh c)) o)
+    fresh_came s c h e z = scan_came places.Top s (fresh c) (λ k. takes g l 2 k o) (feed places.Top s o) refl e (λ k i j. takes_came 2 k.scan k.reading i j) (feed_measured places.Top s o z) h
+
+    again_came : (m : State) → m.reading ≡ fresh m.reading.context → ScannedNear from m.reading (feed (place m.reading) m.scan o) → m.scan.used ≡ used → Sized m.scan → CameNear from used o (eats g l m o)
+    again_came m f h e z = subst (λ r. ScannedNear from r (feed (place r) m.scan o) → CameNear from used o (takes g l 3 (with_scan m.scan r) o)) (sym f) (λ k. fresh_came m.scan m.reading.context k e z) h
+
+  -- of runs
+
+  -- behind the values given, of which the last came at `from`, n octets are used in all
+  abbrev Led : ℕ → List (Value × ℕ) → Result State Refusal → ℕ → Type 0
+  Led from [] (Ok m) n = Near from m.scan m.reading × (m.scan.used ≡ n)
+  Led from [] (Err e) n = from ≤ n
+  Led from ((v, at) ∷ given) now n = HasSpan l.item from at v × Led at given now n
+
+  more_led : (from to n o : ℕ) (rest : State → Run) (x : Effect) → from ≤ n → ((k : ℕ) (m : State) → Near k m.scan m.reading → m.scan.used ≡ to + 1 → Led k (rest m).given (rest m).now n) → CameNear from to o x → Led from (once_more to rest x).given (once_more to rest x).now n
+  more_led from to n o rest (uses m) k f h = f from m h.0 h.1
+  more_led from to n o rest (tells v m) k f h = (h.0, f (to + 1) m h.1 h.2)
+  more_led from to n o rest (leaves v m) k f h = k
+  more_led from to n o rest (fails e) k f h = k
+
+  octet_led : (from to n o : ℕ) (rest : State → Run) (x : Effect) → from ≤ n → to ≤ n → ((k : ℕ) (m : State) → Near k m.scan m.reading → m.scan.used ≡ to + 1 → Led k (rest m).given (rest m).now n) → CameNear from to o x
+      → Led from (run_on to (λ m. eats g l m o) rest x).given (run_on to (λ m. eats g l m o) rest x).now n
+  octet_led from to n o rest (uses m) j k f h = f from m h.0 h.1
+  octet_led from to n o rest (tells v m) j k f h = (h.0, f (to + 1) m h.1 h.2)
+  octet_led from to n o rest (leaves v m) j k f h = (h.0, more_led to to n o rest (eats g l m o) k f (again_came to to o m h.2 h.3 h.1 h.4))
+  octet_led from to n o rest (fails e) j k f h = j
+
+  run_led : (os : List ℕ) (from to n : ℕ) (m : State) → n ≡ to + length os → Near from m.scan m.reading → m.scan.used ≡ to → Led from (run g l to m os).given (run g l to m os).now n
+  run_led [] from to n m e h u = (h, omega (arith, e, u))
+  run_led (o ∷ os) from to n m e h u =
+      octet_led from to n o (λ k. run g l (to + 1) k os) (eats g l m o) (omega (arith, e, u, h.behind, h.far)) (omega (arith, e))
+      (λ k i j w. run_led os k (to + 1) n i (omega (arith, e)) j w) (takes_came from to o 3 m.scan m.reading h u)
+
+  -- the end
+
+  abbrev EndHas : ℕ → ℕ → Result (Option Value) Refusal → Type 0
+  EndHas from used (Ok (Some v)) = HasSpan l.item from used v
+  EndHas from used (Ok None) = Unit {0}
+  EndHas from used (Err e) = Unit {0}
+
+  module _ (from : ℕ) where
+    late_has : (used : ℕ) (e : Reason) → EndHas from used (end_late used e)
+    late_has used reasons.Depth = tt
+    late_has used _ = tt
+
+    fresh_has : (used : ℕ) (b : Bool) → EndHas from used (if b then Ok None else cut_short used)
+    fresh_has used true = tt
+    fresh_has used false = tt
+
+    settled_has : (s : Known) (turned : Turn) → TurnNear from s turned → EndHas from s.used (end_settled s.used turned)
+    settled_has s (goes r) h = fresh_has s.used (is_fresh r)
+    settled_has s (gives v r) h = h.0
+    settled_has s (refuses e) h = tt
+    settled_has s (late e r) h = late_has s.used e
+
+    turned_has : (s : Known) (turned : Turn) → TurnNear from s turned → EndHas from s.used (end_turned g l s.used turned)
+    turned_has s (goes r) h = settled_has s (settle g l r) (settle_near from s r h)
+    turned_has s (gives v r) h = h.0
+    turned_has s (refuses e) h = tt
+    turned_has s (late e r) h = late_has s.used e
+
+    -- behind the last token
+    abbrev behind_last : ℕ → Known
+    behind_last used = record { mode = modes.Blank; kept = []; colon = false; start = used; used = used }
+
+    last_ended : (s : Known) (r : Reading) (x : Lexeme) → Near from s r → at_end (place r) s ≡ Ok (Some x) → EndedNear from r x (behind_last s.used)
+    last_ended s r x h e =
+        let k = end_spans s (end_of (place r) s.mode) x e in
+        let n = token_wants (place r) s x e in
+        let z = h.sized in
+        let i = z.enough in
+        record { base = h.base; behind = h.behind; starts = h.starts; far = omega (arith, h.far, k.1, n); some = omega (arith, k.0, k.1, i, n); rest = omega (arith, k.1); idle = λ _. refl; sized = record { enough = omega arith; letters = refl } }
+
+    said_has : (s : Known) (r : Reading) (x : Lexeme) (c : Result Content Reason) → EndedNear from r x (behind_last s.used) → EndHas from s.used (end_said g l s.used r x c)
+    said_has s r x (Ok c) h = turned_has (behind_last s.used) (turn g l r (token_of x c)) (token_near from r x (behind_last s.used) c h)
+    said_has s r x (Err e) h = tt
+
+    waiting_has : (s : Known) (x : Result (Option Lexeme) Reason) (turned : Turn) → TurnNear from s turned → EndHas from s.used (end_waiting g l s.used x turned)
+    waiting_has s (Ok None) t h = settled_has s t h
+    waiting_has s (Ok (Some x)) (goes r) h = tt
+    waiting_has s (Ok (Some x)) (gives v r) h = tt
+    waiting_has s (Ok (Some x)) (refuses e) h = tt
+    waiting_has s (Ok (Some x)) (late e r) h = late_has s.used e
+    waiting_has s (Err y) (goes r) h = tt
+    waiting_has s (Err y) (gives v r) h = tt
+    waiting_has s (Err y) (refuses e) h = tt
+    waiting_has s (Err y) (late e r) h = late_has s.used e
+
+    ready_has : (s : Known) (r : Reading) (x : Result (Option Lexeme) Reason) → Near from s r → at_end (place r) s ≡ x → EndHas from s.used (end_ready g l s.used r x)
+    ready_has s r (Ok None) h e = fresh_has s.used (is_fresh r)
+    ready_has s r (Ok (Some x)) h e = said_has s r x (said x.kind x.octets) (last_ended s r x h e)
+    ready_has s r (Err y) h e = tt
+
+    ends_has : (s : Known) (r : Reading) (now : Now) → Near from s r → EndHas from s.used (end_now g l s.used r (at_end (place r) s) now)
+    ends_has s r (nows.Pending k e) h = waiting_has s (at_end (place r) s) (settle g l r) (settle_near from s r h)
+    ends_has s r (nows.Long w e) h = waiting_has s (at_end (place r) s) (settle g l r) (settle_near from s r h)
+    ends_has s r (nows.LongName w) h = tt
+    ends_has s r nows.Ready h = ready_has s r (at_end (place r) s) h refl
+    ends_has s r nows.After h = ready_has s r (at_end (place r) s) h refl
+    ends_has s r nows.Name h = ready_has s r (at_end (place r) s) h refl
+    ends_has s r (nows.Keyed k) h = ready_has s r (at_end (place r) s) h refl
+
+  led_spaced : (from n : ℕ) (given : List (Value × ℕ)) (now : Result State Refusal) → Led from given now n → Spaced l.item from given n
+  led_spaced from n [] (Ok m) h = let k = h.0 in omega (arith, k.behind, k.far, h.1)
+  led_spaced from n [] (Err e) h = h
+  led_spaced from n ((v, at) ∷ given) now h = (h.0, led_spaced at n given now h.1)
+
+  last_spaced : (from n : ℕ) (given : List (Value × ℕ)) (now : Result State Refusal) (v : Value) → Led from given now n → ends_of g l now ≡ Ok (Some v) → Spaced l.item from (given ++ (v, n) ∷ []) n
+  last_spaced from n [] (Ok m) v h e = (subst (λ k. HasSpan l.item from k v) h.1 (subst (EndHas from m.scan.used) e (ends_has from m.scan m.reading m.reading.now h.0)), omega arith)
+  last_spaced from n [] (Err x) v h e = absurd cc
+  last_spaced from n ((w, at) ∷ given) now v h e = (h.0, last_spaced at n given now v h.1 e)
+
+  -- A value has at most as many nodes as octets were used since the value before it, and as the limit allows octets.
+  pub is_small : (u : List ℕ) → IsSmall l.item u (trace g l u)
+  is_small u =
+      let x = run g l 0 begun u in
+      let h = run_led u 0 0 (length u) begun (omega arith) (near_fresh 0 begun.scan begun.reading refl (omega arith) sized_initial) refl in
+      record { given = led_spaced 0 (length u) x.given x.now h; last = λ v e. last_spaced 0 (length u) x.given x.now v h e }

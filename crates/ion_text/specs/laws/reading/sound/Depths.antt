@@ -1,0 +1,272 @@
+-- What the reader gives is no deeper than the limit.
+use Rattle.std.proofs.Common.{◌≡◌, ℕ, suc, ◌+◌, ◌≤◌, nat_le, nat_lt, List, [], ◌∷◌, length, Bool, true, false, Result, Ok, Err, Option, Some, refl, ap, ◌∙◌, subst, arith, if◌then◌else◌}
+use Rattle.std.proofs.lemmas.Bool.Decides.{nat_tests}
+use Rattle.ion_model.specs.declared.value.Value.{Value}
+use Rattle.ion_model.specs.declared.value.Payload.{Payload}
+use Rattle.ion_model.specs.declared.value.Payload.TheVariants as payloads
+use Rattle.ion_model.specs.declared.value.Payload.TheViews as views
+use Rattle.ion_atoms.specs.declared.refusal.Reason.{Reason}
+use Rattle.ion_atoms.specs.declared.refusal.Reason.TheVariants as reasons
+use Rattle.ion_model.specs.Measures.{depth, annotated, field_of}
+use Rattle.ion_model.specs.laws.Measures.{depth-at, layer_depth, deepest-more}
+use Rattle.ion_model.specs.Kinds.{is_table}
+use Rattle.ion_scalar.specs.declared.number.Number.{Number}
+use Rattle.ion_scalar.specs.declared.number.Number.TheVariants as numbers
+use Rattle.ion_symtab.specs.declared.limits.Limits.{Limits}
+use Rattle.ion_symtab.specs.declared.catalog.Catalog.{Catalog}
+use Rattle.ion_symtab.specs.Slots.{Slot, resolve}
+use Rattle.ion_symtab.specs.Next.{next}
+use Rattle.ion_tokens.specs.declared.mode.Mark.TheVariants as marks
+use Rattle.ion_tokens.specs.Bodies.{Content, Word, Id, Quoted, Short, Long, Number', TypedNull, Operator, Clob, Blob, Mark'}
+use Rattle.ion_text.specs.declared.state.Held.{Held}
+use Rattle.ion_text.specs.declared.state.Held.TheVariants as helds
+use Rattle.ion_text.specs.declared.state.Now.{Now}
+use Rattle.ion_text.specs.declared.state.Now.TheVariants as nows
+use Rattle.ion_text.specs.declared.state.Frame.{Frame}
+use Rattle.ion_text.specs.declared.state.Frame.TheVariants as frames
+use Rattle.ion_text.specs.Grammar.{is_keyword}
+use Rattle.ion_text.specs.machine.EachToken.{Setting, Spot, under, spot_at, token_at, Reading, Turn, goes, gives, refuses, late, Token, Symbols, at, fresh, settle, turn, turn_now, ended, within, turned, held_symbol, held_payload, released, begun_at, on_ready, on_after, on_name, on_pending, on_long, on_long_name, on_keyed, on_comma, struct_closed, list_closed, sexp_closed, bare_close, number_payload, paid, noted, resolved, keyed, named}
+use Rattle.ion_text.specs.laws.reading.complete.Complete.{depths, field_depths, field_deepest-more, depth-list, depth-sexp, depth-struct}
+
+-- what has come of the open containers stays within so many levels
+abbrev pub Deep : ℕ → List Frame → Type 0
+Deep n [] = Unit {0}
+Deep n (frames.List ss vs ∷ fs) = (depths vs + suc (length fs) ≤ n) × Deep n fs
+Deep n (frames.Sexp ss vs ∷ fs) = (depths vs + suc (length fs) ≤ n) × Deep n fs
+Deep n (frames.Fields ss ms ∷ fs) = (field_depths ms + suc (length fs) ≤ n) × Deep n fs
+Deep n (frames.Named ss ms s ∷ fs) = (field_depths ms + suc (length fs) ≤ n) × Deep n fs
+
+length_deep : (n : ℕ) (fs : List Frame) → Deep n fs → length fs ≤ n
+length_deep n [] h = omega arith
+length_deep n (frames.List ss vs ∷ fs) h = let k = h.0 in omega arith
+length_deep n (frames.Sexp ss vs ∷ fs) h = let k = h.0 in omega arith
+length_deep n (frames.Fields ss ms ∷ fs) h = let k = h.0 in omega arith
+length_deep n (frames.Named ss ms s ∷ fs) h = let k = h.0 in omega arith
+
+-- what came of a turn does too
+abbrev pub GoesDeep : ℕ → Turn → Type 0
+GoesDeep n (goes r) = Deep n r.frames
+GoesDeep n (gives v r) = depth v ≤ n
+GoesDeep n (refuses e) = Unit {0}
+GoesDeep n (late e r) = Unit {0}
+
+-- a payload with nothing inside
+abbrev pub Flat : Symbols → Payload → Type 0
+Flat ss q = depth (annotated ss q) ≡ 0
+
+pub flat_null : (ss : Symbols) (k : _) → Flat ss (payloads.Null k)
+flat_null ss k = depth-at (annotated ss (payloads.Null k)) _ refl ∙ ap layer_depth (views.outs-Null k)
+
+flat_truth : (ss : Symbols) (b : _) → Flat ss (payloads.Truth b)
+flat_truth ss b = depth-at (annotated ss (payloads.Truth b)) _ refl ∙ ap layer_depth (views.outs-Truth b)
+
+pub flat_symbol : (ss : Symbols) (s : _) → Flat ss (payloads.Symbol s)
+flat_symbol ss s = depth-at (annotated ss (payloads.Symbol s)) _ refl ∙ ap layer_depth (views.outs-Symbol s)
+
+pub flat_text : (ss : Symbols) (w : _) → Flat ss (payloads.Str w)
+flat_text ss w = depth-at (annotated ss (payloads.Str w)) _ refl ∙ ap layer_depth (views.outs-Str w)
+
+pub flat_clob : (ss : Symbols) (w : _) → Flat ss (payloads.Clob w)
+flat_clob ss w = depth-at (annotated ss (payloads.Clob w)) _ refl ∙ ap layer_depth (views.outs-Clob w)
+
+pub flat_blob : (ss : Symbols) (w : _) → Flat ss (payloads.Blob w)
+flat_blob ss w = depth-at (annotated ss (payloads.Blob w)) _ refl ∙ ap layer_depth (views.outs-Blob w)
+
+pub flat_number : (ss : Symbols) (n : Number) → Flat ss (number_payload n)
+flat_number ss (numbers.Int z) = depth-at (annotated ss (payloads.Int z)) _ refl ∙ ap layer_depth (views.outs-Int z)
+flat_number ss (numbers.Decimal z) = depth-at (annotated ss (payloads.Decimal z)) _ refl ∙ ap layer_depth (views.outs-Decimal z)
+flat_number ss (numbers.Timestamp z) = depth-at (annotated ss (payloads.Timestamp z)) _ refl ∙ ap layer_depth (views.outs-Timestamp z)
+
+pub payload_in : Result Payload Reason → Payload → Payload
+payload_in (Ok q) d = q
+payload_in (Err e) d = d
+
+pub flat_held : (ss : Symbols) (h : Held) (q : Payload) → held_payload h ≡ Ok q → Flat ss q
+unfolding payload_in
+flat_held ss (helds.Symbol s) q e = subst (Flat ss) (ap (λ x. payload_in x q) e) (flat_symbol ss s)
+flat_held ss (helds.Version b s) q e = subst (Flat ss) (ap (λ x. payload_in x q) e) (flat_symbol ss s)
+flat_held ss (helds.Null k) q e = subst (Flat ss) (ap (λ x. payload_in x q) e) (flat_null ss k)
+flat_held ss (helds.Truth b) q e = subst (Flat ss) (ap (λ x. payload_in x q) e) (flat_truth ss b)
+flat_held ss helds.Nan q e = absurd cc
+
+within_deep : (n item start end : ℕ) (t : Turn) → GoesDeep n t → GoesDeep n (within item start end t)
+within_deep n item start end t h = go (nat_le end (start + item))
+  where
+    go : (b : Bool) → GoesDeep n (if b then t else refuses reasons.ItemTooLong)
+    go true = h
+    go false = tt
+
+top_deep : (n item start end : ℕ) (c : List Slot) (v : Value) (d : Result (List Slot) Reason) (b : Bool) → depth v ≤ n → GoesDeep n (if b then turned item start end d else within item start end (gives v (fresh c)))
+top_deep n item start end c v (Ok d) true h = within_deep n item start end (goes (fresh d)) tt
+top_deep n item start end c v (Err e) true h = tt
+top_deep n item start end c v d false h = within_deep n item start end (gives v (fresh c)) h
+
+ended_deep : (n : ℕ) (setting : Setting) (spot : Spot) (fs : List Frame) (v : Value) → Deep n fs → depth v + length fs ≤ n → GoesDeep n (ended setting spot fs v)
+ended_deep n setting spot [] v d h = top_deep n setting.limits.item spot.start spot.end spot.context v (next spot.context v setting.catalog) (is_table v) (omega arith)
+ended_deep n setting spot (frames.List ss vs ∷ fs) v d h = let k = d.0 in let m = deepest-more vs v in (omega arith, d.1)
+ended_deep n setting spot (frames.Sexp ss vs ∷ fs) v d h = let k = d.0 in let m = deepest-more vs v in (omega arith, d.1)
+ended_deep n setting spot (frames.Named ss ms s ∷ fs) v d h = let k = d.0 in let m = field_deepest-more ms (field_of s v) in (omega arith, d.1)
+ended_deep n setting spot (frames.Fields ss ms ∷ fs) v d h = tt
+
+flat_deep : (n : ℕ) (setting : Setting) (spot : Spot) (fs : List Frame) (ss : Symbols) (q : Payload) → Deep n fs → Flat ss q → GoesDeep n (ended setting spot fs (annotated ss q))
+flat_deep n setting spot fs ss q d h = let k = length_deep n fs d in ended_deep n setting spot fs (annotated ss q) d (omega arith)
+
+paid_deep : (n : ℕ) (setting : Setting) (spot : Spot) (fs : List Frame) (ss : Symbols) (h : Held) (r : Result Payload Reason) → held_payload h ≡ r → Deep n fs → GoesDeep n (paid setting spot fs ss r)
+paid_deep n setting spot fs ss h (Ok q) e d = flat_deep n setting spot fs ss q d (flat_held ss h q e)
+paid_deep n setting spot fs ss h (Err x) e d = tt
+
+released_deep : (n : ℕ) (setting : Setting) (spot : Spot) (fs : List Frame) (ss : Symbols) (h : Held) → Deep n fs → GoesDeep n (released setting spot fs ss h)
+released_deep n setting spot [] [] (helds.Version true s) d = within_deep n setting.limits.item spot.start spot.end _ tt
+released_deep n setting spot [] [] (helds.Version false s) d = tt
+released_deep n setting spot [] [] (helds.Symbol s) d = paid_deep n setting spot [] [] (helds.Symbol s) _ refl d
+released_deep n setting spot [] [] (helds.Null s) d = paid_deep n setting spot [] [] (helds.Null s) _ refl d
+released_deep n setting spot [] [] (helds.Truth s) d = paid_deep n setting spot [] [] (helds.Truth s) _ refl d
+released_deep n setting spot [] [] helds.Nan d = tt
+released_deep n setting spot [] (s ∷ ss) h d = paid_deep n setting spot [] (s ∷ ss) h _ refl d
+released_deep n setting spot (f ∷ fs) ss h d = paid_deep n setting spot (f ∷ fs) ss h _ refl d
+
+resolved_deep : (n : ℕ) (r : Result (Option (List ℕ)) Reason) (f : Option (List ℕ) → Turn) → ((s : Option (List ℕ)) → GoesDeep n (f s)) → GoesDeep n (resolved r f)
+resolved_deep n (Ok s) f h = h s
+resolved_deep n (Err e) f h = tt
+
+lt_of : (a b : ℕ) → nat_lt a b ≡ true → suc a ≤ b
+lt_of a b h = grind (arith, nat_tests)
+
+list_opens : (n start : ℕ) (c : List Slot) (fs : List Frame) (ss : Symbols) (b : Bool) → nat_lt (length fs) n ≡ b → Deep n fs → GoesDeep n (if b then goes (at start c (frames.List ss [] ∷ fs) [] nows.Ready) else refuses reasons.Depth)
+list_opens n start c fs ss true e d = let k = lt_of (length fs) n e in (omega arith, d)
+list_opens n start c fs ss false e d = tt
+
+sexp_opens : (n start : ℕ) (c : List Slot) (fs : List Frame) (ss : Symbols) (b : Bool) → nat_lt (length fs) n ≡ b → Deep n fs → GoesDeep n (if b then goes (at start c (frames.Sexp ss [] ∷ fs) [] nows.Ready) else refuses reasons.Depth)
+sexp_opens n start c fs ss true e d = let k = lt_of (length fs) n e in (omega arith, d)
+sexp_opens n start c fs ss false e d = tt
+
+struct_opens : (n start : ℕ) (c : List Slot) (fs : List Frame) (ss : Symbols) (b : Bool) → nat_lt (length fs) n ≡ b → Deep n fs
+    → GoesDeep n (if b then goes (at start c (frames.Fields ss [] ∷ fs) [] nows.Name) else late reasons.Depth (at start c (frames.Fields ss [] ∷ fs) [] nows.Name))
+struct_opens n start c fs ss true e d = let k = lt_of (length fs) n e in (omega arith, d)
+struct_opens n start c fs ss false e d = tt
+
+list_closes : (n : ℕ) (setting : Setting) (spot : Spot) (fs : List Frame) → Deep n fs → GoesDeep n (list_closed setting spot fs)
+list_closes n setting spot (frames.List ss vs ∷ fs) d = let k = d.0 in let m = depth-list ss vs in ended_deep n setting spot fs _ d.1 (omega arith)
+list_closes n setting spot (frames.Sexp ss vs ∷ fs) d = tt
+list_closes n setting spot (frames.Fields ss ms ∷ fs) d = tt
+list_closes n setting spot (frames.Named ss ms s ∷ fs) d = tt
+list_closes n setting spot [] d = tt
+
+sexp_closes : (n : ℕ) (setting : Setting) (spot : Spot) (fs : List Frame) → Deep n fs → GoesDeep n (sexp_closed setting spot fs)
+sexp_closes n setting spot (frames.Sexp ss vs ∷ fs) d = let k = d.0 in let m = depth-sexp ss vs in ended_deep n setting spot fs _ d.1 (omega arith)
+sexp_closes n setting spot (frames.List ss vs ∷ fs) d = tt
+sexp_closes n setting spot (frames.Fields ss ms ∷ fs) d = tt
+sexp_closes n setting spot (frames.Named ss ms s ∷ fs) d = tt
+sexp_closes n setting spot [] d = tt
+
+struct_closes : (n : ℕ) (setting : Setting) (spot : Spot) (fs : List Frame) → Deep n fs → GoesDeep n (struct_closed setting spot fs)
+struct_closes n setting spot (frames.Fields ss ms ∷ fs) d = let k = d.0 in let m = depth-struct ss ms in ended_deep n setting spot fs _ d.1 (omega arith)
+struct_closes n setting spot (frames.List ss vs ∷ fs) d = tt
+struct_closes n setting spot (frames.Sexp ss vs ∷ fs) d = tt
+struct_closes n setting spot (frames.Named ss ms s ∷ fs) d = tt
+struct_closes n setting spot [] d = tt
+
+bare_deep : (n : ℕ) (ss : Symbols) (t : Turn) → GoesDeep n t → GoesDeep n (bare_close ss t)
+bare_deep n [] t h = h
+bare_deep n (s ∷ ss) t h = tt
+
+ready_deep : (setting : Setting) (spot : Spot) (fs : List Frame) (ss : Symbols) (said : Content) → Deep setting.limits.depth fs → GoesDeep setting.limits.depth (on_ready setting spot fs ss said)
+ready_deep setting spot fs ss (Word w) d = d
+ready_deep setting spot fs ss (Id id) d = resolved_deep setting.limits.depth (resolve spot.context id) _ (λ s. d)
+ready_deep setting spot fs ss (Quoted w) d = d
+ready_deep setting spot fs ss (TypedNull k) d = d
+ready_deep setting spot fs ss (Long w) d = d
+ready_deep setting spot fs ss (Short w) d = flat_deep setting.limits.depth setting spot fs ss _ d (flat_text ss w)
+ready_deep setting spot fs ss (Number' m) d = flat_deep setting.limits.depth setting spot fs ss _ d (flat_number ss m)
+ready_deep setting spot fs ss (Operator w) d = flat_deep setting.limits.depth setting spot fs ss _ d (flat_symbol ss (Some w))
+ready_deep setting spot fs ss (Clob w) d = flat_deep setting.limits.depth setting spot fs ss _ d (flat_clob ss w)
+ready_deep setting spot fs ss (Blob w) d = flat_deep setting.limits.depth setting spot fs ss _ d (flat_blob ss w)
+ready_deep setting spot fs ss (Mark' marks.ListOpen) d = list_opens setting.limits.depth spot.start spot.context fs ss (nat_lt (length fs) setting.limits.depth) refl d
+ready_deep setting spot fs ss (Mark' marks.SexpOpen) d = sexp_opens setting.limits.depth spot.start spot.context fs ss (nat_lt (length fs) setting.limits.depth) refl d
+ready_deep setting spot fs ss (Mark' marks.FieldsOpen) d = struct_opens setting.limits.depth spot.start spot.context fs ss (nat_lt (length fs) setting.limits.depth) refl d
+ready_deep setting spot fs ss (Mark' marks.ListClose) d = bare_deep setting.limits.depth ss _ (list_closes setting.limits.depth setting spot fs d)
+ready_deep setting spot fs ss (Mark' marks.SexpClose) d = bare_deep setting.limits.depth ss _ (sexp_closes setting.limits.depth setting spot fs d)
+ready_deep setting spot fs ss (Mark' marks.FieldsClose) d = tt
+ready_deep setting spot fs ss (Mark' marks.Comma) d = tt
+ready_deep setting spot fs ss (Mark' marks.Colon) d = tt
+ready_deep setting spot fs ss (Mark' marks.Colons) d = tt
+
+noted_deep : (n start : ℕ) (c : List Slot) (fs : List Frame) (ss : Symbols) (r : Result (Option (List ℕ)) Reason) → Deep n fs → GoesDeep n (noted start c fs ss r)
+noted_deep n start c fs ss (Ok s) d = d
+noted_deep n start c fs ss (Err e) d = tt
+
+pending_deep : (n start : ℕ) (c : List Slot) (fs : List Frame) (ss : Symbols) (h : Held) (said : Content) → Deep n fs → GoesDeep n (on_pending start c fs ss h said)
+pending_deep n start c fs ss h (Mark' marks.Colons) d = noted_deep n start c fs ss (held_symbol h) d
+pending_deep n start c fs ss h _ d = tt
+
+long_deep : (n : ℕ) (spot : Spot) (fs : List Frame) (ss : Symbols) (v : List ℕ) (said : Content) → Deep n fs → GoesDeep n (on_long spot fs ss v said)
+long_deep n spot fs ss v (Long w) d = d
+long_deep n spot fs ss v _ d = tt
+
+comma_deep : (n start : ℕ) (c : List Slot) (fs : List Frame) → Deep n fs → GoesDeep n (on_comma start c fs)
+comma_deep n start c (frames.List ss vs ∷ fs) d = d
+comma_deep n start c (frames.Fields ss ms ∷ fs) d = d
+comma_deep n start c (frames.Sexp ss vs ∷ fs) d = tt
+comma_deep n start c (frames.Named ss ms s ∷ fs) d = tt
+comma_deep n start c [] d = tt
+
+after_deep : (n : ℕ) (setting : Setting) (spot : Spot) (fs : List Frame) (said : Content) → Deep n fs → GoesDeep n (on_after setting spot fs said)
+after_deep n setting spot fs (Mark' marks.Comma) d = comma_deep n spot.start spot.context fs d
+after_deep n setting spot fs (Mark' marks.ListClose) d = list_closes n setting spot fs d
+after_deep n setting spot fs (Mark' marks.FieldsClose) d = struct_closes n setting spot fs d
+after_deep n setting spot fs _ d = tt
+
+name_deep : (n : ℕ) (setting : Setting) (spot : Spot) (fs : List Frame) (said : Content) → Deep n fs → GoesDeep n (on_name setting spot fs said)
+name_deep n setting spot fs (Word w) d = go (is_keyword w)
+  where
+    go : (b : Bool) → GoesDeep n (if b then late reasons.KeywordAsName (keyed spot.start spot.context fs (Some w)) else goes (keyed spot.start spot.context fs (Some w)))
+    go true = tt
+    go false = d
+name_deep n setting spot fs (TypedNull k) d = tt
+name_deep n setting spot fs (Id id) d = resolved_deep n (resolve spot.context id) _ (λ s. d)
+name_deep n setting spot fs (Quoted w) d = d
+name_deep n setting spot fs (Short w) d = d
+name_deep n setting spot fs (Long w) d = d
+name_deep n setting spot fs (Mark' marks.FieldsClose) d = struct_closes n setting spot fs d
+name_deep n setting spot fs _ d = tt
+
+long_name_deep : (n start : ℕ) (c : List Slot) (fs : List Frame) (v : List ℕ) (said : Content) → Deep n fs → GoesDeep n (on_long_name start c fs v said)
+long_name_deep n start c fs v (Long w) d = d
+long_name_deep n start c fs v _ d = tt
+
+named_deep : (n start : ℕ) (c : List Slot) (fs : List Frame) (s : Option (List ℕ)) → Deep n fs → GoesDeep n (named start c fs s)
+named_deep n start c (frames.Fields ss ms ∷ fs) s d = d
+named_deep n start c (frames.List ss vs ∷ fs) s d = tt
+named_deep n start c (frames.Sexp ss vs ∷ fs) s d = tt
+named_deep n start c (frames.Named ss ms x ∷ fs) s d = tt
+named_deep n start c [] s d = tt
+
+keyed_deep : (n start : ℕ) (c : List Slot) (fs : List Frame) (s : Option (List ℕ)) (said : Content) → Deep n fs → GoesDeep n (on_keyed start c fs s said)
+keyed_deep n start c fs s (Mark' marks.Colon) d = named_deep n start c fs s d
+keyed_deep n start c fs s _ d = tt
+
+now_deep : (g : Catalog) (l : Limits) (begin end start : ℕ) (c : List Slot) (fs : List Frame) (ss : Symbols) (said : Content) (now : Now) → Deep l.depth fs → GoesDeep l.depth (turn_now (under g l) (at start c fs ss now) (token_at begin end said) now)
+now_deep g l begin end start c fs ss said nows.Ready d = ready_deep (under g l) (spot_at end (begun_at start begin fs ss) c) fs ss said d
+now_deep g l begin end start c fs ss said (nows.Pending h e) d = pending_deep l.depth start c fs ss h said d
+now_deep g l begin end start c fs ss said (nows.Long w e) d = long_deep l.depth (spot_at end start c) fs ss w said d
+now_deep g l begin end start c fs ss said nows.After d = after_deep l.depth (under g l) (spot_at end start c) fs said d
+now_deep g l begin end start c fs ss said nows.Name d = name_deep l.depth (under g l) (spot_at end start c) fs said d
+now_deep g l begin end start c fs ss said (nows.LongName w) d = long_name_deep l.depth start c fs w said d
+now_deep g l begin end start c fs ss said (nows.Keyed s) d = keyed_deep l.depth start c fs s said d
+
+-- A token leads no deeper.
+pub turn_deep : (g : Catalog) (l : Limits) (r : Reading) (t : Token) → Deep l.depth r.frames → GoesDeep l.depth (turn g l r t)
+turn_deep g l r t d = now_deep g l t.start t.end r.start r.context r.frames r.notes t.said r.now d
+
+settled_deep : (g : Catalog) (l : Limits) (start : ℕ) (c : List Slot) (fs : List Frame) (ss : Symbols) (now : Now) → Deep l.depth fs → GoesDeep l.depth (settle g l (at start c fs ss now))
+settled_deep g l start c fs ss (nows.Pending h e) d = released_deep l.depth (under g l) (spot_at e start c) fs ss h d
+settled_deep g l start c fs ss (nows.Long w e) d = flat_deep l.depth (under g l) (spot_at e start c) fs ss _ d (flat_text ss w)
+settled_deep g l start c fs ss (nows.LongName w) d = d
+settled_deep g l start c fs ss nows.Ready d = d
+settled_deep g l start c fs ss nows.After d = d
+settled_deep g l start c fs ss nows.Name d = d
+settled_deep g l start c fs ss (nows.Keyed s) d = d
+
+-- What waited leads no deeper.
+pub settle_deep : (g : Catalog) (l : Limits) (r : Reading) → Deep l.depth r.frames → GoesDeep l.depth (settle g l r)
+settle_deep g l r d = settled_deep g l r.start r.context r.frames r.notes r.now d

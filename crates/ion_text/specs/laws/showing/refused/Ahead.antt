@@ -1,0 +1,169 @@
+-- An octet that doesn't go on behind a symbol, or behind a long string, and what follows it: no `::`, and no `''`.
+use Rattle.std.proofs.Common.{◌≡◌, ℕ, ◌+◌, ◌==◌, Bool, true, false, List, [], ◌∷◌, ◌++◌, length, refl, sym, ap, ◌∙◌, subst, append_assoc, append-nil, ◌⊎◌, inl, inr, if◌then◌else◌}
+use Rattle.std.specs.Prelude.{codes}
+use Rattle.ion_tokens.specs.declared.mode.Mode.TheVariants as modes
+use Rattle.ion_tokens.specs.declared.mode.Place.{Place}
+use Rattle.ion_tokens.specs.declared.mode.Style.TheVariants as styles
+use Rattle.ion_tokens.specs.declared.mode.Within.TheVariants as within
+use Rattle.ion_tokens.specs.declared.mode.TokenKind.TheVariants as kinds
+use Rattle.ion_tokens.specs.machine.Table.{before, go as go_on}
+use Rattle.ion_tokens.specs.machine.Bounds.{is_idle}
+use Rattle.ion_tokens.specs.machine.Ahead.{is_sane}
+use Rattle.ion_tokens.specs.machine.Scanning.{Known, Next, acts, feed, follow, run}
+use Rattle.ion_tokens.proofs.Moves.{at, blank}
+use Rattle.ion_tokens.proofs.TakesBlanks.{passes_blank}
+use Rattle.ion_tokens.proofs.Wholes.{run_behind}
+use Rattle.ion_text.specs.Grammar.{BlankThen}
+use Rattle.ion_text.specs.machine.Pieces.{followed}
+use Rattle.ion_text.specs.laws.reading.complete.Found.{next_is}
+use Rattle.ion_text.specs.laws.reading.sound.Held.{NoSegment, NoLongText}
+use Rattle.ion_text.specs.laws.reading.complete.Meets.{LongOn, is_long_text, follows_as}
+use Rattle.ion_text.specs.laws.showing.tokens.Cuts.{begun_kept, parts_meet}
+use Rattle.ion_text.specs.laws.showing.tokens.Firsts.{long_run}
+use Rattle.ion_text.specs.laws.showing.refused.Halts.{NotColons}
+use Rattle.ion_text.specs.laws.reading.complete.Segments.{never}
+
+-- a list's last item, where the list is parted
+pub last_parted : (xs : List ℕ) (o : ℕ) (zs ys : List ℕ) → xs ++ o ∷ [] ≡ zs ++ ys → ((ys ≡ []) × (zs ≡ xs ++ o ∷ [])) ⊎ ((front : List ℕ) × (ys ≡ front ++ o ∷ []) × (xs ≡ zs ++ front))
+last_parted [] o [] ys e = inr ([], sym e, refl)
+last_parted [] o (z ∷ []) ys e = inl ((let t : [] ≡ ys = cc in sym t), (let h : o ≡ z = cc in ap (λ x. x ∷ []) (sym h)))
+last_parted [] o (z ∷ w ∷ zs) ys e = absurd (let t : [] ≡ w ∷ (zs ++ ys) = cc in cc)
+last_parted (x ∷ xs) o [] ys e = inr (x ∷ xs, sym e, refl)
+last_parted (x ∷ xs) o (z ∷ zs) ys e =
+    let h : x ≡ z = cc in
+    let t : xs ++ o ∷ [] ≡ zs ++ ys = cc in
+    elim (last_parted xs o zs ys t) [
+      | inl (a, b) ↦ inl (a, ap (λ l. z ∷ l) b ∙ ap (λ y. y ∷ (xs ++ o ∷ [])) (sym h))
+      | inr (front, a, b) ↦ inr (front, a, ap (λ y. y ∷ xs) h ∙ ap (λ l. z ∷ l) b)
+    ]
+
+-- a run over octets in two parts
+pub run_parted : (p : Place) (xs ys : List ℕ) (s t : Known) → run p (xs ++ ys) s ≡ Next t → (m : Known) × (run p xs s ≡ Next m) × (run p ys m ≡ Next t)
+run_parted p [] ys s t e = (s, refl, e)
+run_parted p (x ∷ xs) ys s t e =
+    let f = followed (feed p s x) (λ n. run p (xs ++ ys) n) t e in
+    let r = run_parted p xs ys f.0 t f.2 in
+    (r.0, ap (λ y. follow y (λ n. run p xs n)) f.1 ∙ r.1, r.2)
+
+-- one octet more
+last_fed : (p : Place) (xs : List ℕ) (o : ℕ) (s t u : Known) → run p xs s ≡ Next t → run p (xs ++ o ∷ []) s ≡ Next u → feed p t o ≡ Next u
+last_fed p xs o s t u e f =
+    let x = followed (feed p t o) (λ n. Next n) u (sym (run_behind p xs (o ∷ []) s t e) ∙ f) in
+    x.1 ∙ ap Next (next_is x.0 u x.2)
+
+-- a token that has begun and isn't one in quotes stays so
+open_kept : (p : Place) (os : List ℕ) (s t : Known) → is_sane s.mode ≡ true → NoLongText s.mode → run p os s ≡ Next t → NoLongText t.mode
+open_kept p [] s t h i e = subst (λ (x : Known). NoLongText x.mode) (next_is s t e) i
+open_kept p (o ∷ os) s t h i e =
+    let x = followed (feed p s o) (λ n. run p os n) t e in
+    let f = follows_as p s o (Next x.0) h x.1 in
+    open_kept p os x.0 t f.0 (f.1 i.0, f.2 i.0 i.1) x.2
+
+module _ (p : Place) (k : ℕ) (since : List ℕ) (s : Known) (o : ℕ) (sane : is_sane s.mode ≡ true) where
+  -- Such an octet isn't in the front of `::`, whatever follows.
+  pub octet_colons : run p since (at modes.Blank [] true k k) ≡ Next s → NotColons (feed p s o) → (following : List ℕ) → BlankThen (codes "::") (since ++ o ∷ following) → ⊥
+  octet_colons ran not following (w, more, is, e) = by (parts_meet (since ++ o ∷ []) following (w ++ 58 ∷ []) (58 ∷ more) same)
+    where
+      same : (since ++ o ∷ []) ++ following ≡ (w ++ 58 ∷ []) ++ 58 ∷ more
+      same = append_assoc since (o ∷ []) following ∙ (e ∙ (append_assoc w (codes "::") more ∙ sym (append_assoc w (58 ∷ []) (58 ∷ more))))
+
+      passed : (now : ℕ) × ((r : List ℕ) → run p (w ++ r) (at modes.Blank [] true k k) ≡ run p r (blank true now (k + length w)))
+      passed = passes_blank p true w is k k
+
+      one : Known
+      one = at modes.Colon [] true (k + length w) (k + length w + 1)
+
+      reached : run p (w ++ 58 ∷ []) (at modes.Blank [] true k k) ≡ Next one
+      reached = passed.1 (58 ∷ [])
+
+      -- where one colon at most has come
+      within' : (z : List ℕ) → w ++ 58 ∷ [] ≡ (since ++ o ∷ []) ++ z → ⊥
+      within' z f =
+          let m = run_parted p (since ++ o ∷ []) z (at modes.Blank [] true k k) one (ap (λ x. run p x (at modes.Blank [] true k k)) (sym f) ∙ reached) in
+          let fed = last_fed p since o (at modes.Blank [] true k k) s m.0 ran m.1 in
+          let begun : is_idle (m.0).mode ≡ false = subst NotColons fed not in
+          never true (begun_kept p z m.0 one (follows_as p s o (Next m.0) sane fed).0 begun m.2) refl
+
+      -- where both have
+      beyond : (y : List ℕ) → since ≡ (w ++ 58 ∷ []) ++ y → (y ++ o ∷ []) ++ following ≡ 58 ∷ more → ⊥
+      beyond [] f g =
+          let here : s ≡ one = next_is s one (sym ran ∙ (ap (λ x. run p x (at modes.Blank [] true k k)) (f ∙ append-nil (w ++ 58 ∷ [])) ∙ reached)) in
+          let colon : o ≡ 58 = cc in
+          let n = subst (λ x. NotColons (feed p one x)) colon (subst (λ x. NotColons (feed p x o)) here not) in
+          let z : true ≡ false = n in cc
+      beyond (a ∷ y) f g =
+          let colon : a ≡ 58 = cc in
+          let r : run p (58 ∷ y) one ≡ Next s = sym (run_behind p (w ++ 58 ∷ []) (58 ∷ y) (at modes.Blank [] true k k) one reached) ∙ (ap (λ x. run p x (at modes.Blank [] true k k)) (ap (λ x. (w ++ 58 ∷ []) ++ x ∷ y) (sym colon) ∙ sym f) ∙ ran) in
+          given y r
+        where
+          given : (y : List ℕ) → run p (58 ∷ y) one ≡ Next s → ⊥
+          given y r = cc
+
+      by : ((y : List ℕ) × (since ++ o ∷ [] ≡ (w ++ 58 ∷ []) ++ y) × (y ++ following ≡ 58 ∷ more)) ⊎ ((z : List ℕ) × (w ++ 58 ∷ [] ≡ (since ++ o ∷ []) ++ z) × (z ++ 58 ∷ more ≡ following)) → ⊥
+      by (inr (z, f, g)) = within' z f
+      by (inl (y, f, g)) = elim (last_parted since o (w ++ 58 ∷ []) y f) [
+        | inl (a, b) ↦ within' [] (b ∙ sym (append-nil (since ++ o ∷ [])))
+        | inr (front, a, b) ↦ beyond front b (ap (λ x. x ++ following) (sym a) ∙ g)
+      ]
+
+  -- Nor is one in the front of `''` that goes on with no long string.
+  pub octet_quotes : (colon : Bool) → run p since (at modes.Blank [] colon k k) ≡ Next s → NoSegment true (feed p s o) → is_long_text s.mode ≡ false → (following : List ℕ) → BlankThen (codes "''") (since ++ o ∷ following) → ⊥
+  octet_quotes colon ran apart bare following (w, more, is, e) = by (parts_meet (since ++ o ∷ []) following (w ++ 39 ∷ []) (39 ∷ more) same)
+    where
+      same : (since ++ o ∷ []) ++ following ≡ (w ++ 39 ∷ []) ++ 39 ∷ more
+      same = append_assoc since (o ∷ []) following ∙ (e ∙ (append_assoc w (codes "''") more ∙ sym (append_assoc w (39 ∷ []) (39 ∷ more))))
+
+      passed : (now : ℕ) × ((r : List ℕ) → run p (w ++ r) (at modes.Blank [] colon k k) ≡ run p r (blank colon now (k + length w)))
+      passed = passes_blank p colon w is k k
+
+      one : Known
+      one = at modes.Quote [] colon (k + length w) (k + length w + 1)
+
+      two : Known
+      two = at modes.Quotes [] colon (k + length w) (k + length w + 1 + 1)
+
+      long : Known
+      long = at (modes.Text styles.LongString within.Plain) [] colon (k + length w) (k + length w + 1 + 1 + 1)
+
+      reached : run p (w ++ 39 ∷ []) (at modes.Blank [] colon k k) ≡ Next one
+      reached = passed.1 (39 ∷ [])
+
+      within' : (z : List ℕ) → w ++ 39 ∷ [] ≡ (since ++ o ∷ []) ++ z → ⊥
+      within' z f =
+          let m = run_parted p (since ++ o ∷ []) z (at modes.Blank [] colon k k) one (ap (λ x. run p x (at modes.Blank [] colon k k)) (sym f) ∙ reached) in
+          let fed = last_fed p since o (at modes.Blank [] colon k k) s m.0 ran m.1 in
+          let opened : NoLongText (m.0).mode = subst (NoSegment true) fed apart in
+          never true (open_kept p z m.0 one (follows_as p s o (Next m.0) sane fed).0 opened m.2).1 refl
+
+      -- behind two quotes
+      at_two : (b : Bool) → (o == 39) ≡ b → NoSegment true (acts p two o (if b then go_on (modes.Text styles.LongString within.Plain) else before kinds.QuotedSymbol)) → ⊥
+      at_two true f h = let z : true ≡ false = h.1 in cc
+      at_two false f h = let z : true ≡ false = h in cc
+
+      in_text : is_long_text s.mode ≡ true → ⊥
+      in_text h = never (is_long_text s.mode) bare h
+
+      third : (c : ℕ) (y : List ℕ) (b : Bool) → (c == 39) ≡ b → follow (acts p two c (if b then go_on (modes.Text styles.LongString within.Plain) else before kinds.QuotedSymbol)) (λ t. run p y t) ≡ Next s → ⊥
+      third c y true f h = in_text (subst LongOn h (long_run p y long refl))
+      third c y false f h = cc
+
+      behind_two : (y : List ℕ) → run p y two ≡ Next s → ⊥
+      behind_two [] h = at_two (o == 39) refl (subst (λ x. NoSegment true (feed p x o)) (sym (next_is two s h)) apart)
+      behind_two (c ∷ y) h = third c y (c == 39) refl h
+
+      beyond : (y : List ℕ) → since ≡ (w ++ 39 ∷ []) ++ y → (y ++ o ∷ []) ++ following ≡ 39 ∷ more → ⊥
+      beyond [] f g =
+          let here : s ≡ one = next_is s one (sym ran ∙ (ap (λ x. run p x (at modes.Blank [] colon k k)) (f ∙ append-nil (w ++ 39 ∷ [])) ∙ reached)) in
+          let quote : o ≡ 39 = cc in
+          let n : NoLongText modes.Quotes = subst (λ x. NoSegment true (feed p one x)) quote (subst (λ x. NoSegment true (feed p x o)) here apart) in
+          let z : true ≡ false = n.1 in cc
+      beyond (a ∷ y) f g =
+          let quote : a ≡ 39 = cc in
+          behind_two y (sym (run_behind p (w ++ 39 ∷ []) (39 ∷ y) (at modes.Blank [] colon k k) one reached) ∙ (ap (λ x. run p x (at modes.Blank [] colon k k)) (ap (λ x. (w ++ 39 ∷ []) ++ x ∷ y) (sym quote) ∙ sym f) ∙ ran))
+
+      by : ((y : List ℕ) × (since ++ o ∷ [] ≡ (w ++ 39 ∷ []) ++ y) × (y ++ following ≡ 39 ∷ more)) ⊎ ((z : List ℕ) × (w ++ 39 ∷ [] ≡ (since ++ o ∷ []) ++ z) × (z ++ 39 ∷ more ≡ following)) → ⊥
+      by (inr (z, f, g)) = within' z f
+      by (inl (y, f, g)) = elim (last_parted since o (w ++ 39 ∷ []) y f) [
+        | inl (a, b) ↦ within' [] (b ∙ sym (append-nil (since ++ o ∷ [])))
+        | inr (front, a, b) ↦ beyond front b (ap (λ x. x ++ following) (sym a) ∙ g)
+      ]

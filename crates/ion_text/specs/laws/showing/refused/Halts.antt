@@ -1,0 +1,235 @@
+-- An octet that is refused: what stands for the octets before it once it has ended tokens and values, and what refuses it there.
+use Rattle.std.proofs.Common.{◌≡◌, ℕ, zero, suc, Bool, true, false, List, [], ◌∷◌, ◌++◌, Result, Ok, Err, refl, sym, ap, ◌∙◌, subst, ◌⊎◌, inl, inr}
+use Rattle.ion_model.specs.declared.value.Value.{Value}
+use Rattle.ion_atoms.specs.declared.refusal.Reason.{Reason}
+use Rattle.ion_symtab.specs.declared.limits.Limits.{Limits}
+use Rattle.ion_symtab.specs.declared.catalog.Catalog.{Catalog}
+use Rattle.ion_tokens.specs.declared.mode.Mark.TheVariants as marks
+use Rattle.ion_tokens.specs.declared.mode.Mode.{Mode}
+use Rattle.ion_tokens.specs.declared.mode.Mode.TheVariants as modes
+use Rattle.ion_tokens.specs.declared.mode.Place.{Place}
+use Rattle.ion_tokens.specs.declared.mode.TokenKind.{TokenKind}
+use Rattle.ion_tokens.specs.declared.mode.TokenKind.TheVariants as kinds
+use Rattle.ion_tokens.specs.machine.Bounds.{is_idle}
+use Rattle.ion_tokens.specs.machine.Ahead.{IsUsed, is_sane, is_colons, is_mark, is_quoting, symbol_waits}
+use Rattle.ion_tokens.specs.Places.{is_sexp}
+use Rattle.ion_tokens.specs.Bodies.{Content}
+use Rattle.ion_tokens.specs.machine.Said.{said}
+use Rattle.ion_tokens.specs.machine.Scanning.{Known, Lexeme, Outcome, Next, Given, Left, Refused, takes_colon, feed}
+use Rattle.ion_tokens.specs.machine.Scanned.{Scanned, Continues}
+use Rattle.ion_text.specs.Grammar.{ends_long}
+use Rattle.ion_text.specs.machine.EachToken.{Reading, Turn, goes, gives, refuses, late, place, settle, turn}
+use Rattle.ion_text.specs.machine.Run.{State, Effect, uses, tells, leaves, fails, takes, unsettled, noticed, on_scan, on_said, behind_given, behind_left, or_worse, with_scan, token_of, is_top, is_fresh}
+use Rattle.ion_text.specs.machine.Places.{Leading}
+use Rattle.ion_text.specs.laws.reading.sound.Quotes.{Fine, Finely, is_close}
+use Rattle.ion_text.specs.machine.Passed.{said_body}
+use Rattle.ion_text.specs.laws.reading.sound.Spans.{IsClose, Spans, turn_spans}
+use Rattle.ion_text.specs.laws.reading.sound.Sound.{start_now}
+use Rattle.ion_text.specs.laws.reading.sound.Held.{Behind, Reads, ApartAt}
+use Rattle.ion_text.specs.laws.reading.complete.Meets.{IdleLeft, idle_left, is_long_text, follows_as, finely_as}
+use Rattle.ion_text.specs.laws.reading.complete.Segments.{never, long_quoting}
+use Rattle.ion_text.specs.laws.reading.complete.Going.{top_place, never_top, closes_kind}
+use Rattle.ion_text.specs.laws.reading.complete.Fuel.{UsedHere, Twice, UsedThen, Leaving, feed_leaves, NotLeaves, noticed_stays, given_stays, said_stays}
+use Rattle.ion_text.specs.laws.reading.sound.Steps.{left_reads}
+use Rattle.ion_text.specs.laws.showing.shown.Symbols.{colon_free}
+use Rattle.ion_text.specs.laws.showing.tokens.Froms.{Waits, fresh_parts, idle_waits}
+use Rattle.ion_text.specs.laws.showing.tokens.Cuts.{Keeps, feed_keeps}
+
+pub idle_no_text : (m : Mode) → is_idle m ≡ true → is_long_text m ≡ false
+idle_no_text (modes.Text s w) h = absurd cc
+idle_no_text _ h = refl
+
+pub quoting_no_text : (m : Mode) → is_quoting m ≡ false → is_long_text m ≡ false
+quoting_no_text m h = go (is_long_text m) refl
+  where
+    go : (b : Bool) → is_long_text m ≡ b → b ≡ false
+    go false e = refl
+    go true e = absurd (never (is_quoting m) h (long_quoting m e))
+
+-- the octet doesn't go on behind a symbol
+abbrev pub NotColons : Outcome → Type 0
+NotColons (Next t) = is_idle t.mode ≡ false
+NotColons (Given x t) = is_colons x.kind ≡ false
+NotColons _ = Unit {0}
+
+pub mark_colons : (k : TokenKind) → is_mark k ≡ false → is_colons k ≡ false
+mark_colons (kinds.Mark m) h = absurd cc
+mark_colons _ h = refl
+
+pub symbol_colons : (x : Outcome) → symbol_waits x ≡ false → NotColons x
+symbol_colons (Next t) h = h
+symbol_colons (Given x t) h = h
+symbol_colons (Left x t) h = tt
+symbol_colons (Refused n e) h = tt
+
+-- so many tries are enough
+abbrev pub Enough : ℕ → Known → ℕ → Type 0
+Enough zero s o = ⊥
+Enough (suc zero) s o = UsedHere s o
+Enough (suc (suc zero)) s o = Twice s o
+Enough (suc (suc (suc zero))) s o = Unit {0}
+Enough (suc (suc (suc (suc n)))) s o = ⊥
+
+less_enough : (n : ℕ) (p : Place) (s t : Known) (o : ℕ) (x : Lexeme) → Fine s → Enough (suc n) s o → feed p s o ≡ Left x t → Enough n t o
+less_enough zero p s t o x f h e = absurd (subst IsUsed e (h p))
+less_enough (suc zero) p s t o x f h e = subst (UsedThen o) e (h p)
+less_enough (suc (suc zero)) p s t o x f h e = (subst (Leaving o) e (feed_leaves p s o f)).1
+less_enough (suc (suc (suc n))) p s t o x f h e = absurd h
+
+module _ (g : Catalog) (l : Limits) where
+  -- the turn refuses
+  abbrev pub TurnRefuses : Turn → Type 0
+  TurnRefuses (refuses e) = Unit {0}
+  TurnRefuses (late e r) = Unit {0}
+  TurnRefuses _ = ⊥
+
+  -- what came of the octet at the scanner is refused
+  abbrev pub ScanRefused : Reading → Outcome → Type 0
+  ScanRefused r (Next t) = (e : Reason) × (noticed l r t ≡ fails e)
+  ScanRefused r (Left x t) = (c : Content) → said x.kind x.octets ≡ Ok c → TurnRefuses (turn g l r (token_of x c))
+  ScanRefused r _ = Unit {0}
+
+  -- or what waits is, which the octet doesn't go on
+  abbrev pub StopsAt : Known → Reading → Outcome → Type 0
+  StopsAt s r x = (((unsettled s r x ≡ true) ⊎ (settle g l r ≡ goes r)) × ScanRefused r x) ⊎ ((unsettled s r x ≡ false) × TurnRefuses (settle g l r))
+
+  module _ (u : List ℕ) (o : ℕ) where
+    abbrev pub Before : List Value → Known → Reading → List ℕ → Type 0
+    Before vs s r ahead = Behind g l Scanned u vs s r ahead (ApartAt o s r)
+
+    -- what is known while an octet ends tokens: where nothing is open, it goes on neither behind a symbol nor in a segment
+    pub record Kept (vs : List Value) (s : Known) (r : Reading) (ahead : List ℕ) (b : Before vs s r ahead) : Type 0 where
+      pub colons : is_fresh r ≡ true → s.colon ≡ true → NotColons (feed (place r) s o)
+      pub waits : is_top r.frames ≡ true → Waits g l s r.now
+      pub bare : is_fresh r ≡ true → ends_long b.front ≡ true → is_long_text s.mode ≡ false
+
+    pub record Halted (vs : List Value) : Type 0 where
+      pub s : Known
+      pub r : Reading
+      pub ahead : List ℕ
+      pub next : Continues (o ∷ []) ahead
+      pub b : Before vs s r ahead
+      pub kept : Kept vs s r ahead b
+      pub stops : StopsAt s r (feed (place r) s o)
+
+    -- a value was given before the octet
+    pub record GaveBefore (vs : List Value) (m : State) : Type 0 where
+      pub ahead : List ℕ
+      pub next : Continues (o ∷ []) ahead
+      pub b : Before vs m.scan m.reading ahead
+      pub kept : Kept vs m.scan m.reading ahead b
+      pub fresh : is_fresh m.reading ≡ true
+      pub colon : (y : Lexeme) (t : Known) → feed (place m.reading) m.scan o ≡ Left y t → y.kind ≡ kinds.Mark marks.Colon
+
+    module _ (vs : List Value) where
+      abbrev pub Chain : Effect → Type 0
+      Chain (uses m) = Unit {0}
+      Chain (tells v m) = Unit {0}
+      Chain (leaves v m) = GaveBefore (vs ++ v ∷ []) m
+      Chain (fails e) = Halted vs
+
+      chain_by : (x : Effect) → NotLeaves g l x → ((e : Reason) → x ≡ fails e → Halted vs) → Chain x
+      chain_by (uses m) n f = tt
+      chain_by (tells v m) n f = tt
+      chain_by (leaves v m) n f = absurd n
+      chain_by (fails e) n f = f e refl
+
+      pub worse_chain : (e : Reason) (x : Effect) → Halted vs → Chain (or_worse e x)
+      worse_chain e (fails f) h = h
+      worse_chain e (uses m) h = h
+      worse_chain e (tells v m) h = h
+      worse_chain e (leaves v m) h = h
+
+      -- where a token is left, none is open behind it at the top level
+      pub left_idle : (s t : Known) (r : Reading) (x : Lexeme) (c : Content) → is_sane s.mode ≡ true → Fine s → feed (place r) s o ≡ Left x t → said x.kind x.octets ≡ Ok c → Leading g l (λ n. is_top n.frames ≡ true → is_idle t.mode ≡ true) (turn g l r (token_of x c))
+      left_idle s t r x c sane fine e k = by (is_top r.frames) refl
+        where
+          P : Reading → Type 0
+          P n = is_top n.frames ≡ true → is_idle t.mode ≡ true
+
+          any : (y : Turn) → is_idle t.mode ≡ true → Leading g l P y
+          any (goes n) i = λ h. i
+          any (gives v n) i = λ h. i
+          any (refuses z) i = tt
+          any (late z n) i = tt
+
+          start : ℕ
+          start = start_now r.now r.start x.start r.frames r.notes
+
+          no_close : IsClose false c → ⊥
+          no_close h = never (is_close x.kind) (finely_as (place r) s o (Left x t) fine e).5 (closes_kind x.kind x.octets c h (said_body x.kind x.octets c k))
+
+          inside : (y : Turn) → Spans false c l.item start x.end y → Leading g l P y
+          inside (goes n) (inl (inl h, from, to)) = λ i. absurd (never (is_top n.frames) h i)
+          inside (goes n) (inl (inr h, from, to)) = absurd (let z : false ≡ true = h.0 in cc)
+          inside (goes n) (inr h) = absurd (no_close h.1)
+          inside (gives v n) h = absurd (no_close h.1)
+          inside (refuses z) h = tt
+          inside (late z n) h = tt
+
+          by : (b : Bool) → is_top r.frames ≡ b → Leading g l P (turn g l r (token_of x c))
+          by true top = any (turn g l r (token_of x c)) ((follows_as (place r) s o (Left x t) sane e).0 (ap is_sexp (top_place r.frames r.now top)))
+          by false top = inside (turn g l r (token_of x c)) (subst (λ b. Spans b c l.item start x.end (turn g l r (token_of x c))) top (turn_spans g l r (token_of x c) (never_top g l r top)))
+
+      -- no token is open at the top level behind what was left, and what was left before a colon's octet is a colon
+      pub idle_colon : (p : Place) (t : Known) → is_idle t.mode ≡ true → is_sexp p ≡ false → (y : Lexeme) (w : Known) → feed p t o ≡ Left y w → y.kind ≡ kinds.Mark marks.Colon
+      idle_colon p t i top y w e = by (subst (IdleLeft p t.used) e (idle_left p t o i))
+        where
+          by : IdleLeft p t.used (Left y w) → y.kind ≡ kinds.Mark marks.Colon
+          by (inl h) = h.0
+          by (inr h) = absurd (never (is_sexp p) top h.1)
+
+      -- where the octet comes again with fewer tries
+      abbrev pub ChainsAgain : ℕ → Type 0
+      ChainsAgain n = (s : Known) (r : Reading) (ahead : List ℕ) → Continues (o ∷ []) ahead → (b : Before vs s r ahead) → Kept vs s r ahead b → Enough n s o → Chain (takes g l n (with_scan s r) o)
+
+      module _ (n : ℕ) (again : ChainsAgain n) (s : Known) (r : Reading) (ahead : List ℕ) (next : Continues (o ∷ []) ahead) (b : Before vs s r ahead) (kept : Kept vs s r ahead b) (enough : Enough (suc n) s o) where
+        halted : StopsAt s r (feed (place r) s o) → Halted vs
+        halted h = record { s = s; r = r; ahead = ahead; next = next; b = b; kept = kept; stops = h }
+
+        -- a token was left
+        module _ (y : Lexeme) (t : Known) (e : feed (place r) s o ≡ Left y t) (direct : (unsettled s r (feed (place r) s o) ≡ true) ⊎ (settle g l r ≡ goes r)) where
+          stopped : ScanRefused r (Left y t) → Halted vs
+          stopped h = halted (inl (direct, subst (ScanRefused r) (sym e) h))
+
+          fine : Finely s.mode (Left y t)
+          fine = finely_as (place r) s o (Left y t) b.fine e
+
+          turned : (c : Content) → said y.kind y.octets ≡ Ok c → (z : Turn) → turn g l r (token_of y c) ≡ z → Reads g l Scanned u vs t (o ∷ []) (λ n. ApartAt o t n) z
+              → Leading g l (λ n. is_fresh n ≡ true → t.colon ≡ false) z → Leading g l (λ n. is_top n.frames ≡ true → is_idle t.mode ≡ true) z → Chain (behind_left (λ k. takes g l n k o) t z)
+          turned c k (goes m) f h i j =
+              again t m (o ∷ []) ([], refl) h
+              (record { colons = λ a d. absurd (never t.colon (i a) d); waits = λ a. idle_waits g l t m.now (j a); bare = λ a d. idle_no_text t.mode (j (ap is_top (fresh_parts m.start m.context m.frames m.notes m.now a).0)) })
+              (less_enough n (place r) s t o y b.fine enough e)
+          turned c k (gives v m) f h i j =
+              let parts = fresh_parts m.start m.context m.frames m.notes m.now h.1 in
+              let idle = j (ap is_top parts.0) in
+              record {
+                ahead = o ∷ [];
+                next = ([], refl);
+                b = h.0;
+                kept = record { colons = λ a d. absurd (never t.colon (i a) d); waits = λ a. idle_waits g l t m.now idle; bare = λ a d. idle_no_text t.mode idle };
+                fresh = h.1;
+                colon = idle_colon (place m) t idle (ap is_sexp (top_place m.frames m.now (ap is_top parts.0)));
+              }
+          turned c k (refuses z) f h i j = stopped (λ c' k'. subst TurnRefuses (sym (ap (λ a. turn g l r (token_of y a)) (let q : Ok c' ≡ Ok c = sym k' ∙ k in let q' : c' ≡ c = cc in q') ∙ f)) tt)
+          turned c k (late z m) f h i j =
+              worse_chain z (takes g l n (with_scan t m) o) (stopped (λ c' k'. subst TurnRefuses (sym (ap (λ a. turn g l r (token_of y a)) (let q : Ok c' ≡ Ok c = sym k' ∙ k in let q' : c' ≡ c = cc in q') ∙ f)) tt))
+
+          left_chain : (c : Result Content Reason) → said y.kind y.octets ≡ c → Chain (on_said c (λ c. behind_left (λ k. takes g l n k o) t (turn g l r (token_of y c))))
+          left_chain (Err z) k = stopped (λ c' k'. absurd (let q : Err z ≡ Ok c' = sym k ∙ k' in cc))
+          left_chain (Ok c) k =
+              turned c k (turn g l r (token_of y c)) refl (left_reads g l u vs o s t r ahead next b y e fine.3 fine c k)
+              (colon_free g l o r y t c (told_colon (feed (place r) s o) e) k) (left_idle s t r y c b.sane b.fine e k)
+            where
+              told_colon : (z : Outcome) → feed (place r) s o ≡ Left y t → t.colon ≡ takes_colon (place r) y.kind
+              told_colon z q = (subst (Keeps (place r) s) q (feed_keeps (place r) s o)).2
+
+        -- an octet at the scanner
+        pub scan_chain : (unsettled s r (feed (place r) s o) ≡ true) ⊎ (settle g l r ≡ goes r) → (x : Outcome) → feed (place r) s o ≡ x → Chain (on_scan g l (λ k. takes g l n k o) r x)
+        scan_chain direct (Next t) e = chain_by (noticed l r t) (noticed_stays g l r t) (λ z q. halted (inl (direct, subst (ScanRefused r) (sym e) (z, q))))
+        scan_chain direct (Given y t) e =
+            chain_by (on_said (said y.kind y.octets) (λ c. behind_given l t (turn g l r (token_of y c)))) (said_stays g l (said y.kind y.octets) (λ c. behind_given l t (turn g l r (token_of y c))) (λ c. given_stays g l t (turn g l r (token_of y c))))
+            (λ z q. halted (inl (direct, subst (ScanRefused r) (sym e) tt)))
+        scan_chain direct (Refused i z) e = halted (inl (direct, subst (ScanRefused r) (sym e) tt))
+        scan_chain direct (Left y t) e = left_chain y t e direct (said y.kind y.octets) refl

@@ -1,0 +1,329 @@
+-- Behind a symbol that no longer waits at the top level, a token has begun.
+use Rattle.std.proofs.Common.{◌≡◌, ℕ, zero, suc, ◌+◌, nat_le, List, [], ◌∷◌, ◌++◌, Bool, true, false, ◌&&◌, not, Result, Ok, Err, Option, Some, None, refl, sym, ap, ◌∙◌, subst, if◌then◌else◌, inl, inr}
+use Rattle.ion_model.specs.declared.value.Value.{Value}
+use Rattle.ion_atoms.specs.declared.refusal.Reason.{Reason}
+use Rattle.ion_atoms.specs.declared.refusal.Reason.TheVariants as reasons
+use Rattle.ion_atoms.specs.declared.refusal.Refusal.{Refusal}
+use Rattle.ion_symtab.specs.declared.limits.Limits.{Limits}
+use Rattle.ion_symtab.specs.declared.catalog.Catalog.{Catalog}
+use Rattle.ion_symtab.specs.Slots.{Slot, resolve}
+use Rattle.ion_tokens.specs.declared.mode.Place.{Place}
+use Rattle.ion_tokens.specs.declared.mode.TokenKind.{TokenKind}
+use Rattle.ion_tokens.specs.declared.mode.TokenKind.TheVariants as kinds
+use Rattle.ion_tokens.specs.Places.{is_name}
+use Rattle.ion_tokens.specs.machine.Bounds.{is_idle}
+use Rattle.ion_tokens.specs.Bodies.{Content, Word, Id, Quoted, Short, Long, Number', TypedNull, Operator, Clob, Blob, Mark', IsBody, IsWordBody, id_of, kind_named, null_of}
+use Rattle.ion_tokens.specs.machine.Scanning.{Known, Lexeme, Outcome, Next, Given, Left, Refused, takes_colon, feed}
+use Rattle.ion_tokens.specs.machine.Said.{said}
+use Rattle.ion_tokens.specs.machine.Ahead.{is_sane, is_quoting, symbol_waits, long_waits, Follows}
+use Rattle.ion_tokens.specs.laws.Follows.{feed_follows}
+use Rattle.ion_text.specs.declared.state.Held.{Held}
+use Rattle.ion_text.specs.declared.state.Held.TheVariants as helds
+use Rattle.ion_text.specs.declared.state.Now.{Now}
+use Rattle.ion_text.specs.declared.state.Now.TheVariants as nows
+use Rattle.ion_text.specs.declared.state.Frame.{Frame}
+use Rattle.ion_text.specs.Grammar.{is_keyword}
+use Rattle.ion_text.specs.machine.EachToken.{under, token_at, Reading, Turn, goes, gives, refuses, late, Symbols, at, place, place_in, settle, turn, turn_now, resolved, keyed, begun_at, held_word}
+use Rattle.ion_text.specs.machine.Run.{State, Effect, uses, tells, leaves, fails, eats, takes, waits, waits_now, in_segment, unsettled, noticed, on_octet, on_scan, on_settled, on_said, behind_given, behind_left, or_worse, with_scan, token_of, is_top, is_fresh, shut, reaches, run, run_on, once_more}
+use Rattle.ion_text.specs.machine.Passed.{said_body}
+use Rattle.ion_text.specs.machine.Places.{Leading, settle_same}
+use Rattle.ion_text.specs.laws.reading.sound.Held.{map_turn, or_parts}
+use Rattle.ion_text.specs.laws.reading.sound.Spans.{IsClose, Spans, turn_spans}
+use Rattle.ion_text.specs.laws.reading.sound.Sound.{start_now, symbol_said}
+use Rattle.ion_text.specs.laws.reading.sound.Steps.{Stood, After, eats_after, takes_after}
+use Rattle.ion_text.specs.laws.showing.tokens.Cuts.{Keeps, feed_keeps}
+use Rattle.ion_text.specs.laws.reading.complete.Segments.{never}
+
+-- what is no fresh reading
+
+pending_unfresh : (start : ℕ) (c : List Slot) (fs : List Frame) (ss : Symbols) (h : Held) (end : ℕ) → is_fresh (at start c fs ss (nows.Pending h end)) ≡ false
+pending_unfresh start c [] [] h end = refl
+pending_unfresh start c [] (s ∷ ss) h end = refl
+pending_unfresh start c (f ∷ fs) ss h end = refl
+
+pub keyed_unfresh : (start : ℕ) (c : List Slot) (fs : List Frame) (ss : Symbols) (s : Option (List ℕ)) → is_fresh (at start c fs ss (nows.Keyed s)) ≡ false
+keyed_unfresh start c [] [] s = refl
+keyed_unfresh start c [] (x ∷ ss) s = refl
+keyed_unfresh start c (f ∷ fs) ss s = refl
+
+inside_unfresh : (r : Reading) → is_top r.frames ≡ false → is_fresh r ≡ false
+inside_unfresh r h = go r.frames h
+  where
+    go : (fs : List Frame) → is_top fs ≡ false → is_fresh (at r.start r.context fs r.notes r.now) ≡ false
+    go [] h = absurd cc
+    go (f ∷ fs) h = refl
+
+-- tokens that may be symbols
+
+word_symbol : (octets : List ℕ) (id : Option ℕ) (c : Content) → IsWordBody octets id (Ok c) → symbol_said c ≡ true
+word_symbol octets None c h = ap symbol_said h.0
+word_symbol octets (Some id) c h = let e : c ≡ Id id = cc in ap symbol_said e
+
+null_symbol : (k : Option _) (c : Content) → Ok c ≡ null_of k → symbol_said c ≡ true
+null_symbol None c h = absurd cc
+null_symbol (Some k) c h = let e : c ≡ TypedNull k = cc in ap symbol_said e
+
+-- a struct's field name is looked for in a struct
+name_inside : (fs : List Frame) (now : Now) → is_name (place_in fs now) ≡ true → is_top fs ≡ false
+name_inside [] now h = absurd cc
+name_inside (f ∷ fs) now h = refl
+
+module _ (g : Catalog) (l : Limits) where
+  abbrev Unfresh : Turn → Type 0
+  Unfresh t = Leading g l (λ n. is_fresh n ≡ false) t
+
+  resolved_unfresh : (r : Result (Option (List ℕ)) Reason) (f : Option (List ℕ) → Turn) → ((s : Option (List ℕ)) → Unfresh (f s)) → Unfresh (resolved r f)
+  resolved_unfresh (Ok s) f h = h s
+  resolved_unfresh (Err e) f h = tt
+
+  keyword_unfresh : (start : ℕ) (c : List Slot) (fs : List Frame) (w : List ℕ) (b : Bool) → Unfresh (if b then late reasons.KeywordAsName (keyed start c fs (Some w)) else goes (keyed start c fs (Some w)))
+  keyword_unfresh start c fs w true = tt
+  keyword_unfresh start c fs w false = keyed_unfresh start c fs [] (Some w)
+
+  symbol_unfresh : (begin end start : ℕ) (c : List Slot) (fs : List Frame) (ss : Symbols) (said : Content) (now : Now) → symbol_said said ≡ true → Unfresh (turn_now (under g l) (at start c fs ss now) (token_at begin end said) now)
+  symbol_unfresh begin end start c fs ss (Word w) nows.Ready h = pending_unfresh (begun_at start begin fs ss) c fs ss (held_word w) end
+  symbol_unfresh begin end start c fs ss (Id id) nows.Ready h = resolved_unfresh (resolve c id) _ (λ s. pending_unfresh (begun_at start begin fs ss) c fs ss (helds.Symbol s) end)
+  symbol_unfresh begin end start c fs ss (Quoted w) nows.Ready h = pending_unfresh (begun_at start begin fs ss) c fs ss (helds.Symbol (Some w)) end
+  symbol_unfresh begin end start c fs ss (TypedNull k) nows.Ready h = pending_unfresh (begun_at start begin fs ss) c fs ss (helds.Null k) end
+  symbol_unfresh begin end start c fs ss (Word w) nows.Name h = keyword_unfresh start c fs w (is_keyword w)
+  symbol_unfresh begin end start c fs ss (Id id) nows.Name h = resolved_unfresh (resolve c id) _ (λ s. keyed_unfresh start c fs [] s)
+  symbol_unfresh begin end start c fs ss (Quoted w) nows.Name h = keyed_unfresh start c fs [] (Some w)
+  symbol_unfresh begin end start c fs ss (TypedNull k) nows.Name h = tt
+  symbol_unfresh begin end start c fs ss (Word w) (nows.Pending x e) h = tt
+  symbol_unfresh begin end start c fs ss (Word w) (nows.Long x e) h = tt
+  symbol_unfresh begin end start c fs ss (Word w) nows.After h = tt
+  symbol_unfresh begin end start c fs ss (Word w) (nows.LongName x) h = tt
+  symbol_unfresh begin end start c fs ss (Word w) (nows.Keyed x) h = tt
+  symbol_unfresh begin end start c fs ss (Id w) (nows.Pending x e) h = tt
+  symbol_unfresh begin end start c fs ss (Id w) (nows.Long x e) h = tt
+  symbol_unfresh begin end start c fs ss (Id w) nows.After h = tt
+  symbol_unfresh begin end start c fs ss (Id w) (nows.LongName x) h = tt
+  symbol_unfresh begin end start c fs ss (Id w) (nows.Keyed x) h = tt
+  symbol_unfresh begin end start c fs ss (Quoted w) (nows.Pending x e) h = tt
+  symbol_unfresh begin end start c fs ss (Quoted w) (nows.Long x e) h = tt
+  symbol_unfresh begin end start c fs ss (Quoted w) nows.After h = tt
+  symbol_unfresh begin end start c fs ss (Quoted w) (nows.LongName x) h = tt
+  symbol_unfresh begin end start c fs ss (Quoted w) (nows.Keyed x) h = tt
+  symbol_unfresh begin end start c fs ss (TypedNull w) (nows.Pending x e) h = tt
+  symbol_unfresh begin end start c fs ss (TypedNull w) (nows.Long x e) h = tt
+  symbol_unfresh begin end start c fs ss (TypedNull w) nows.After h = tt
+  symbol_unfresh begin end start c fs ss (TypedNull w) (nows.LongName x) h = tt
+  symbol_unfresh begin end start c fs ss (TypedNull w) (nows.Keyed x) h = tt
+  symbol_unfresh begin end start c fs ss (Short w) now h = absurd cc
+  symbol_unfresh begin end start c fs ss (Long w) now h = absurd cc
+  symbol_unfresh begin end start c fs ss (Number' w) now h = absurd cc
+  symbol_unfresh begin end start c fs ss (Operator w) now h = absurd cc
+  symbol_unfresh begin end start c fs ss (Clob w) now h = absurd cc
+  symbol_unfresh begin end start c fs ss (Blob w) now h = absurd cc
+  symbol_unfresh begin end start c fs ss (Mark' w) now h = absurd cc
+
+  any_turn : (P : Reading → Type 0) → ((r : Reading) → P r) → (t : Turn) → Leading g l P t
+  any_turn P h (goes r) = h r
+  any_turn P h (gives v r) = h r
+  any_turn P h (refuses e) = tt
+  any_turn P h (late e r) = tt
+
+  -- a token that closes nothing ends no item in a container
+  inside_open : (c : Content) (item start end : ℕ) (t : Turn) → (IsClose false c → ⊥) → Spans false c item start end t → Unfresh t
+  inside_open c item start end (goes n) k (inl (inl h, from, to)) = inside_unfresh n h
+  inside_open c item start end (goes n) k (inl (inr (h, new, ok), from, to)) = absurd (let x : false ≡ true = h in cc)
+  inside_open c item start end (goes n) k (inr h) = absurd (k h.1)
+  inside_open c item start end (gives v n) k h = absurd (k h.1)
+  inside_open c item start end (refuses e) k h = tt
+  inside_open c item start end (late e n) k h = tt
+
+  -- behind a token with which an item ends, no colon may stand
+  abbrev NoColon : Place → Lexeme → Turn → Type 0
+  NoColon p x t = Leading g l (λ n. is_fresh n ≡ true → takes_colon p x.kind ≡ false) t
+
+  turn_colon : (r : Reading) (x : Lexeme) (c : Content) → IsBody x.kind x.octets (Ok c) → NoColon (place r) x (turn g l r (token_of x c))
+  turn_colon r x c b = go x.kind refl b
+    where
+      t : Turn
+      t = turn g l r (token_of x c)
+
+      none : Unfresh t → NoColon (place r) x t
+      none h = map_turn g l (λ n. is_fresh n ≡ false) (λ n. is_fresh n ≡ true → takes_colon (place r) x.kind ≡ false) (λ n e f. absurd (never (is_fresh n) e f)) t h
+
+      symbol : symbol_said c ≡ true → NoColon (place r) x t
+      symbol h = none (symbol_unfresh x.start x.end r.start r.context r.frames r.notes c r.now h)
+
+      free : takes_colon (place r) x.kind ≡ false → NoColon (place r) x t
+      free h = any_turn (λ n. is_fresh n ≡ true → takes_colon (place r) x.kind ≡ false) (λ n f. h) t
+
+      name : (IsClose false c → ⊥) → (b : Bool) → is_name (place r) ≡ b → takes_colon (place r) x.kind ≡ b → NoColon (place r) x t
+      name k false e f = free f
+      name k true e f =
+          let i = name_inside r.frames r.now e in
+          none (inside_open c l.item (start_now r.now r.start x.start r.frames r.notes) x.end t k (subst (λ b. Spans b c l.item (start_now r.now r.start x.start r.frames r.notes) x.end t) i (turn_spans g l r (token_of x c) (λ h. absurd (never (is_top r.frames) i h)))))
+
+      go : (k : TokenKind) → x.kind ≡ k → IsBody k x.octets (Ok c) → NoColon (place r) x t
+      go kinds.Word e h = symbol (word_symbol x.octets (id_of x.octets) c h)
+      go kinds.KindName e h = symbol (null_symbol (kind_named x.octets) c h)
+      go kinds.QuotedSymbol e h = symbol (ap symbol_said h.0)
+      go kinds.ShortString e h = name (λ i. subst (IsClose false) h.0 i) (is_name (place r)) refl (ap (takes_colon (place r)) e)
+      go kinds.LongString e h = name (λ i. subst (IsClose false) h.0 i) (is_name (place r)) refl (ap (takes_colon (place r)) e)
+      go kinds.Number e h = free (ap (takes_colon (place r)) e)
+      go kinds.Operator e h = free (ap (takes_colon (place r)) e)
+      go kinds.Clob e h = free (ap (takes_colon (place r)) e)
+      go kinds.Blob e h = free (ap (takes_colon (place r)) e)
+      go (kinds.Mark m) e h = free (ap (takes_colon (place r)) e)
+
+  -- where nothing is open, and the last token may have a colon behind it, a token has begun
+  abbrev pub HasBegun : Known → Reading → Type 0
+  HasBegun s r = is_fresh r ≡ true → s.colon ≡ true → is_idle s.mode ≡ false
+
+  -- an octet begins one, or ends one
+  abbrev BeginsOne : Outcome → Type 0
+  BeginsOne (Next t) = is_idle t.mode ≡ false
+  BeginsOne _ = Unit {0}
+
+  abbrev pub StillAt : ℕ → Known → Reading → Type 0
+  StillAt o s r = is_fresh r ≡ true → s.colon ≡ true → BeginsOne (feed (place r) s o)
+
+  still_at : (o : ℕ) (s : Known) (r : Reading) → is_sane s.mode ≡ true → HasBegun s r → StillAt o s r
+  still_at o s r sane h f c = go (feed (place r) s o) (feed_follows (place r) s o sane)
+    where
+      go : (x : Outcome) → Follows (place r) s.mode x → BeginsOne x
+      go (Next t) k = k.1 (h f c)
+      go (Given x t) k = tt
+      go (Left x t) k = tt
+      go (Refused n e) k = tt
+
+  -- what came of an octet
+  abbrev pub StillBehind : ℕ → Effect → Type 0
+  StillBehind o (uses m) = HasBegun m.scan m.reading
+  StillBehind o (tells v m) = HasBegun m.scan m.reading
+  StillBehind o (leaves v m) = StillAt o m.scan m.reading
+  StillBehind o (fails e) = Unit {0}
+
+  module _ (o : ℕ) where
+    noticed_still : (r : Reading) (s : Known) → HasBegun s r → StillBehind o (noticed l r s)
+    noticed_still r s h = go (shut r.now && not (is_idle s.mode)) (nat_le (reaches r.frames r s) l.item)
+      where
+        go : (x y : Bool) → StillBehind o (if x then fails reasons.Unexpected else (if y then uses (record { scan = s; reading = r }) else fails reasons.ItemTooLong))
+        go true y = tt
+        go false true = h
+        go false false = tt
+
+    worse_still : (e : Reason) (x : Effect) → StillBehind o (or_worse e x)
+    worse_still e (fails f) = tt
+    worse_still e (uses m) = tt
+    worse_still e (tells v m) = tt
+    worse_still e (leaves v m) = tt
+
+    given_still : (s : Known) (t : Turn) → Leading g l (λ n. is_fresh n ≡ true → s.colon ≡ false) t → StillBehind o (behind_given l s t)
+    given_still s (goes r) h = noticed_still r s (λ f c. absurd (never s.colon (h f) c))
+    given_still s (gives v r) h = λ f c. absurd (never s.colon (h f) c)
+    given_still s (refuses e) h = tt
+    given_still s (late e r) h = worse_still e (noticed l r s)
+
+    abbrev AgainStill : (State → Effect) → Type 0
+    AgainStill again = (k : State) → StillAt o k.scan k.reading → StillBehind o (again k)
+
+    left_still : (again : State → Effect) (s : Known) (t : Turn) → AgainStill again → Leading g l (λ n. is_fresh n ≡ true → s.colon ≡ false) t → StillBehind o (behind_left again s t)
+    left_still again s (goes r) f h = f (with_scan s r) (λ x c. absurd (never s.colon (h x) c))
+    left_still again s (gives v r) f h = λ x c. absurd (never s.colon (h x) c)
+    left_still again s (refuses e) f h = tt
+    left_still again s (late e r) f h = worse_still e (again (with_scan s r))
+
+    said_still : (r : Result Content Reason) (f : Content → Effect) → ((c : Content) → r ≡ Ok c → StillBehind o (f c)) → StillBehind o (on_said r f)
+    said_still (Ok c) f h = h c refl
+    said_still (Err e) f h = tt
+
+    -- behind a token that is told where nothing is open no colon may stand
+    pub colon_free : (r : Reading) (x : Lexeme) (t : Known) (c : Content) → t.colon ≡ takes_colon (place r) x.kind → said x.kind x.octets ≡ Ok c → Leading g l (λ n. is_fresh n ≡ true → t.colon ≡ false) (turn g l r (token_of x c))
+    colon_free r x t c e f = map_turn g l (λ n. is_fresh n ≡ true → takes_colon (place r) x.kind ≡ false) (λ n. is_fresh n ≡ true → t.colon ≡ false) (λ n h i. e ∙ h i) (turn g l r (token_of x c)) (turn_colon r x c (said_body x.kind x.octets c f))
+
+    scan_still : (s : Known) (r : Reading) (again : State → Effect) → AgainStill again → StillAt o s r → (x : Outcome) → feed (place r) s o ≡ x → Keeps (place r) s x → StillBehind o (on_scan g l again r x)
+    scan_still s r again f h (Next t) e k = noticed_still r t (λ i c. subst BeginsOne e (h i (sym k.1 ∙ c)))
+    scan_still s r again f h (Given x t) e k = said_still (said x.kind x.octets) (λ c. behind_given l t (turn g l r (token_of x c))) (λ c i. given_still t (turn g l r (token_of x c)) (colon_free r x t c k.2 i))
+    scan_still s r again f h (Left x t) e k = said_still (said x.kind x.octets) (λ c. behind_left again t (turn g l r (token_of x c))) (λ c i. left_still again t (turn g l r (token_of x c)) f (colon_free r x t c k.2 i))
+    scan_still s r again f h (Refused n y) e k = tt
+
+    octet_scanned : (s : Known) (r : Reading) (again : State → Effect) → AgainStill again → StillAt o s r → StillBehind o (on_scan g l again r (feed (place r) s o))
+    octet_scanned s r again f h = scan_still s r again f h (feed (place r) s o) refl (feed_keeps (place r) s o)
+
+    -- what waited is settled by an octet that begins a token, or ends one
+    settled_still : (s : Known) (again : State → Effect) (p : Place) → AgainStill again → (t : Turn) → Leading g l (λ n. (place n ≡ p) × (is_fresh n ≡ true → s.colon ≡ true → BeginsOne (feed p s o))) t → StillBehind o (on_settled g l again s (feed p s o) t)
+    settled_still s again p f (goes r) h =
+        subst (λ q. StillBehind o (on_scan g l again r (feed q s o))) h.0
+        (octet_scanned s r again f (subst (λ q. is_fresh r ≡ true → s.colon ≡ true → BeginsOne (feed q s o)) (sym h.0) h.1))
+    settled_still s again p f (gives v r) h = subst (λ q. is_fresh r ≡ true → s.colon ≡ true → BeginsOne (feed q s o)) (sym h.0) h.1
+    settled_still s again p f (refuses e) h = tt
+    settled_still s again p f (late e r) h = worse_still e (on_scan g l again r (feed p s o))
+
+    symbol_begins : (x : Outcome) → symbol_waits x ≡ false → BeginsOne x
+    symbol_begins (Next t) h = h
+    symbol_begins (Given x t) h = tt
+    symbol_begins (Left x t) h = tt
+    symbol_begins (Refused n e) h = tt
+
+    long_begins : (top : Bool) (x : Outcome) → long_waits top x ≡ false → BeginsOne x
+    long_begins top (Next t) h = (or_parts (is_idle t.mode) (is_quoting t.mode) h).0
+    long_begins top (Given x t) h = tt
+    long_begins top (Left x t) h = tt
+    long_begins top (Refused n e) h = tt
+
+    abbrev SettledIn : Place → Known → Reading → Type 0
+    SettledIn p s n = (place n ≡ p) × (is_fresh n ≡ true → s.colon ≡ true → BeginsOne (feed p s o))
+
+    settling : (start : ℕ) (c : List Slot) (fs : List Frame) (ss : Symbols) (now : Now) (s : Known) → StillAt o s (at start c fs ss now) → waits_now (is_top fs) now (feed (place_in fs now) s o) ≡ false
+        → Leading g l (SettledIn (place_in fs now) s) (settle g l (at start c fs ss now))
+    settling start c fs ss now s h w = go now refl
+      where
+        p : Place
+        p = place_in fs now
+
+        by : BeginsOne (feed p s o) → Leading g l (SettledIn p s) (settle g l (at start c fs ss now))
+        by b = map_turn g l (λ n. (place n ≡ p) × (is_top n.frames ≡ is_top fs)) (SettledIn p s) (λ n e. (e.0, λ f i. b)) (settle g l (at start c fs ss now)) (settle_same g l start c fs ss now)
+
+        same : (n : Now) → now ≡ n → settle g l (at start c fs ss n) ≡ goes (at start c fs ss n) → Leading g l (SettledIn p s) (settle g l (at start c fs ss now))
+        same n e f = subst (Leading g l (SettledIn p s)) (sym (ap (λ m. settle g l (at start c fs ss m)) e ∙ f)) (ap (place_in fs) (sym e), λ i k. h (ap (λ m. is_fresh (at start c fs ss m)) e ∙ i) k)
+
+        go : (n : Now) → now ≡ n → Leading g l (SettledIn p s) (settle g l (at start c fs ss now))
+        go (nows.Pending k end) e = by (symbol_begins (feed p s o) (sym (ap (λ m. waits_now (is_top fs) m (feed p s o)) e) ∙ w))
+        go (nows.Long v end) e = by (long_begins (is_top fs) (feed p s o) (sym (ap (λ m. waits_now (is_top fs) m (feed p s o)) e) ∙ w))
+        go (nows.LongName v) e = by (long_begins false (feed p s o) (sym (ap (λ m. waits_now (is_top fs) m (feed p s o)) e) ∙ w))
+        go nows.Ready e = same nows.Ready e refl
+        go nows.After e = same nows.After e refl
+        go nows.Name e = same nows.Name e refl
+        go (nows.Keyed x) e = same (nows.Keyed x) e refl
+
+    octet_still : (s : Known) (r : Reading) (again : State → Effect) → AgainStill again → StillAt o s r → StillBehind o (on_octet g l again (with_scan s r) (feed (place r) s o))
+    octet_still s r again f h = go (unsettled s r (feed (place r) s o)) refl
+      where
+        go : (w : Bool) → unsettled s r (feed (place r) s o) ≡ w → StillBehind o (if w then on_scan g l again r (feed (place r) s o) else on_settled g l again s (feed (place r) s o) (settle g l r))
+        go true e = octet_scanned s r again f h
+        go false e = settled_still s again (place r) f (settle g l r) (settling r.start r.context r.frames r.notes r.now s h (or_parts (waits r (feed (place r) s o)) (in_segment r.now s) e).0)
+
+    pub takes_still : (n : ℕ) (m : State) → StillAt o m.scan m.reading → StillBehind o (takes g l n m o)
+    takes_still zero m h = tt
+    takes_still (suc n) m h = octet_still m.scan m.reading (λ k. takes g l n k o) (λ k i. takes_still n k i) h
+
+    pub eats_still : (m : State) → is_sane m.scan.mode ≡ true → HasBegun m.scan m.reading → StillBehind o (eats g l m o)
+    eats_still m sane h = takes_still 3 m (still_at o m.scan m.reading sane h)
+
+  -- in which octets end
+  abbrev pub EndsStill : Result State Refusal → Type 0
+  EndsStill (Ok n) = HasBegun n.scan n.reading
+  EndsStill (Err e) = Unit {0}
+
+  pub run_still : (os u : List ℕ) (vs : List Value) (to : ℕ) (m : State) → Stood g l u vs m → HasBegun m.scan m.reading → EndsStill (run g l to m os).now
+  run_still [] u vs to m b h = h
+  run_still (o ∷ os) u vs to m b h = step (λ xs n c i. run_still os (u ++ o ∷ []) xs (to + 1) n c i) (eats g l m o) (eats_after g l u vs m o b) (eats_still o m b.sane h)
+    where
+      Rest : Type 0
+      Rest = (xs : List Value) (n : State) → Stood g l (u ++ o ∷ []) xs n → HasBegun n.scan n.reading → EndsStill (run g l (to + 1) n os).now
+
+      once : Rest → (ws : List Value) (x : Effect) → After g l u ws o x → StillBehind o x → EndsStill (once_more to (λ n. run g l (to + 1) n os) x).now
+      once rest ws (uses n) a i = rest ws n a i
+      once rest ws (tells v n) a i = rest (ws ++ v ∷ []) n a i
+      once rest ws (leaves v n) a i = tt
+      once rest ws (fails e) a i = tt
+
+      step : Rest → (x : Effect) → After g l u vs o x → StillBehind o x → EndsStill (run_on to (λ n. eats g l n o) (λ n. run g l (to + 1) n os) x).now
+      step rest (uses n) a i = rest vs n a i
+      step rest (tells v n) a i = rest (vs ++ v ∷ []) n a i
+      step rest (leaves v n) a i = once rest (vs ++ v ∷ []) (eats g l n o) (takes_after g l u (vs ++ v ∷ []) o 3 n.scan n.reading a.0 a.1 a.2) (takes_still o 3 n i)
+      step rest (fails e) a i = tt

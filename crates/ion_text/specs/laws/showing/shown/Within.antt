@@ -1,0 +1,175 @@
+-- Where no octet is refused, the open item is within the limit on items, as far as it is known to go.
+use Rattle.std.proofs.Common.{◌≡◌, ℕ, zero, suc, ◌+◌, ◌≤◌, nat_le, List, [], ◌∷◌, Bool, true, false, ◌&&◌, not, Result, Ok, Err, Option, Some, None, refl, sym, subst, arith, if◌then◌else◌}
+use Rattle.std.specs.Prelude.{◌-◌, ◌==◌, bytes_eq, codes}
+use Rattle.ion_atoms.specs.declared.refusal.Reason.{Reason}
+use Rattle.ion_atoms.specs.declared.refusal.Reason.TheVariants as reasons
+use Rattle.ion_atoms.specs.declared.refusal.Refusal.{Refusal}
+use Rattle.ion_symtab.specs.declared.limits.Limits.{Limits}
+use Rattle.ion_symtab.specs.declared.catalog.Catalog.{Catalog}
+use Rattle.ion_tokens.specs.declared.mode.Place.{Place}
+use Rattle.ion_tokens.specs.declared.mode.Mode.TheVariants as modes
+use Rattle.ion_tokens.specs.declared.mode.Action.{Action}
+use Rattle.ion_tokens.specs.declared.mode.Action.TheVariants as actions
+use Rattle.ion_tokens.specs.declared.mode.TokenKind.TheVariants as kinds
+use Rattle.ion_tokens.specs.machine.Table.{next}
+use Rattle.ion_tokens.specs.machine.Bounds.{is_idle}
+use Rattle.ion_tokens.specs.machine.Views.{behind, form_of, begun_in}
+use Rattle.ion_tokens.specs.Blobs.{blob_of}
+use Rattle.ion_tokens.specs.Bodies.{Content}
+use Rattle.ion_tokens.specs.machine.Said.{said}
+use Rattle.ion_tokens.specs.machine.Scanning.{Known, Outcome, Next, Given, Left, Refused, go_to, past, cut, acts, blob_ends, feed}
+use Rattle.ion_text.specs.declared.state.Now.{Now}
+use Rattle.ion_text.specs.declared.state.Now.TheVariants as nows
+use Rattle.ion_text.specs.declared.state.Frame.{Frame}
+use Rattle.ion_text.specs.machine.EachToken.{Reading, Turn, goes, gives, refuses, late, Symbols, at, place, settle, turn}
+use Rattle.ion_text.specs.machine.Run.{State, Effect, uses, tells, leaves, fails, begun, eats, takes, waits, unsettled, noticed, on_octet, on_scan, on_settled, on_said, behind_given, behind_left, or_worse, with_scan, token_of, is_top, is_fresh, shut, reaches, longest_top, is_long_begun, run, run_on, once_more}
+use Rattle.ion_text.specs.laws.reading.complete.Segments.{NotRefused, unsettled_waits}
+use Rattle.ion_text.specs.laws.reading.sound.Quotes.{le_of}
+use Rattle.ion_text.specs.laws.reading.sound.Sound.{start_now}
+use Rattle.ion_text.specs.laws.reading.sound.Spans.{Spans, turn_spans}
+use Rattle.ion_text.specs.laws.reading.complete.Going.{TopOk}
+use Rattle.ion_text.specs.laws.reading.complete.Quiet.{CalmNow, calm_now}
+use Rattle.ion_text.specs.laws.reading.complete.Accepts.{SettledCalm, settle_settled, turn_ok, idle_calm, waits_calm}
+
+-- behind a token that ended with its last octet none has begun
+abbrev IdleBehind : Outcome → Type 0
+IdleBehind (Given x t) = is_idle t.mode ≡ true
+IdleBehind _ = Unit {0}
+
+blob_idle : (s : Known) (b : Option (List ℕ)) → IdleBehind (blob_ends s b)
+blob_idle s None = tt
+blob_idle s (Some b) = tt
+
+word_idle : (p : Place) (s : Known) (b : Bool) → IdleBehind (if b then Next (go_to s modes.KindName []) else Left (cut s kinds.Word s.kept s.used) (past p kinds.Word modes.Blank [] s.used s.used))
+word_idle p s true = tt
+word_idle p s false = tt
+
+acts_idle : (p : Place) (s : Known) (o : ℕ) (a : Action) → IdleBehind (acts p s o a)
+acts_idle p s o (actions.Go m k) = tt
+acts_idle p s o (actions.Give kind k) = refl
+acts_idle p s o (actions.Before kind k m) = tt
+acts_idle p s o actions.EndWord = word_idle p s ((o == 46) && bytes_eq s.kept (codes "null"))
+acts_idle p s o (actions.Split n) = tt
+acts_idle p s o actions.EndBlob = blob_idle s (blob_of s.kept)
+acts_idle p s o (actions.Refuse e) = tt
+
+feed_idle : (p : Place) (s : Known) (o : ℕ) → IdleBehind (feed p s o)
+feed_idle p s o = acts_idle p s o (next p s.colon s.mode o)
+
+module _ (g : Catalog) (l : Limits) where
+  -- the open item is within the limit, and what waits at the top level is calm
+  abbrev pub Within : State → Type 0
+  Within m = (reaches m.reading.frames m.reading m.scan ≤ l.item) × (is_top m.reading.frames ≡ true → CalmNow m.reading.now m.scan.mode)
+
+  -- what came of an octet
+  abbrev WithinBehind : Effect → Type 0
+  WithinBehind (uses m) = Within m
+  WithinBehind (tells v m) = Within m
+  WithinBehind (leaves v m) = TopOk g l m.reading
+  WithinBehind (fails e) = Unit {0}
+
+  noticed_within : (r : Reading) (s : Known) → (is_top r.frames ≡ true → CalmNow r.now s.mode) → WithinBehind (noticed l r s)
+  noticed_within r s c = go (shut r.now && not (is_idle s.mode)) (nat_le (reaches r.frames r s) l.item) refl
+    where
+      go : (x y : Bool) → nat_le (reaches r.frames r s) l.item ≡ y → WithinBehind (if x then fails reasons.Unexpected else (if y then uses (record { scan = s; reading = r }) else fails reasons.ItemTooLong))
+      go true y e = tt
+      go false true e = (le_of (reaches r.frames r s) l.item e, c)
+      go false false e = tt
+
+  worse_within : (e : Reason) (x : Effect) → WithinBehind (or_worse e x)
+  worse_within e (fails f) = tt
+  worse_within e (uses m) = tt
+  worse_within e (tells v m) = tt
+  worse_within e (leaves v m) = tt
+
+  -- where nothing is open
+  fresh_within : (s : Known) (r : Reading) → is_fresh r ≡ true → is_idle s.mode ≡ true → Within (with_scan s r)
+  fresh_within s r h idle = go r.frames r.notes r.now h
+    where
+      none : longest_top r.start s.used nows.Ready [] (begun_in s) (is_long_begun (begun_in s)) ≤ l.item
+      none = subst (λ i. longest_top r.start s.used nows.Ready [] (if i then None else Some (record { start = s.start; end = s.used - behind s.mode; form = form_of s.mode })) (is_long_begun (begun_in s)) ≤ l.item) (sym idle) (omega arith)
+
+      go : (fs : List Frame) (ss : Symbols) (n : Now) → is_fresh (at r.start r.context fs ss n) ≡ true → (reaches fs (at r.start r.context fs ss n) s ≤ l.item) × (is_top fs ≡ true → CalmNow n s.mode)
+      go [] [] nows.Ready h = (none, λ k. tt)
+      go [] [] (nows.Pending k e) h = absurd cc
+      go [] [] (nows.Long w e) h = absurd cc
+      go [] [] nows.After h = absurd cc
+      go [] [] nows.Name h = absurd cc
+      go [] [] (nows.LongName w) h = absurd cc
+      go [] [] (nows.Keyed s) h = absurd cc
+      go [] (x ∷ ss) n h = absurd cc
+      go (f ∷ fs) ss n h = absurd cc
+
+  abbrev AgainWithin : (State → Effect) → Type 0
+  AgainWithin again = (k : State) → TopOk g l k.reading → WithinBehind (again k)
+
+  given_within : (s : Known) (r : Reading) (c : Content) (start end : ℕ) (t : Turn) → is_idle s.mode ≡ true → Spans (is_top r.frames) c l.item start end t → WithinBehind (behind_given l s t)
+  given_within s r c start end (goes n) idle h = noticed_within n s (λ k. idle_calm n.now s.mode (turn_ok g l r c l.item start end (goes n) h k).0 idle)
+  given_within s r c start end (gives v n) idle h = fresh_within s n h.2 idle
+  given_within s r c start end (refuses e) idle h = tt
+  given_within s r c start end (late e n) idle h = worse_within e (noticed l n s)
+
+  left_within : (again : State → Effect) (s : Known) (r : Reading) (c : Content) (start end : ℕ) (t : Turn) → AgainWithin again → Spans (is_top r.frames) c l.item start end t → WithinBehind (behind_left again s t)
+  left_within again s r c start end (goes n) f h = f (with_scan s n) (λ k. (turn_ok g l r c l.item start end (goes n) h k).0)
+  left_within again s r c start end (gives v n) f h = λ k. (turn_ok g l r c l.item start end (gives v n) h k).0
+  left_within again s r c start end (refuses e) f h = tt
+  left_within again s r c start end (late e n) f h = worse_within e (again (with_scan s n))
+
+  said_within : (x : Result Content Reason) (f : Content → Effect) → ((c : Content) → WithinBehind (f c)) → WithinBehind (on_said x f)
+  said_within (Ok c) f h = h c
+  said_within (Err e) f h = tt
+
+  scan_within : (r : Reading) (again : State → Effect) → AgainWithin again → TopOk g l r → (x : Outcome) → IdleBehind x → ((t : Known) → x ≡ Next t → is_top r.frames ≡ true → CalmNow r.now t.mode) → WithinBehind (on_scan g l again r x)
+  scan_within r again f ok (Next t) i c = noticed_within r t (c t refl)
+  scan_within r again f ok (Given x t) i c =
+      said_within (said x.kind x.octets) (λ k. behind_given l t (turn g l r (token_of x k)))
+      (λ k. given_within t r k (start_now r.now r.start x.start r.frames r.notes) x.end (turn g l r (token_of x k)) i (turn_spans g l r (token_of x k) ok))
+  scan_within r again f ok (Left x t) i c =
+      said_within (said x.kind x.octets) (λ k. behind_left again t (turn g l r (token_of x k)))
+      (λ k. left_within again t r k (start_now r.now r.start x.start r.frames r.notes) x.end (turn g l r (token_of x k)) f (turn_spans g l r (token_of x k) ok))
+  scan_within r again f ok (Refused n e) i c = tt
+
+  settled_within : (s : Known) (again : State → Effect) → AgainWithin again → (x : Outcome) → IdleBehind x → (t : Turn) → SettledCalm g l t → WithinBehind (on_settled g l again s x t)
+  settled_within s again f x i (goes n) c = scan_within n again f (λ k. calm_now n.now modes.Blank (c modes.Blank k)) x i (λ t e k. c t.mode k)
+  settled_within s again f x i (gives v n) c = λ k. calm_now n.now modes.Blank (c modes.Blank k)
+  settled_within s again f x i (refuses e) c = tt
+  settled_within s again f x i (late e n) c = worse_within e (on_scan g l again n x)
+
+  octet_within : (s : Known) (r : Reading) (o : ℕ) (again : State → Effect) → AgainWithin again → TopOk g l r → WithinBehind (on_octet g l again (with_scan s r) (feed (place r) s o))
+  octet_within s r o again f ok = go (unsettled s r (feed (place r) s o)) refl
+    where
+      go : (w : Bool) → unsettled s r (feed (place r) s o) ≡ w → WithinBehind (if w then on_scan g l again r (feed (place r) s o) else on_settled g l again s (feed (place r) s o) (settle g l r))
+      go true e = scan_within r again f ok (feed (place r) s o) (feed_idle (place r) s o) (λ t h k. waits_calm g l r.frames r.now t ok (subst (λ y. waits r y ≡ true) h (unsettled_waits (place r) s r o (subst NotRefused (sym h) tt) e)) k)
+      go false e = settled_within s again f (feed (place r) s o) (feed_idle (place r) s o) (settle g l r) (settle_settled g l r.start r.context r.frames r.notes r.now ok)
+
+  takes_within : (n : ℕ) (m : State) (o : ℕ) → TopOk g l m.reading → WithinBehind (takes g l n m o)
+  takes_within zero m o ok = tt
+  takes_within (suc n) m o ok = octet_within m.scan m.reading o (λ k. takes g l n k o) (λ k i. takes_within n k o i) ok
+
+  -- in which octets end
+  abbrev pub EndsWithin : Result State Refusal → Type 0
+  EndsWithin (Ok n) = Within n
+  EndsWithin (Err e) = Unit {0}
+
+  run_within : (os : List ℕ) (to : ℕ) (m : State) → Within m → EndsWithin (run g l to m os).now
+  run_within [] to m h = h
+  run_within (o ∷ os) to m h = step (λ n i. run_within os (to + 1) n i) (eats g l m o) (takes_within 3 m o (λ k. calm_now m.reading.now m.scan.mode (h.1 k)))
+    where
+      Rest : Type 0
+      Rest = (n : State) → Within n → EndsWithin (run g l (to + 1) n os).now
+
+      once : Rest → (x : Effect) → WithinBehind x → EndsWithin (once_more to (λ n. run g l (to + 1) n os) x).now
+      once rest (uses n) i = rest n i
+      once rest (tells v n) i = rest n i
+      once rest (leaves v n) i = tt
+      once rest (fails e) i = tt
+
+      step : Rest → (x : Effect) → WithinBehind x → EndsWithin (run_on to (λ n. eats g l n o) (λ n. run g l (to + 1) n os) x).now
+      step rest (uses n) i = rest n i
+      step rest (tells v n) i = rest n i
+      step rest (leaves v n) i = once rest (eats g l n o) (takes_within 3 n o i)
+      step rest (fails e) i = tt
+
+  -- Octets lead to what is within the limit.
+  pub begun_within : (u : List ℕ) → EndsWithin (run g l 0 begun u).now
+  begun_within u = run_within u 0 begun (omega arith, λ k. tt)

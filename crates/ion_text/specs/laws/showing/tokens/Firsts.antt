@@ -1,0 +1,275 @@
+-- With what an open item begins, and with which octets none does.
+use Rattle.std.proofs.Common.{◌≡◌, ℕ, ◌+◌, ◌-◌, Bool, true, false, List, [], ◌∷◌, ◌++◌, length, refl, sym, ap, ◌∙◌, subst, arith, Result, Ok, Option, Some, inl, inr, if◌then◌else◌}
+use Rattle.std.specs.Prelude.{◌==◌, ◌||◌}
+use Rattle.std.proofs.lemmas.Bool.Decides.{nat_tests}
+use Rattle.ion_atoms.specs.declared.refusal.Reason.{Reason}
+use Rattle.ion_symtab.specs.Slots.{Slot}
+use Rattle.ion_tokens.specs.declared.mode.Place.{Place}
+use Rattle.ion_tokens.specs.declared.mode.Style.TheVariants as styles
+use Rattle.ion_tokens.specs.declared.mode.Within.TheVariants as within
+use Rattle.ion_tokens.specs.declared.mode.Mode.{Mode}
+use Rattle.ion_tokens.specs.declared.mode.Mode.TheVariants as modes
+use Rattle.ion_tokens.specs.declared.mode.Mark.TheVariants as marks
+use Rattle.ion_tokens.specs.declared.mode.TokenKind.{TokenKind}
+use Rattle.ion_tokens.specs.declared.mode.TokenKind.TheVariants as kinds
+use Rattle.ion_tokens.specs.machine.Table.{end_of, before, go as go_on}
+use Rattle.ion_tokens.specs.machine.Bounds.{is_idle}
+use Rattle.ion_tokens.specs.machine.Ahead.{is_quoting, is_segment}
+use Rattle.ion_tokens.specs.Blanks.{IsBlank}
+use Rattle.ion_tokens.specs.Bodies.{Content, Word, Id, Quoted, Short, Long, Number', TypedNull, Operator, Clob, Blob, Mark', IsBody}
+use Rattle.ion_tokens.specs.machine.Scanning.{Known, Lexeme, Outcome, Next, Given, Left, Refused, acts, feed, follow, run, ends_at}
+use Rattle.ion_tokens.specs.Lexed.{Placed, BeginsWith}
+use Rattle.ion_tokens.proofs.Moves.{at, blank}
+use Rattle.ion_tokens.proofs.TakesBlanks.{passes_blank}
+use Rattle.ion_text.specs.declared.state.Now.{Now}
+use Rattle.ion_text.specs.declared.state.Now.TheVariants as nows
+use Rattle.ion_text.specs.declared.state.Frame.{Frame}
+use Rattle.ion_text.specs.declared.state.Frame.TheVariants as frames
+use Rattle.ion_text.specs.Grammar.{Says, IsSymbol, is_word, is_id, is_quoted, Annotations, no_annotation, one_annotation, Segments, segment, joined, is_two_quotes, begins_as_long}
+use Rattle.ion_text.specs.machine.EachToken.{Symbols}
+use Rattle.ion_text.specs.laws.reading.complete.Complete.{segment_kind}
+use Rattle.ion_text.specs.laws.reading.complete.Going.{mark_kind}
+use Rattle.ion_text.specs.laws.reading.sound.Held.{name_some}
+use Rattle.ion_text.specs.laws.reading.sound.Sound.{Opened, NowStands, ReadyFor, symbol_said, value_place}
+use Rattle.ion_text.specs.laws.reading.complete.Meets.{is_long_text, LongOn, long_feed}
+use Rattle.ion_text.specs.laws.reading.complete.Segments.{long_quoting}
+use Rattle.ion_text.specs.laws.reading.complete.Found.{next_is}
+use Rattle.ion_text.specs.laws.showing.tokens.Cuts.{Is, one_found}
+
+-- 1. The first token of an open item.
+
+-- what may begin an item that is open: a symbol, a segment of a long string, or what opens a container
+abbrev pub opens_item : TokenKind → Bool
+opens_item kinds.Word = true
+opens_item kinds.KindName = true
+opens_item kinds.QuotedSymbol = true
+opens_item kinds.LongString = true
+opens_item (kinds.Mark marks.ListOpen) = true
+opens_item (kinds.Mark marks.SexpOpen) = true
+opens_item (kinds.Mark marks.FieldsOpen) = true
+opens_item _ = false
+
+abbrev pub OpensItem : List Placed → Type 0
+OpensItem [] = Unit {0}
+OpensItem (t ∷ ts) = opens_item t.lexeme.kind ≡ true
+
+opens_more : (ts us : List Placed) → OpensItem ts → OpensItem us → OpensItem (ts ++ us)
+opens_more [] us a b = b
+opens_more (t ∷ ts) us a b = a
+
+number_symbol : (octets : List ℕ) (c : Content) → IsBody kinds.Number octets (Ok c) → symbol_said c ≡ true → ⊥
+number_symbol octets (Number' n) h e = cc
+number_symbol octets (Word n) h e = h
+number_symbol octets (Id n) h e = h
+number_symbol octets (Quoted n) h e = h
+number_symbol octets (Short n) h e = h
+number_symbol octets (Long n) h e = h
+number_symbol octets (TypedNull n) h e = h
+number_symbol octets (Operator n) h e = h
+number_symbol octets (Clob n) h e = h
+number_symbol octets (Blob n) h e = h
+number_symbol octets (Mark' n) h e = h
+
+pub symbol_kind : (k : TokenKind) (octets : List ℕ) (c : Content) → IsBody k octets (Ok c) → symbol_said c ≡ true → opens_item k ≡ true
+symbol_kind kinds.Word octets c h e = refl
+symbol_kind kinds.KindName octets c h e = refl
+symbol_kind kinds.QuotedSymbol octets c h e = refl
+symbol_kind kinds.LongString octets c h e = refl
+symbol_kind kinds.Number octets c h e = absurd (number_symbol octets c h e)
+symbol_kind kinds.ShortString octets c h e = absurd (let n : false ≡ true = sym (ap symbol_said h.0) ∙ e in cc)
+symbol_kind kinds.Operator octets c h e = absurd (let n : false ≡ true = sym (ap symbol_said h.0) ∙ e in cc)
+symbol_kind kinds.Clob octets c h e = absurd (let i : c ≡ Clob octets = cc in let n : false ≡ true = sym (ap symbol_said i) ∙ e in cc)
+symbol_kind kinds.Blob octets c h e = absurd (let i : c ≡ Blob octets = cc in let n : false ≡ true = sym (ap symbol_said i) ∙ e in cc)
+symbol_kind (kinds.Mark m) octets c h e = absurd (let i : c ≡ Mark' m = cc in let n : false ≡ true = sym (ap symbol_said i) ∙ e in cc)
+
+is_said : (c : List Slot) (said : Content) (s : Option (List ℕ)) → IsSymbol c said s → symbol_said said ≡ true
+is_said c _ _ (is_word w h) = refl
+is_said c _ _ (is_id id s h) = refl
+is_said c _ _ (is_quoted w) = refl
+
+symbol_first : (p : Place) (t : Placed) (said : Content) → Says p t said → symbol_said said ≡ true → opens_item t.lexeme.kind ≡ true
+symbol_first p t said i h = symbol_kind t.lexeme.kind t.lexeme.octets said i.body h
+
+segment_opens : (k : TokenKind) → is_segment k ≡ true → opens_item k ≡ true
+segment_opens kinds.LongString h = refl
+segment_opens kinds.Word h = absurd cc
+segment_opens kinds.KindName h = absurd cc
+segment_opens kinds.Number h = absurd cc
+segment_opens kinds.Operator h = absurd cc
+segment_opens kinds.QuotedSymbol h = absurd cc
+segment_opens kinds.ShortString h = absurd cc
+segment_opens kinds.Clob h = absurd cc
+segment_opens kinds.Blob h = absurd cc
+segment_opens (kinds.Mark m) h = absurd cc
+
+long_first : (p : Place) (t : Placed) (w : List ℕ) → Says p t (Long w) → opens_item t.lexeme.kind ≡ true
+long_first p t w i = segment_opens t.lexeme.kind (segment_kind t.lexeme.kind t.lexeme.octets w i.body)
+
+notes_first : (c : List Slot) (p : Place) (ts : List Placed) (ss : Symbols) → Annotations c p ts ss → OpensItem ts
+notes_first c p _ _ no_annotation = tt
+notes_first c p _ _ (one_annotation ts ss t colons said s d i j k) = opens_more ts (t ∷ colons ∷ []) (notes_first c p ts ss d) (symbol_first p t said i (is_said c said s j))
+
+segments_first : (p : Place) (ts : List Placed) (w : List ℕ) → Segments p ts w → OpensItem ts
+segments_first p _ _ (segment t w i) = long_first p t w i
+segments_first p _ _ (joined ts v w t d i) = opens_more ts (t ∷ []) (segments_first p ts v d) (long_first p t w i)
+
+mark_first : (p : Place) (t : Placed) (m : _) → Says p t (Mark' m) → opens_item (kinds.Mark m) ≡ true → opens_item t.lexeme.kind ≡ true
+mark_first p t m i h = ap opens_item (mark_kind t.lexeme.kind t.lexeme.octets m i.body) ∙ h
+
+opened_first : (c : List Slot) (fs : List Frame) (ts : List Placed) (more : Bool) → Opened c fs ts more → OpensItem ts
+opened_first c [] ts more o = subst OpensItem (sym o) tt
+opened_first c (frames.List ss vs ∷ fs) ts more o = subst OpensItem (sym o.whole) (opens_more o.front _ (opened_first c fs o.front true o.outer) (opens_more o.notes (o.open' ∷ o.body) (notes_first c (value_place fs) o.notes ss o.noted) (mark_first (value_place fs) o.open' marks.ListOpen o.opens refl)))
+opened_first c (frames.Sexp ss vs ∷ fs) ts more o = subst OpensItem (sym o.whole) (opens_more o.front _ (opened_first c fs o.front true o.outer) (opens_more o.notes (o.open' ∷ o.body) (notes_first c (value_place fs) o.notes ss o.noted) (mark_first (value_place fs) o.open' marks.SexpOpen o.opens refl)))
+opened_first c (frames.Fields ss ms ∷ fs) ts more o = subst OpensItem (sym o.whole) (opens_more o.front _ (opened_first c fs o.front true o.outer) (opens_more o.notes (o.open' ∷ o.body) (notes_first c (value_place fs) o.notes ss o.noted) (mark_first (value_place fs) o.open' marks.FieldsOpen o.opens refl)))
+opened_first c (frames.Named ss ms s ∷ fs) ts more o = subst OpensItem (sym o.whole) (opens_more o.front _ (opened_first c fs o.front true o.outer) (opens_more o.notes (o.open' ∷ (o.body ++ (o.name ++ o.colon ∷ []))) (notes_first c (value_place fs) o.notes ss o.noted) (mark_first (value_place fs) o.open' marks.FieldsOpen o.opens refl)))
+
+ready_first : (c : List Slot) (fs : List Frame) (ss : Symbols) (ts : List Placed) → ReadyFor c fs ss ts → OpensItem ts
+ready_first c fs ss ts d = subst OpensItem (sym d.whole) (opens_more d.front d.notes (opened_first c fs d.front true d.outer) (notes_first c (value_place fs) d.notes ss d.noted))
+
+-- in a struct something stands before a name
+behind_first : (ts us : List Placed) → OpensItem ts → ([] ≡ ts → ⊥) → OpensItem (ts ++ us)
+behind_first [] us a n = absurd (n refl)
+behind_first (t ∷ ts) us a n = a
+
+pub now_first : (c : List Slot) (fs : List Frame) (ss : Symbols) (now : Now) (ts : List Placed) → NowStands c fs ss ts now → OpensItem ts
+now_first c fs ss nows.Ready ts d = ready_first c fs ss ts d
+now_first c fs ss (nows.Pending h end) ts d = subst OpensItem (sym d.whole) (opens_more d.before (d.token ∷ []) (ready_first c fs ss d.before d.ready) (symbol_first (value_place fs) d.token d.said d.says d.named))
+now_first c fs ss (nows.Long w end) ts d = subst OpensItem (sym d.whole) (opens_more d.before d.segments (ready_first c fs ss d.before d.ready) (segments_first (value_place fs) d.segments w d.are))
+now_first c fs ss nows.After ts d = opened_first c fs ts false d.0
+now_first c fs ss nows.Name ts d = opened_first c fs ts true d.0
+now_first c fs ss (nows.LongName w) ts d = subst OpensItem (sym d.whole) (behind_first d.before d.name (opened_first c fs d.before true d.outer) (name_some c fs d.before d.outer d.struct))
+now_first c fs ss (nows.Keyed s) ts d = subst OpensItem (sym d.whole) (behind_first d.before d.name (opened_first c fs d.before true d.outer) (name_some c fs d.before d.outer d.struct))
+
+-- 2. Octets with which a token begins.
+
+abbrev lexeme_of : Lexeme → Result (Option Lexeme) Reason → Lexeme
+lexeme_of d (Ok (Some x)) = x
+lexeme_of d _ = d
+
+pub long_run : (p : Place) (os : List ℕ) (s : Known) → is_long_text s.mode ≡ true → LongOn (run p os s)
+long_run p [] s h = h
+long_run p (o ∷ os) s h = go (feed p s o) (long_feed p s o h) (λ t i. long_run p os t i)
+  where
+    go : (x : Outcome) → LongOn x → ((t : Known) → is_long_text t.mode ≡ true → LongOn (run p os t)) → LongOn (follow x (λ t. run p os t))
+    go (Next t) h f = f t h
+    go (Given x t) h f = h
+    go (Left x t) h f = h
+    go (Refused n e) h f = tt
+
+-- `::` behind a blank is no token that has begun
+pub colons_never : (p : Place) (now used : ℕ) (token r more : List ℕ) (s : Known) → token ++ r ≡ 58 ∷ 58 ∷ more → run p token (blank true now used) ≡ Next s → is_idle s.mode ≡ false → ⊥
+colons_never p now used [] r more s e ran i = let n : true ≡ false = ap (λ (x : Known). is_idle x.mode) (next_is _ s ran) ∙ i in cc
+colons_never p now used (o ∷ []) r more s e ran i =
+    let head : o ≡ 58 = cc in
+    let n : true ≡ false = ap (λ (x : Known). is_idle x.mode) (next_is _ s (ap (λ (x : ℕ). run p (x ∷ []) (blank true now used)) (sym head) ∙ ran)) ∙ i in cc
+colons_never p now used (o ∷ o' ∷ os) r more s e ran i =
+    let head : o ≡ 58 = cc in
+    let second : o' ≡ 58 = cc in
+    let never = ap (λ (x : ℕ). run p (x ∷ 58 ∷ os) (blank true now used)) (sym head) ∙ (ap (λ (x : ℕ). run p (o ∷ x ∷ os) (blank true now used)) (sym second) ∙ ran) in
+    absurd (is_given p now used os s never)
+  where
+    is_given : (p : Place) (now used : ℕ) (os : List ℕ) (s : Known) → run p (58 ∷ 58 ∷ os) (blank true now used) ≡ Next s → ⊥
+    is_given p now used os s e = cc
+
+-- `''` behind a blank is no token that has begun without quotes
+pub quotes_never : (p : Place) (colon : Bool) (now used : ℕ) (token r more : List ℕ) (s : Known) → token ++ r ≡ 39 ∷ 39 ∷ more → run p token (blank colon now used) ≡ Next s → is_idle s.mode ≡ false → is_quoting s.mode ≡ false → ⊥
+quotes_never p colon now used [] r more s e ran i q = let n : true ≡ false = ap (λ (x : Known). is_idle x.mode) (next_is _ s ran) ∙ i in cc
+quotes_never p colon now used (o ∷ []) r more s e ran i q =
+    let head : o ≡ 39 = cc in
+    let n : true ≡ false = ap (λ (x : Known). is_quoting x.mode) (next_is _ s (ap (λ (x : ℕ). run p (x ∷ []) (blank colon now used)) (sym head) ∙ ran)) ∙ q in cc
+quotes_never p colon now used (o ∷ o' ∷ os) r more s e ran i q =
+    let head : o ≡ 39 = cc in
+    let second : o' ≡ 39 = cc in
+    by os (ap (λ (x : ℕ). run p (x ∷ 39 ∷ os) (blank colon now used)) (sym head) ∙ (ap (λ (x : ℕ). run p (o ∷ x ∷ os) (blank colon now used)) (sym second) ∙ ran))
+  where
+    two : Known
+    two = at modes.Quotes [] colon used (used + 1 + 1)
+
+    long : Known
+    long = at (modes.Text styles.LongString within.Plain) [] colon used (used + 1 + 1 + 1)
+
+    third : (o : ℕ) (os : List ℕ) (b : Bool) → (o == 39) ≡ b → run p (o ∷ os) two ≡ Next s → ⊥
+    third o os true e f =
+        let g : run p os long ≡ Next s = sym (ap (λ b. follow (acts p two o (if b then go_on (modes.Text styles.LongString within.Plain) else before kinds.QuotedSymbol)) (λ t. run p os t)) e) ∙ f in
+        let k = long_quoting s.mode (subst LongOn g (long_run p os long refl)) in
+        let n : true ≡ false = sym k ∙ q in cc
+    third o os false e f =
+        let g = sym (ap (λ b. follow (acts p two o (if b then go_on (modes.Text styles.LongString within.Plain) else before kinds.QuotedSymbol)) (λ t. run p os t)) e) ∙ f in
+        absurd cc
+
+    by : (os : List ℕ) → run p (39 ∷ 39 ∷ os) (blank colon now used) ≡ Next s → ⊥
+    by [] f = let n : true ≡ false = ap (λ (x : Known). is_quoting x.mode) (next_is _ s f) ∙ q in cc
+    by (o ∷ os) f = third o os (o == 39) refl f
+
+-- the end of the input ends no long text
+long_end : (p : Place) (s : Known) (x : Lexeme) (m : Mode) → is_long_text m ≡ true → ends_at s (end_of p m) ≡ Ok (Some x) → ⊥
+long_end p s x (modes.Text y w) h k = cc
+long_end p s x modes.Quote h k = absurd cc
+long_end p s x modes.Quotes h k = absurd cc
+long_end p s x modes.Blank h k = absurd cc
+long_end p s x modes.Slash h k = absurd cc
+long_end p s x modes.LineComment h k = absurd cc
+long_end p s x modes.BlockComment h k = absurd cc
+long_end p s x modes.BlockCommentStar h k = absurd cc
+long_end p s x modes.Colon h k = absurd cc
+long_end p s x modes.Word h k = absurd cc
+long_end p s x modes.KindName h k = absurd cc
+long_end p s x modes.Number h k = absurd cc
+long_end p s x modes.NumberSlash h k = absurd cc
+long_end p s x (modes.Operator y) h k = absurd cc
+long_end p s x modes.OperatorSlash h k = absurd cc
+long_end p s x (modes.Infinity n) h k = absurd cc
+long_end p s x modes.Brace h k = absurd cc
+long_end p s x (modes.Lob l) h k = absurd cc
+
+-- a token that begins with `''` is a segment, or that symbol
+pub quotes_first : (colon : Bool) (k : ℕ) (octets w more : List ℕ) (t : Placed) (r : List ℕ) → BeginsWith colon k octets t r → (t.lexeme.kind ≡ kinds.Operator → ⊥) → IsBlank w → octets ≡ w ++ 39 ∷ 39 ∷ more → begins_as_long (t ∷ []) ≡ true
+quotes_first colon k octets w more t r b plain blanks e = by more (subst (Is t.place t.lexeme) run_is (one_found colon k octets t r b))
+  where
+    p : Place
+    p = t.place
+
+    used : ℕ
+    used = k + length w
+
+    x : Lexeme
+    x = t.lexeme
+
+    two : Known
+    two = at modes.Quotes [] colon used (used + 1 + 1)
+
+    long : Known
+    long = at (modes.Text styles.LongString within.Plain) [] colon used (used + 1 + 1 + 1)
+
+    run_is : run p octets (at modes.Blank [] colon k k) ≡ run p more two
+    run_is = ap (λ o. run p o (at modes.Blank [] colon k k)) e ∙ (passes_blank p colon w blanks k k).1 (39 ∷ 39 ∷ more)
+
+    same : (a b : ℕ) → b ≡ a + 2 → (b == a + 2) ≡ true
+    same a b h = grind (arith, nat_tests)
+
+    wide : (y : Lexeme) → y.kind ≡ kinds.QuotedSymbol → y.start ≡ used → y.end ≡ used + 2 → y ≡ x → begins_as_long (t ∷ []) ≡ true
+    wide y a b d f =
+        let kind : x.kind ≡ kinds.QuotedSymbol = sym (ap (λ (z : Lexeme). z.kind) f) ∙ a in
+        let span : x.end ≡ x.start + 2 = omega (arith, b, d, ap (λ (z : Lexeme). z.start) f, ap (λ (z : Lexeme). z.end) f) in
+        ap (λ z. is_segment z || is_two_quotes z x.start x.end) kind ∙ same x.start x.end span
+
+    segment_is : is_segment x.kind ≡ true → begins_as_long (t ∷ []) ≡ true
+    segment_is h = ap (λ z. z || is_two_quotes x.kind x.start x.end) h
+
+    found_long : (o : Outcome) → LongOn o → Is p x o → begins_as_long (t ∷ []) ≡ true
+    found_long (Given y s) h i = segment_is (ap (λ (z : Lexeme). is_segment z.kind) (sym i) ∙ h)
+    found_long (Left y s) h i = absurd h
+    found_long (Next s) h (inl i) = absurd (long_end p s x s.mode h i)
+    found_long (Next s) h (inr i) = absurd (plain i.1)
+    found_long (Refused n f) h i = absurd i
+
+    third : (o : ℕ) (os : List ℕ) (b : Bool) → (o == 39) ≡ b → Is p x (run p (o ∷ os) two) → begins_as_long (t ∷ []) ≡ true
+    third o os true f i = found_long (run p os long) (long_run p os long refl) (subst (λ b. Is p x (follow (acts p two o (if b then go_on (modes.Text styles.LongString within.Plain) else before kinds.QuotedSymbol)) (λ t. run p os t))) f i)
+    third o os false f i =
+        let h = subst (λ b. Is p x (follow (acts p two o (if b then go_on (modes.Text styles.LongString within.Plain) else before kinds.QuotedSymbol)) (λ t. run p os t))) f i in
+        wide (record { start = used; end = used + 1 + 1 - 0; kind = kinds.QuotedSymbol; octets = [] }) refl refl (omega arith) h
+
+    by : (more : List ℕ) → Is p x (run p more two) → begins_as_long (t ∷ []) ≡ true
+    by [] (inl i) = wide (record { start = used; end = used + 1 + 1; kind = kinds.QuotedSymbol; octets = [] }) refl refl (omega arith) (ap (lexeme_of x) i)
+    by [] (inr i) = absurd (plain i.1)
+    by (o ∷ os) i = third o os (o == 39) refl i
