@@ -25,7 +25,8 @@ use Rattle.ion_tokens.proofs.WholeTokens.{comma_found}
 use Rattle.ion_tokens.specs.machine.Views.{scanned, looks, failure}
 use Rattle.ion_tokens.specs.machine.Rests.{resting, past_blank, past_token, lexeme_at, before_end, IsPassed, IsFound}
 use Rattle.ion_tokens.specs.declared.mode.Place.TheVariants as places
-use Rattle.ion_tokens.specs.machine.Scanning.{Known, Lexeme}
+use Rattle.ion_tokens.specs.machine.Scanning.{Known}
+use Rattle.ion_tokens.specs.Lexemes.{Lexeme}
 use Rattle.std.proofs.lemmas.Grind.{common_steps}
 use Rattle.ion_text.specs.declared.state.Held.{Held}
 use Rattle.ion_text.specs.declared.state.Frame.{Frame}

@@ -24,7 +24,8 @@ use Rattle.ion_tokens.specs.machine.Bounds.{is_idle}
 use Rattle.ion_tokens.specs.machine.Ahead.{symbol_waits, long_waits}
 use Rattle.ion_tokens.specs.machine.Views.{begun_in, behind, form_of}
 use Rattle.ion_tokens.specs.machine.Table as table
-use Rattle.ion_tokens.specs.machine.Scanning.{Known, Lexeme, Outcome, Next, Given, Left, Refused, feed, acts, start_of, left_of, go_to, cut, past, blob_ends}
+use Rattle.ion_tokens.specs.machine.Scanning.{Known, Outcome, Next, Given, Left, Refused, feed, acts, start_of, left_of, go_to, cut, past, blob_ends}
+use Rattle.ion_tokens.specs.Lexemes.{Lexeme}
 use Rattle.ion_tokens.specs.Blobs.{blob_of}
 use Rattle.ion_tokens.specs.Bodies.{Content, Word, Id, Quoted, Short, Long, Number', TypedNull, Operator, Clob, Blob, Mark'}
 use Rattle.ion_tokens.specs.machine.Said.{said}

@@ -7,7 +7,7 @@ use Rattle.ion_atoms.specs.declared.refusal.Refusal.{Refusal}
 use Rattle.ion_symtab.specs.declared.limits.Limits.{Limits}
 use Rattle.ion_symtab.specs.declared.catalog.Catalog.{Catalog}
 use Rattle.ion_tokens.specs.declared.token.Token.{Token as Found}
-use Rattle.ion_tokens.specs.machine.Scanning.{Lexeme}
+use Rattle.ion_tokens.specs.Lexemes.{Lexeme}
 use Rattle.ion_tokens.specs.machine.Steps.{Ends}
 use Rattle.ion_tokens.proofs.Cutting.{one_body}
 use Rattle.ion_tokens.specs.machine.Said.{said, says}

@@ -7,7 +7,8 @@ use Rattle.ion_symtab.specs.declared.limits.Limits.{Limits}
 use Rattle.ion_symtab.specs.declared.catalog.Catalog.{Catalog}
 use Rattle.ion_tokens.specs.declared.token.Token.{Token as Found}
 use Rattle.ion_tokens.specs.Bodies.{Content, content}
-use Rattle.ion_tokens.specs.machine.Scanning.{Known, Lexeme, Outcome, Next, Given, Left, Refused}
+use Rattle.ion_tokens.specs.machine.Scanning.{Known, Outcome, Next, Given, Left, Refused}
+use Rattle.ion_tokens.specs.Lexemes.{Lexeme}
 use Rattle.ion_tokens.specs.machine.Steps.{Stepped, Answers, IsToken, GivesToken}
 use Rattle.ion_tokens.specs.machine.Views.{scanned}
 use Rattle.ion_tokens.proofs.Cutting.{one_body}

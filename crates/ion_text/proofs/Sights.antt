@@ -10,7 +10,8 @@ use Rattle.ion_tokens.specs.declared.token.Foresight.TheVariants as foresights
 use Rattle.ion_tokens.specs.machine.Bounds.{is_idle}
 use Rattle.ion_tokens.specs.machine.Views.{form_of, foresight, foresight_by, foresight_at, foresight_behind}
 use Rattle.ion_tokens.specs.machine.Scanning.{Outcome, Next, Given, Left, Refused}
-use Rattle.ion_tokens.specs.machine.Ahead.{is_segment, is_quoted, is_colons, is_long_form, symbol_waits, long_waits}
+use Rattle.ion_tokens.specs.machine.Ahead.{is_quoted, is_colons, is_long_form, symbol_waits, long_waits}
+use Rattle.ion_tokens.specs.Lexemes.{is_segment}
 use Rattle.ion_text.specs.machine.Views.{goes_on_symbol, goes_on_long}
 
 symbol_next : (idle : Bool) (f : Form) → goes_on_symbol (cond idle foresights.Blank (foresight_by f)) ≡ idle

@@ -28,7 +28,8 @@ use Rattle.ion_tokens.specs.Places.{is_name, is_sexp}
 use Rattle.ion_tokens.specs.machine.Rests.{resting, past_blank, past_token, lexeme_at, IsPassed, IsFound}
 use Rattle.ion_tokens.specs.machine.Said.{said, says}
 use Rattle.ion_tokens.specs.machine.Scanning as scanning
-use Rattle.ion_tokens.specs.machine.Scanning.{Known, Outcome, Next, feed, follow, acts, takes_colon}
+use Rattle.ion_tokens.specs.machine.Scanning.{Known, Outcome, Next, feed, follow, acts}
+use Rattle.ion_tokens.specs.Lexemes.{takes_colon}
 use Rattle.ion_tokens.specs.machine.Table.{in_blank, begins_value}
 use Rattle.ion_tokens.specs.declared.mode.Action.{Action}
 use Rattle.ion_tokens.specs.machine.Views.{scanned}

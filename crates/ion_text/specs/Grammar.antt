@@ -19,7 +19,7 @@ use Rattle.ion_tokens.specs.declared.mode.Mark.TheVariants as marks
 use Rattle.ion_tokens.specs.declared.mode.TokenKind.{TokenKind}
 use Rattle.ion_tokens.specs.declared.mode.TokenKind.TheVariants as kinds
 use Rattle.ion_tokens.specs.Ascii.{underscore}
-use Rattle.ion_tokens.specs.machine.Ahead.{is_segment}
+use Rattle.ion_tokens.specs.Lexemes.{is_segment}
 use Rattle.ion_tokens.specs.Octets.{is_digit}
 use Rattle.ion_tokens.specs.Blanks.{IsBlank}
 use Rattle.ion_tokens.specs.Bodies.{Content, Word, Id, Quoted, Short, Long, Number', TypedNull, Operator, Clob, Blob, Mark', IsBody}

@@ -23,9 +23,9 @@ use Rattle.ion_tokens.specs.Octets.{is_digit, begins_word, is_operator_octet}
 use Rattle.ion_tokens.specs.machine.Table.{end_of, is_sexp}
 use Rattle.ion_tokens.specs.machine.Bounds.{is_idle}
 use Rattle.ion_tokens.specs.machine.Views.{behind, form_of, begun_in}
-use Rattle.ion_tokens.specs.machine.Scanning.{Known, Lexeme, Outcome, Next, Given, Left, run, ends_at, start_of}
+use Rattle.ion_tokens.specs.machine.Scanning.{Known, Outcome, Next, Given, Left, run, ends_at, start_of}
 use Rattle.ion_tokens.specs.Blanks.{LineComment, BlockComment, IsBlank}
-use Rattle.ion_tokens.specs.Lexemes.{begins, begins_number}
+use Rattle.ion_tokens.specs.Lexemes.{begins, begins_number, Lexeme}
 use Rattle.ion_tokens.specs.Lexed.{Placed, Lexes, LexesTo, LooksIn}
 use Rattle.ion_tokens.proofs.Found.{Finds, in_word, Nothing, Last, Gives, Leaves, Unclosed}
 use Rattle.ion_tokens.specs.machine.Scanned.{Scanned, Continues, IsForm, Covers, IsFirstColon, MayComment, HasBegun, BegunSo, ShowsBegun}

@@ -9,7 +9,7 @@ use Rattle.ion_atoms.specs.declared.refusal.Refusal.{Refusal}
 use Rattle.ion_atoms.specs.declared.refusal.Reason.{Reason}
 use Rattle.ion_atoms.specs.declared.refusal.Reason.TheVariants as reasons
 use Rattle.ion_tokens.specs.Octets.{is_word_octet, is_operator_octet}
-use Rattle.ion_tokens.specs.Lexemes.{Each}
+use Rattle.ion_tokens.specs.Lexemes.{Each, Lexeme}
 use Rattle.ion_tokens.specs.declared.mode.Place.{Place}
 use Rattle.ion_tokens.specs.declared.mode.Mark.{Mark}
 use Rattle.ion_tokens.specs.declared.mode.Keep.{Keep}
@@ -20,7 +20,7 @@ use Rattle.ion_tokens.specs.declared.mode.Mode.TheVariants as modes
 use Rattle.ion_tokens.specs.declared.mode.TokenKind.{TokenKind}
 use Rattle.ion_tokens.specs.declared.mode.TokenKind.TheVariants as kinds
 use Rattle.ion_tokens.specs.machine.Table.{end_of, is_sexp}
-use Rattle.ion_tokens.specs.machine.Scanning.{Known, Lexeme, kept_after, ends_at, at_end}
+use Rattle.ion_tokens.specs.machine.Scanning.{Known, kept_after, ends_at, at_end}
 use Rattle.ion_tokens.specs.Bodies.{Content, Spells, IsWordBody, IsBody, null_of, kind_named, id_of}
 use Rattle.ion_tokens.specs.Lexed.{Placed}
 use Rattle.ion_tokens.specs.machine.Scanned.{Scanned}

@@ -7,8 +7,10 @@ use Rattle.ion_tokens.specs.declared.mode.End.{End}
 use Rattle.ion_tokens.specs.declared.mode.End.TheVariants as ends
 use Rattle.ion_tokens.specs.machine.Table.{end_of}
 use Rattle.ion_tokens.specs.Blobs.{AreOctets}
-use Rattle.ion_tokens.specs.machine.Scanning.{Known, Lexeme, Outcome, Next, Given, Left, Refused, run, at_end, ends_at}
-use Rattle.ion_tokens.specs.Lexed.{Placed, LexesBefore, BeginsLexed, Stands, Begun, Gave, Leaved, AllPass}
+use Rattle.ion_tokens.specs.machine.Scanning.{Known, Outcome, Next, Given, Left, Refused, run, at_end, ends_at}
+use Rattle.ion_tokens.specs.Lexemes.{Lexeme}
+use Rattle.ion_tokens.specs.Lexed.{Placed, LexesBefore, BeginsLexed, AllPass}
+use Rattle.ion_tokens.specs.machine.Told.{Stands, Begun, Gave, Leaved}
 use Rattle.ion_tokens.proofs.Found.{FindsUpTo, Last, Gives, Leaves, Unclosed}
 use Rattle.ion_tokens.proofs.Runs.{next_used}
 use Rattle.ion_tokens.proofs.Wholes.{run_behind}

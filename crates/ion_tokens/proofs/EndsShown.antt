@@ -8,7 +8,8 @@ use Rattle.ion_tokens.specs.declared.machine.Machine.{Machine}
 use Rattle.ion_tokens.specs.declared.machine.Lexeme.{Lexeme as Ended}
 use Rattle.ion_tokens.specs.declared.beside.FoundToken.{FoundToken}
 use Rattle.ion_tokens.specs.machine.Machines.{known, lexeme_in}
-use Rattle.ion_tokens.specs.machine.Scanning.{Known, Lexeme, Outcome, Next, Given, Left, Refused, feed, follow, run}
+use Rattle.ion_tokens.specs.machine.Scanning.{Known, Outcome, Next, Given, Left, Refused, feed, follow, run}
+use Rattle.ion_tokens.specs.Lexemes.{Lexeme}
 use Rattle.ion_tokens.specs.machine.Rests.{resting, past_token, lexeme_at, ended, IsFound}
 use Rattle.ion_tokens.proofs.Runs.{feed_used}
 use Rattle.ion_tokens.proofs.Splits.{given_one, left_one}

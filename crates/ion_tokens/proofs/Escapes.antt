@@ -18,8 +18,8 @@ use Rattle.ion_tokens.specs.declared.mode.Lob.TheVariants as lobs
 use Rattle.ion_tokens.specs.declared.mode.Action.TheVariants as actions
 use Rattle.ion_tokens.specs.machine.Table.{add}
 use Rattle.ion_tokens.specs.Blobs.{AreOctets}
-use Rattle.ion_tokens.specs.Lexemes.{Each}
-use Rattle.ion_tokens.specs.machine.Scanning.{Known, Lexeme, Next, Given, Refused, acts, follow, run, at_end}
+use Rattle.ion_tokens.specs.Lexemes.{Each, Lexeme}
+use Rattle.ion_tokens.specs.machine.Scanning.{Known, Next, Given, Refused, acts, follow, run, at_end}
 use Rattle.ion_tokens.proofs.Moves.{at}
 use Rattle.ion_tokens.proofs.Holds.{InMode, Holds, one_to_three}
 

@@ -16,7 +16,8 @@ use Rattle.ion_tokens.specs.declared.token.Foresight.TheVariants as foresights
 use Rattle.ion_tokens.specs.Blobs.{blob_of}
 use Rattle.ion_tokens.specs.machine.Table.{next}
 use Rattle.ion_tokens.specs.machine.Bounds.{is_idle}
-use Rattle.ion_tokens.specs.machine.Scanning.{Known, Lexeme, Outcome, Next, Given, Left, Refused, cut, past, go_to, blob_ends, acts, feed, follow, run}
+use Rattle.ion_tokens.specs.machine.Scanning.{Known, Outcome, Next, Given, Left, Refused, cut, past, go_to, blob_ends, acts, feed, follow, run}
+use Rattle.ion_tokens.specs.Lexemes.{Lexeme}
 use Rattle.ion_tokens.specs.machine.Views.{behind, form_of, foresight_by, foresight_at, foresight_behind, foresight}
 use Rattle.ion_tokens.specs.Blanks.{IsBlank}
 use Rattle.ion_tokens.specs.Lexed.{Placed, Lexes, LexesTo}

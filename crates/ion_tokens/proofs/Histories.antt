@@ -4,8 +4,10 @@ use Rattle.std.specs.Prelude.{Some, None, Ok}
 use Rattle.std.proofs.Math.Seq.{drop-append_seam}
 use Rattle.ion_atoms.specs.declared.refusal.Reason.{Reason}
 use Rattle.ion_tokens.specs.declared.mode.Place.{Place}
-use Rattle.ion_tokens.specs.machine.Scanning.{Known, Lexeme, Outcome, Next, Given, Left, Refused, follow, run, at_end, initial}
-use Rattle.ion_tokens.specs.Lexed.{Placed, LexesBefore, Lexes, Stands, Begun, Gave, Leaved, LooksIn, IsNext}
+use Rattle.ion_tokens.specs.machine.Scanning.{Known, Outcome, Next, Given, Left, Refused, follow, run, at_end, initial}
+use Rattle.ion_tokens.specs.Lexemes.{Lexeme}
+use Rattle.ion_tokens.specs.Lexed.{Placed, LexesBefore, Lexes, LooksIn, IsNext}
+use Rattle.ion_tokens.specs.machine.Told.{Stands, Begun, Gave, Leaved}
 use Rattle.ion_tokens.proofs.Found.{FindsUpTo, Finds, Nothing, Last, Gives, Leaves, Unclosed}
 use Rattle.ion_tokens.specs.Blanks.{IsLastBlank}
 use Rattle.ion_tokens.proofs.TakesBlanks.{last_blank}

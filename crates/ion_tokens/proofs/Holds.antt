@@ -13,9 +13,9 @@ use Rattle.ion_tokens.specs.declared.mode.Mode.{Mode}
 use Rattle.ion_tokens.specs.declared.mode.Mode.TheVariants as modes
 use Rattle.ion_tokens.specs.Blobs.{blob_of, AreOctets, base64_of}
 use Rattle.ion_tokens.specs.laws.Blobs.{octet_at, blob_octets}
-use Rattle.ion_tokens.specs.machine.Scanning.{Known, Lexeme, Outcome, Next, Given, Left, Refused, takes_colon, run}
+use Rattle.ion_tokens.specs.machine.Scanning.{Known, Outcome, Next, Given, Left, Refused, run}
 use Rattle.ion_tokens.specs.Blanks.{BlankPiece, HasNoClose, IsBlankPiece, blank_spelling, IsBlank, IsOpenComment}
-use Rattle.ion_tokens.specs.Lexemes.{Each, ends, IsWord, IsBlobContent}
+use Rattle.ion_tokens.specs.Lexemes.{Each, ends, IsWord, IsBlobContent, Lexeme, takes_colon}
 use Rattle.ion_tokens.proofs.Moves.{at}
 use Rattle.ion_tokens.proofs.Opens.{IsOpen, IsUnjudgedToken, solid, AnyBlob}
 

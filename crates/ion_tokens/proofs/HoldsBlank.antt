@@ -9,9 +9,9 @@ use Rattle.ion_tokens.specs.declared.mode.Action.{Action}
 use Rattle.ion_tokens.specs.declared.mode.Mode.TheVariants as modes
 use Rattle.ion_tokens.specs.declared.mode.Action.TheVariants as actions
 use Rattle.ion_tokens.specs.machine.Table.{go}
-use Rattle.ion_tokens.specs.machine.Scanning.{Next, acts, feed, kept_after, takes_colon}
+use Rattle.ion_tokens.specs.machine.Scanning.{Next, acts, feed, kept_after}
 use Rattle.ion_tokens.specs.Blanks.{White, LineComment, BlockComment, HasNoClose, HasNoLineEnd, IsBlank, IsOpenComment}
-use Rattle.ion_tokens.specs.Lexemes.{ends}
+use Rattle.ion_tokens.specs.Lexemes.{ends, takes_colon}
 use Rattle.ion_tokens.proofs.Moves.{at}
 use Rattle.ion_tokens.proofs.Holds.{InMode, Sound, IsOpenBlock, in_mode, blank_behind, blank_none, blank_more}
 use Rattle.ion_tokens.proofs.TurnsBlanks.{First, Second}

@@ -15,9 +15,9 @@ use Rattle.ion_tokens.specs.declared.mode.Lob.TheVariants as lobs
 use Rattle.ion_tokens.specs.declared.mode.TokenKind.TheVariants as kinds
 use Rattle.ion_tokens.specs.declared.mode.Action.TheVariants as actions
 use Rattle.ion_tokens.specs.Blobs.{blob_of}
-use Rattle.ion_tokens.specs.machine.Scanning.{Known, Next, Given, Left, acts, kept_after, takes_colon, past, cut, go_to, blob_ends, start_of}
+use Rattle.ion_tokens.specs.machine.Scanning.{Known, Next, Given, Left, acts, kept_after, past, cut, go_to, blob_ends, start_of}
 use Rattle.ion_tokens.specs.Blanks.{IsBlank}
-use Rattle.ion_tokens.specs.Lexemes.{IsWord}
+use Rattle.ion_tokens.specs.Lexemes.{IsWord, takes_colon}
 use Rattle.ion_tokens.proofs.Moves.{at, Stays}
 use Rattle.ion_tokens.proofs.Opens.{IsOpen, Turns, IsUnjudgedToken}
 use Rattle.ion_tokens.proofs.Holds.{InMode, Holds, Sound, in_mode, blank_behind, inf_word, blob_sound, blank_none, inf_again}

@@ -11,9 +11,9 @@ use Rattle.ion_tokens.specs.declared.token.Body.{Body}
 use Rattle.ion_tokens.specs.declared.token.Body.TheVariants as bodies
 use Rattle.ion_tokens.specs.declared.token.Token.{Token}
 use Rattle.ion_tokens.specs.Bodies.{Content, Word, Operator, TypedNull, content, id_of, kind_named, null_of, IsBody, IsWordBody}
-use Rattle.ion_tokens.specs.Lexemes.{IsLexeme}
+use Rattle.ion_tokens.specs.Lexemes.{IsLexeme, Lexeme}
 use Rattle.ion_tokens.specs.Lexed.{Placed, LexesBefore, BeginsLexed}
-use Rattle.ion_tokens.specs.machine.Scanning.{Known, Lexeme}
+use Rattle.ion_tokens.specs.machine.Scanning.{Known}
 use Rattle.ion_tokens.specs.machine.Steps.{Stepped}
 use Rattle.ion_tokens.specs.machine.Scanned.{Scanned, Tells, EndsSo}
 use Rattle.ion_tokens.specs.machine.Lent.{IsLentBody, IsOwnedBody, StandIn, BorrowsFrom, BorrowsAt}

@@ -8,8 +8,8 @@ use Rattle.ion_tokens.specs.declared.mode.TokenKind.TheVariants as kinds
 use Rattle.ion_tokens.specs.declared.mode.Mode.TheVariants as modes
 use Rattle.ion_tokens.specs.declared.mode.Action.TheVariants as actions
 use Rattle.ion_tokens.specs.machine.Table.{next, in_blank}
-use Rattle.ion_tokens.specs.machine.Scanning.{Known, Lexeme, Next, Given, Left, acts, follow, run, kept_after, start_of, past, at_end}
-use Rattle.ion_tokens.specs.Lexemes.{Each, begins}
+use Rattle.ion_tokens.specs.machine.Scanning.{Known, Next, Given, Left, acts, follow, run, kept_after, start_of, past, at_end}
+use Rattle.ion_tokens.specs.Lexemes.{Each, begins, Lexeme}
 use Rattle.ion_tokens.specs.Octets.{begins_word}
 use Rattle.ion_tokens.specs.declared.mode.Keep.TheVariants as keeps
 use Rattle.ion_atoms.specs.declared.refusal.Reason.TheVariants as reasons

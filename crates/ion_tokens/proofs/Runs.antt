@@ -8,7 +8,8 @@ use Rattle.ion_tokens.specs.declared.mode.TokenKind.TheVariants as kinds
 use Rattle.ion_tokens.specs.declared.mode.Mode.TheVariants as modes
 use Rattle.ion_tokens.specs.machine.Table.{next}
 use Rattle.ion_tokens.specs.Blobs.{blob_of}
-use Rattle.ion_tokens.specs.machine.Scanning.{Known, Lexeme, Outcome, Next, Given, Left, Refused, go_to, cut, past, blob_ends, acts, feed, follow, run}
+use Rattle.ion_tokens.specs.machine.Scanning.{Known, Outcome, Next, Given, Left, Refused, go_to, cut, past, blob_ends, acts, feed, follow, run}
+use Rattle.ion_tokens.specs.Lexemes.{Lexeme}
 
 -- how many octets were used, where all were
 used_in : Outcome → ℕ → ℕ

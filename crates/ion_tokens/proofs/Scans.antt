@@ -1,8 +1,10 @@
 -- What one octet makes of what a scanner stands for. Crates above cite these names.
 use Rattle.std.proofs.Common.{◌≡◌, ℕ, ◌+◌, List, [], ◌∷◌, ◌++◌, length, refl, sym, ap, ◌∙◌, subst, arith, append_assoc, append-nil, length-append, inl, inr}
 use Rattle.ion_tokens.specs.declared.mode.Place.{Place}
-use Rattle.ion_tokens.specs.machine.Scanning.{Known, Lexeme, Outcome, Next, Given, Left, feed, follow, run}
-use Rattle.ion_tokens.specs.Lexed.{Placed, Stands, Gave, Leaved, Passes, AllPass}
+use Rattle.ion_tokens.specs.machine.Scanning.{Known, Outcome, Next, Given, Left, feed, follow, run}
+use Rattle.ion_tokens.specs.Lexemes.{Lexeme}
+use Rattle.ion_tokens.specs.Lexed.{Placed, Passes, AllPass}
+use Rattle.ion_tokens.specs.machine.Told.{Stands, Gave, Leaved}
 use Rattle.ion_tokens.specs.machine.Scanned.{Scanned, IsAhead, Continues}
 use Rattle.ion_tokens.proofs.Runs.{next_used}
 use Rattle.ion_tokens.proofs.Wholes.{run_behind}

@@ -10,7 +10,8 @@ use Rattle.ion_tokens.specs.declared.token.Begun.{Begun}
 use Rattle.ion_tokens.specs.Blobs.{blob_of}
 use Rattle.ion_tokens.specs.machine.Table.{next}
 use Rattle.ion_tokens.specs.machine.Bounds.{is_idle}
-use Rattle.ion_tokens.specs.machine.Scanning.{Known, Lexeme, Outcome, Next, Given, Left, Refused, cut, past, go_to, blob_ends, acts, feed, start_of}
+use Rattle.ion_tokens.specs.machine.Scanning.{Known, Outcome, Next, Given, Left, Refused, cut, past, go_to, blob_ends, acts, feed, start_of}
+use Rattle.ion_tokens.specs.Lexemes.{Lexeme}
 use Rattle.ion_tokens.specs.Lexed.{Placed, Lexes, LooksIn, IsNext}
 use Rattle.ion_tokens.specs.machine.Scanned.{Scanned, Covers, ShowsBegun}
 use Rattle.ion_tokens.proofs.Begins.{begun_right}

@@ -14,9 +14,10 @@ use Rattle.ion_tokens.specs.declared.mode.Action.TheVariants as actions
 use Rattle.ion_tokens.specs.Octets.{is_stop}
 use Rattle.ion_tokens.specs.machine.Table.{next, end_of, in_number, in_number_slash, add, go, before}
 use Rattle.ion_tokens.specs.machine.Views.{behind}
-use Rattle.ion_tokens.specs.machine.Scanning.{Known, Lexeme, Outcome, Next, Given, Left, Refused, cut, past, go_to, start_of, acts, feed, follow, run, ends_at}
-use Rattle.ion_tokens.specs.Lexemes.{Each, IsLexeme}
-use Rattle.ion_tokens.specs.Lexed.{Placed, Lexes, LooksIn, Stands, Leaved, Passes}
+use Rattle.ion_tokens.specs.machine.Scanning.{Known, Outcome, Next, Given, Left, Refused, cut, past, go_to, start_of, acts, feed, follow, run, ends_at}
+use Rattle.ion_tokens.specs.Lexemes.{Each, IsLexeme, Lexeme}
+use Rattle.ion_tokens.specs.Lexed.{Placed, Lexes, LooksIn, Passes}
+use Rattle.ion_tokens.specs.machine.Told.{Stands, Leaved}
 use Rattle.ion_tokens.specs.machine.Scanned.{Scanned}
 use Rattle.ion_tokens.proofs.Found.{Finds, Nothing, Last, Gives, Leaves, Unclosed}
 use Rattle.ion_tokens.proofs.Runs.{next_used}

@@ -13,9 +13,9 @@ use Rattle.ion_tokens.specs.declared.mode.TokenKind.TheVariants as kinds
 use Rattle.ion_tokens.specs.declared.mode.Keep.TheVariants as keeps
 use Rattle.ion_tokens.specs.declared.mode.End.TheVariants as ends'
 use Rattle.ion_tokens.specs.machine.Table.{end_of, operator_end, is_sexp}
-use Rattle.ion_tokens.specs.machine.Scanning.{Known, Lexeme, kept_after, ends_at, at_end}
+use Rattle.ion_tokens.specs.machine.Scanning.{Known, kept_after, ends_at, at_end}
 use Rattle.ion_tokens.specs.Blanks.{IsBlank, IsLastBlank}
-use Rattle.ion_tokens.specs.Lexemes.{IsOperator, comment_within}
+use Rattle.ion_tokens.specs.Lexemes.{IsOperator, comment_within, Lexeme}
 use Rattle.ion_tokens.proofs.Moves.{at, Stays}
 use Rattle.ion_tokens.proofs.Opens.{IsOpen, IsOpenRun, IsUnjudgedToken}
 use Rattle.ion_tokens.proofs.Holds.{InMode, IsBegun, Holds}

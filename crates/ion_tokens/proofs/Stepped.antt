@@ -8,10 +8,12 @@ use Rattle.ion_atoms.specs.declared.refusal.Reason.{Reason}
 use Rattle.ion_atoms.specs.declared.refusal.Reason.TheVariants as reasons
 use Rattle.ion_tokens.specs.declared.mode.Place.{Place}
 use Rattle.ion_tokens.specs.declared.token.Token.{Token}
-use Rattle.ion_tokens.specs.machine.Scanning.{Known, Lexeme, Outcome, Next, Given, Left, Refused, follow, run, at_end, initial}
+use Rattle.ion_tokens.specs.machine.Scanning.{Known, Outcome, Next, Given, Left, Refused, follow, run, at_end, initial}
+use Rattle.ion_tokens.specs.Lexemes.{Lexeme}
 use Rattle.ion_tokens.specs.Bodies.{IsBody}
 use Rattle.ion_tokens.specs.machine.Steps.{Stepped, Answers, Ends, IsToken, GivesToken, deciding}
-use Rattle.ion_tokens.specs.Lexed.{Placed, Lexes, LexesTo, BeginsLexed, Stands, Begun, Gave, Leaved, Passes, AllPass, IsNext}
+use Rattle.ion_tokens.specs.Lexed.{Placed, Lexes, LexesTo, BeginsLexed, Passes, AllPass, IsNext}
+use Rattle.ion_tokens.specs.machine.Told.{Stands, Begun, Gave, Leaved}
 use Rattle.ion_tokens.specs.machine.Scanned.{Scanned, IsAhead, Continues, AllSay, Tells, GoesWith, NoDocument, EndsSo, NoEnd}
 use Rattle.ion_tokens.proofs.Runs.{next_used}
 use Rattle.ion_tokens.proofs.Cutting.{one_body}

@@ -7,7 +7,8 @@ use Rattle.ion_tokens.specs.declared.mode.Place.{Place}
 use Rattle.ion_tokens.specs.declared.mode.TokenKind.TheVariants as kinds
 use Rattle.ion_tokens.specs.Bodies.{Content, IsBody}
 use Rattle.ion_tokens.specs.Lexed.{Placed, Lexes}
-use Rattle.ion_tokens.specs.machine.Scanning.{Known, Lexeme, Outcome, Next, Given, Left, initial, run, at_end}
+use Rattle.ion_tokens.specs.machine.Scanning.{Known, Outcome, Next, Given, Left, initial, run, at_end}
+use Rattle.ion_tokens.specs.Lexemes.{Lexeme}
 use Rattle.ion_tokens.specs.machine.Said.{said, says}
 use Rattle.ion_tokens.specs.machine.Scanned.{AllSay}
 use Rattle.ion_tokens.specs.machine.Traces.{Told, Places, Leads, Trace, then_by, judged, takes, over, last_judged, end_judged, traced, trace}

@@ -2,9 +2,11 @@
 use Rattle.std.proofs.Common.{◌≡◌, ℕ, ◌+◌, Bool, false, List, [], ◌∷◌, ◌++◌, length, refl, sym, ap, ◌∙◌, subst, append_assoc, append-nil}
 use Rattle.std.specs.Prelude.{Some, None, Ok}
 use Rattle.ion_tokens.specs.declared.mode.Place.{Place}
-use Rattle.ion_tokens.specs.machine.Scanning.{Known, Lexeme, Next, run, at_end}
+use Rattle.ion_tokens.specs.machine.Scanning.{Known, Next, run, at_end}
+use Rattle.ion_tokens.specs.Lexemes.{Lexeme}
 use Rattle.ion_tokens.specs.Blanks.{IsLastBlank}
-use Rattle.ion_tokens.specs.Lexed.{Placed, colon_behind, Lexes, LexesTo, Stands, Passes, AllPass}
+use Rattle.ion_tokens.specs.Lexed.{Placed, colon_behind, Lexes, LexesTo, Passes, AllPass}
+use Rattle.ion_tokens.specs.machine.Told.{Stands}
 use Rattle.ion_tokens.proofs.Holds.{blank_none}
 use Rattle.ion_tokens.proofs.Sounds.{RunSound, run_sound}
 use Rattle.ion_tokens.proofs.SoundEnds.{IsLastToken, EndSound, end_sound}

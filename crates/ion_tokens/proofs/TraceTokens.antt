@@ -5,9 +5,11 @@ use Rattle.ion_atoms.specs.declared.refusal.Refusal.{Refusal}
 use Rattle.ion_atoms.specs.declared.refusal.Reason.{Reason}
 use Rattle.ion_tokens.specs.declared.mode.Place.{Place}
 use Rattle.ion_tokens.specs.Bodies.{Content, IsBody}
-use Rattle.ion_tokens.specs.Lexed.{Placed, Lexes, Stands, Gave, Leaved, Passes}
+use Rattle.ion_tokens.specs.Lexed.{Placed, Lexes, Passes}
+use Rattle.ion_tokens.specs.machine.Told.{Stands, Gave, Leaved}
 use Rattle.ion_tokens.specs.machine.Bounds.{debt}
-use Rattle.ion_tokens.specs.machine.Scanning.{Known, Lexeme, Outcome, Next, Given, Left, Refused, initial, feed, follow, run, at_end}
+use Rattle.ion_tokens.specs.machine.Scanning.{Known, Outcome, Next, Given, Left, Refused, initial, feed, follow, run, at_end}
+use Rattle.ion_tokens.specs.Lexemes.{Lexeme}
 use Rattle.ion_tokens.specs.machine.Said.{said, says}
 use Rattle.ion_tokens.specs.machine.Scanned.{Scanned, Continues}
 use Rattle.ion_tokens.specs.machine.Traces.{Told, Places, Trail, Leads, Stops, then_by, judged, comes, takes, over, last_judged, end_judged, traced, trace}

@@ -9,12 +9,12 @@ use Rattle.ion_tokens.specs.declared.mode.TokenKind.{TokenKind}
 use Rattle.ion_tokens.specs.declared.mode.Mark.TheVariants as marks
 use Rattle.ion_tokens.specs.declared.mode.Mode.TheVariants as modes
 use Rattle.ion_tokens.specs.declared.mode.TokenKind.TheVariants as kinds
-use Rattle.ion_tokens.specs.machine.Scanning.{Known, Lexeme, Outcome, Next, Given, Left, follow, run, past, takes_colon}
+use Rattle.ion_tokens.specs.machine.Scanning.{Known, Outcome, Next, Given, Left, follow, run, past}
 use Rattle.std.specs.List.{flat_map, AllByRecursion}
 use Rattle.std.proofs.lemmas.Bool.Decides.{nat_tests}
 use Rattle.ion_tokens.specs.Octets.{is_white, begins_word}
 use Rattle.ion_tokens.specs.Blanks.{BlankPiece, White, LineComment, BlockComment, IsBlankPiece, blank_spelling, IsBlank, IsLastBlank}
-use Rattle.ion_tokens.specs.Lexemes.{IsLexeme, mark_spelling, begins}
+use Rattle.ion_tokens.specs.Lexemes.{IsLexeme, mark_spelling, begins, Lexeme, takes_colon}
 use Rattle.ion_tokens.specs.Lexed.{Placed, BeginsWith, colon_behind, LexesBefore}
 use Rattle.ion_tokens.proofs.Found.{FindsUpTo, in_word, Last, Gives, Leaves, Unclosed}
 use Rattle.ion_tokens.proofs.Cutting.{run-append}

@@ -1,13 +1,12 @@
--- The tokens of octets: which they are, where, with blanks alone between them; and what the scanner has told so far.
+-- The tokens of octets: which they are, where, with blanks alone between them.
 use Rattle.std.specs.Prelude.{◌≡◌, ℕ, ◌+◌, ◌==◌, Bool, false, List, [], ◌∷◌, ◌++◌, length}
 use Rattle.ion_tokens.specs.declared.mode.Place.{Place}
-use Rattle.ion_tokens.specs.machine.Scanning.{Known, Lexeme, Given, Left, run, initial, takes_colon}
 use Rattle.ion_tokens.specs.Blanks.{IsBlank, IsLastBlank}
 use Rattle.std.specs.List.{list_any, AllByRecursion}
 use Rattle.ion_tokens.specs.declared.mode.TokenKind.{TokenKind}
 use Rattle.ion_tokens.specs.declared.mode.TokenKind.TheVariants as kinds
 use Rattle.ion_tokens.specs.Ascii.{slash}
-use Rattle.ion_tokens.specs.Lexemes.{IsLexeme}
+use Rattle.ion_tokens.specs.Lexemes.{IsLexeme, Lexeme, takes_colon}
 
 -- a token and the place that it was looked for in
 pub record Placed : Type 0 where
@@ -41,15 +40,6 @@ Lexes = LexesBefore (λ colon before octets. IsLastBlank octets)
 -- octets begin with these tokens, whatever is left
 abbrev pub BeginsLexed : Bool → ℕ → List ℕ → List Placed → Type 0
 BeginsLexed = LexesBefore (λ colon before octets. Unit {0})
-
--- What a scanner knows once it has told these tokens, for which it took up these octets; `ahead` is the octet that ended the last of
--- them, where it was left, and must come next.
-pub data Stands : Known → List ℕ → List Placed → List ℕ → Type 0 where
-  Begun : Stands initial [] [] []
-  Gave : (s : Known) (u : List ℕ) (ts : List Placed) (ahead : List ℕ) (t : Placed) (octets more : List ℕ) (s' : Known) → Stands s u ts ahead → octets ≡ ahead ++ more
-      → run t.place octets s ≡ Given t.lexeme s' → s'.used ≡ s.used + length octets → Stands s' (u ++ octets) (ts ++ t ∷ []) []
-  Leaved : (s : Known) (u : List ℕ) (ts : List Placed) (ahead : List ℕ) (t : Placed) (octets more : List ℕ) (x : ℕ) (s' : Known) → Stands s u ts ahead → octets ++ x ∷ [] ≡ ahead ++ more
-      → run t.place (octets ++ x ∷ []) s ≡ Left t.lexeme s' → s'.used ≡ s.used + length octets → Stands s' (u ++ octets) (ts ++ t ∷ []) (x ∷ [])
 
 -- what is known of a token that isn't refused when it is judged: no number has a `/`
 abbrev pub Passes : TokenKind → List ℕ → Type 0

@@ -133,3 +133,24 @@ IsLexeme p colon w r kinds.LongString kept = (content : List ℕ) × IsQuoted st
 IsLexeme p colon w r kinds.Clob kept = (is_name p ≡ false) × (content : List ℕ) × IsClobContent content kept × (w ≡ codes "{{" ++ content ++ codes "}}")
 IsLexeme p colon w r kinds.Blob kept = (is_name p ≡ false) × (content : List ℕ) × IsBlobContent content kept × (w ≡ codes "{{" ++ content ++ codes "}}")
 IsLexeme p colon w r (kinds.Mark m) kept = (kept ≡ []) × (w ≡ mark_spelling m) × MarkStands p colon m × MarkEnds m r
+
+-- a token that isn't judged: its span, what it is, and what its octets mean
+pub record Lexeme : Type 0 where
+  pub start : ℕ
+  pub end : ℕ
+  pub kind : TokenKind
+  pub octets : List ℕ
+
+-- whether a colon may stand behind the token: behind what may be a symbol, and behind a field's name
+abbrev pub takes_colon : Place → TokenKind → Bool
+takes_colon p kinds.Word = true
+takes_colon p kinds.KindName = true
+takes_colon p kinds.QuotedSymbol = true
+takes_colon p kinds.ShortString = is_name p
+takes_colon p kinds.LongString = is_name p
+takes_colon p _ = false
+
+-- one segment of a long string
+abbrev pub is_segment : TokenKind → Bool
+is_segment kinds.LongString = true
+is_segment _ = false

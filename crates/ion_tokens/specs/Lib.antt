@@ -6,6 +6,7 @@ pub mod Lexed
 pub mod Lexemes
 pub mod Octets
 pub mod Places
+pub mod Styles
 pub mod Quoted
 pub mod laws
 pub mod machine

@@ -4,7 +4,7 @@ use Rattle.std.specs.List.{flat_map, AllByRecursion}
 use Rattle.std.specs.Char.{IsScalar}
 use Rattle.ion_tokens.specs.declared.mode.Style.{Style}
 use Rattle.ion_tokens.specs.Ascii.{tab, line_feed, vertical_tab, form_feed, carriage_return, space, single_quote, upper_u, backslash, lower_u, lower_x}
-use Rattle.ion_tokens.specs.machine.Styles.{is_long, is_clob, quote_of}
+use Rattle.ion_tokens.specs.Styles.{is_long, is_clob, quote_of}
 use Rattle.ion_tokens.specs.Octets.{hexadecimal_digit, escaped}
 
 -- a character that may stand for itself: no control character but tab, VT and FF

@@ -10,7 +10,7 @@ pub mod Said
 pub mod Scanned
 pub mod Scanning
 pub mod Steps
-pub mod Styles
 pub mod Table
+pub mod Told
 pub mod Traces
 pub mod Views

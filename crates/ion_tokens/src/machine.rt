@@ -1,7 +1,8 @@
 //! The scanner's machine: the table, and the octets that are kept of the open token.
 ghost use Rattle.std.specs.Prelude.{◌≡◌, ℕ, ◌+◌, ◌-◌, ◌<◌, ◌^◌, [], length, min, IfOk, IfErr, false, ◌≢◌};
 ghost use Rattle.ion_atoms.specs.declared.refusal.Reason.TheVariants.{Memory};
-ghost use Rattle.ion_tokens.specs.machine.Scanning.{feed, run, at_end, kept_after, start_of, left_of, takes_colon, cut, past, go_to, initial, acts, blob_ends, split_at};
+ghost use Rattle.ion_tokens.specs.machine.Scanning.{feed, run, at_end, kept_after, start_of, left_of, cut, past, go_to, initial, acts, blob_ends, split_at};
+ghost use Rattle.ion_tokens.specs.Lexemes.{takes_colon};
 ghost use Rattle.ion_tokens.specs.Blobs.{blob_of};
 ghost use Rattle.ion_tokens.specs.machine.Bounds.{IsSteady, StaysSteady, taken_up};
 ghost use Rattle.ion_tokens.specs.machine.Machines.{known, lexeme_in, outcome_in, found_in};

@@ -2,7 +2,8 @@
 ghost use Rattle.std.specs.Prelude.{◌≡◌, ℕ, Result, Option, Ok, Err};
 ghost use Rattle.ion_atoms.specs.declared.refusal.Reason.{Reason};
 ghost use Rattle.ion_symtab.specs.declared.catalog.Catalog.{Catalog};
-ghost use Rattle.ion_tokens.specs.machine.Scanning.{at_end, Lexeme};
+ghost use Rattle.ion_tokens.specs.machine.Scanning.{at_end};
+ghost use Rattle.ion_tokens.specs.Lexemes.{Lexeme};
 ghost use Rattle.ion_tokens.specs.machine.Views.{scanned};
 ghost use Rattle.ion_tokens.specs.machine.Steps.{Ends};
 ghost use Rattle.ion_text.specs.machine.EachToken.{settle, turn};

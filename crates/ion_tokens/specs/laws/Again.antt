@@ -24,7 +24,8 @@ use Rattle.ion_tokens.specs.declared.mode.Action.TheVariants as actions
 use Rattle.ion_tokens.specs.Octets.{hexadecimal_digit, escaped, is_digit, is_white, begins_word, is_word_octet, is_operator_octet, is_stop, is_base64}
 use Rattle.ion_tokens.specs.machine.Table.{next, go, add, in_blank, begins_value, in_slash, in_number, in_number_slash, in_operator, digit_behind, in_operator_slash, in_infinity, in_text, in_lob, raw, lead, in_escape, meant, with_digit, after_digits, character, grow, close, close_long, is_long, in_blob, is_sexp, is_name, is_other, quote_of, stands, is_clob, is_high, is_low}
 use Rattle.ion_tokens.specs.Blobs.{blob_of}
-use Rattle.ion_tokens.specs.machine.Scanning.{Known, Lexeme, Outcome, Next, Given, Left, Refused, acts, blob_ends, go_to, cut, past, feed}
+use Rattle.ion_tokens.specs.machine.Scanning.{Known, Outcome, Next, Given, Left, Refused, acts, blob_ends, go_to, cut, past, feed}
+use Rattle.ion_tokens.specs.Lexemes.{Lexeme}
 use Rattle.ion_tokens.specs.machine.Ahead.{IsUsed, LeftIn, LeavesIn}
 
 abbrev used : Action → Bool

@@ -26,7 +26,8 @@ use Rattle.ion_tokens.specs.machine.Table.{next, in_blank, begins_value, in_slas
 use Rattle.ion_tokens.specs.Blobs.{blob_of}
 use Rattle.ion_tokens.specs.machine.Bounds.{is_idle}
 use Rattle.ion_tokens.specs.machine.Scanning.{Known, Next, Left, acts, blob_ends, go_to, cut, past, feed}
-use Rattle.ion_tokens.specs.machine.Ahead.{is_segment, is_quoting, is_mark, is_closing, is_sane, Follows}
+use Rattle.ion_tokens.specs.machine.Ahead.{is_quoting, is_mark, is_closing, is_sane, Follows}
+use Rattle.ion_tokens.specs.Lexemes.{is_segment}
 
 -- the mode in which the octet behind a token is taken up again
 abbrev is_left : Mode → Bool

@@ -4,7 +4,8 @@ use Rattle.ion_tokens.specs.declared.mode.Place.{Place}
 use Rattle.ion_tokens.specs.declared.token.Begun.{Begun}
 use Rattle.ion_tokens.specs.Blobs.{AreOctets}
 use Rattle.ion_tokens.specs.Bodies.{IsBody}
-use Rattle.ion_tokens.specs.machine.Scanning.{Known, Lexeme}
+use Rattle.ion_tokens.specs.machine.Scanning.{Known}
+use Rattle.ion_tokens.specs.Lexemes.{Lexeme}
 use Rattle.ion_tokens.specs.machine.Traces.{Told, Places, trace}
 use Rattle.ion_tokens.specs.Lexed.{Placed, Lexes, BeginsLexed, LooksIn}
 use Rattle.ion_tokens.specs.machine.Scanned.{Scanned, Continues, ShowsBegun}

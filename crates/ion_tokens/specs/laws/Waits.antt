@@ -7,9 +7,10 @@ use Rattle.ion_tokens.specs.declared.mode.Mark.TheVariants as marks
 use Rattle.ion_tokens.specs.declared.mode.TokenKind.{TokenKind}
 use Rattle.ion_tokens.specs.declared.mode.TokenKind.TheVariants as kinds
 use Rattle.ion_tokens.specs.machine.Bounds.{is_idle}
-use Rattle.ion_tokens.specs.machine.Ahead.{is_segment, is_quoting, is_mark, is_colons, is_sane, Follows, symbol_waits, long_waits, OnNext, AtEach}
+use Rattle.ion_tokens.specs.machine.Ahead.{is_quoting, is_mark, is_colons, is_sane, Follows, symbol_waits, long_waits, OnNext, AtEach}
 use Rattle.ion_tokens.specs.laws.Follows.{feed_follows}
-use Rattle.ion_tokens.specs.machine.Scanning.{Known, Lexeme, Outcome, Next, Given, Left, Refused, feed, follow, run}
+use Rattle.ion_tokens.specs.machine.Scanning.{Known, Outcome, Next, Given, Left, Refused, feed, follow, run}
+use Rattle.ion_tokens.specs.Lexemes.{Lexeme, is_segment}
 
 -- a token that has begun is no mark, but for an open brace
 pub never_mark : (os : List ℕ) (p : Place) (s t : Known) (x : Lexeme) → is_sane s.mode ≡ true → is_idle s.mode ≡ false → run p os s ≡ Given x t → is_mark x.kind ≡ false

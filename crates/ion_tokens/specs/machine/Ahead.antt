@@ -11,15 +11,11 @@ use Rattle.ion_tokens.specs.declared.token.Form.{Form}
 use Rattle.ion_tokens.specs.declared.token.Form.TheVariants as forms
 use Rattle.ion_tokens.specs.Ascii.{slash, asterisk}
 use Rattle.ion_tokens.specs.Places.{is_sexp}
-use Rattle.ion_tokens.specs.machine.Styles.{is_long}
+use Rattle.ion_tokens.specs.Styles.{is_long}
+use Rattle.ion_tokens.specs.Lexemes.{is_segment}
 use Rattle.ion_tokens.specs.machine.Bounds.{is_idle}
 use Rattle.ion_tokens.specs.machine.Views.{form_of}
 use Rattle.ion_tokens.specs.machine.Scanning.{Known, Outcome, Next, Given, Left, Refused, feed}
-
--- one segment of a long string
-abbrev pub is_segment : TokenKind → Bool
-is_segment kinds.LongString = true
-is_segment _ = false
 
 abbrev pub is_quoted : TokenKind → Bool
 is_quoted kinds.QuotedSymbol = true

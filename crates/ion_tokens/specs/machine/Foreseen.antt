@@ -7,7 +7,8 @@ use Rattle.ion_tokens.specs.declared.token.Begun.{Begun}
 use Rattle.ion_tokens.specs.declared.token.Form.TheVariants as forms
 use Rattle.ion_tokens.specs.declared.token.Foresight.{Foresight}
 use Rattle.ion_tokens.specs.declared.token.Foresight.TheVariants as foresights
-use Rattle.ion_tokens.specs.machine.Scanning.{Known, Lexeme}
+use Rattle.ion_tokens.specs.machine.Scanning.{Known}
+use Rattle.ion_tokens.specs.Lexemes.{Lexeme}
 use Rattle.ion_tokens.specs.Blanks.{IsBlank}
 use Rattle.ion_tokens.specs.Lexed.{Placed, Lexes, LexesTo, LooksIn, IsNext}
 use Rattle.ion_tokens.specs.machine.Scanned.{Scanned, ShowsBegun}

@@ -4,7 +4,8 @@ use Rattle.ion_tokens.specs.declared.machine.Machine.{Machine}
 use Rattle.ion_tokens.specs.declared.machine.Lexeme.{Lexeme as Found}
 use Rattle.ion_tokens.specs.declared.machine.Taken.{Taken}
 use Rattle.ion_tokens.specs.declared.machine.Taken.TheVariants as taken
-use Rattle.ion_tokens.specs.machine.Scanning.{Known, Lexeme, Outcome, Next, Given, Left, Refused}
+use Rattle.ion_tokens.specs.machine.Scanning.{Known, Outcome, Next, Given, Left, Refused}
+use Rattle.ion_tokens.specs.Lexemes.{Lexeme}
 
 -- what it knows between two octets
 abbrev pub known : Machine → Known

@@ -9,10 +9,12 @@ use Rattle.ion_tokens.specs.declared.token.Form.{Form}
 use Rattle.ion_tokens.specs.declared.token.Form.TheVariants as forms
 use Rattle.ion_tokens.specs.declared.token.Token.{Token}
 use Rattle.ion_tokens.specs.Blanks.{IsBlank}
-use Rattle.ion_tokens.specs.machine.Scanning.{Known, Lexeme, Next, run}
+use Rattle.ion_tokens.specs.machine.Scanning.{Known, Next, run}
+use Rattle.ion_tokens.specs.Lexemes.{Lexeme}
 use Rattle.ion_tokens.specs.Bodies.{Content, IsBody}
 use Rattle.ion_tokens.specs.machine.Steps.{Stepped, IsToken, deciding, is_end_reason}
-use Rattle.ion_tokens.specs.Lexed.{Placed, Lexes, LexesTo, Stands, AllPass, LooksIn, IsNext}
+use Rattle.ion_tokens.specs.Lexed.{Placed, Lexes, LexesTo, AllPass, LooksIn, IsNext}
+use Rattle.ion_tokens.specs.machine.Told.{Stands}
 
 -- what must come next: what was left, until octets since begin with it
 abbrev pub IsAhead : List ℕ → List ℕ → List ℕ → Type 0

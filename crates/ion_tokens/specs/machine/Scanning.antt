@@ -16,6 +16,7 @@ use Rattle.ion_tokens.specs.declared.mode.Action.TheVariants as actions
 use Rattle.ion_tokens.specs.declared.mode.End.TheVariants as ends
 use Rattle.ion_tokens.specs.machine.Table.{next, end_of, is_name}
 use Rattle.ion_tokens.specs.Blobs.{blob_of}
+use Rattle.ion_tokens.specs.Lexemes.{Lexeme, takes_colon}
 
 -- what the scanner knows between two octets
 pub record Known : Type 0 where
@@ -32,13 +33,6 @@ pub record Known : Type 0 where
 -- before any octet
 abbrev pub initial : Known
 initial = record { mode = modes.Blank; kept = []; colon = false; start = 0; used = 0 }
-
--- a token that isn't judged: its span, what it is, and what its octets mean
-pub record Lexeme : Type 0 where
-  pub start : ℕ
-  pub end : ℕ
-  pub kind : TokenKind
-  pub octets : List ℕ
 
 -- what comes of octets
 pub data Outcome : Type 0 where
@@ -68,15 +62,6 @@ start_of _ start used = start
 abbrev pub left_of : Mode → ℕ
 left_of modes.Slash = 1
 left_of _ = 0
-
--- whether a colon may stand behind the token: behind what may be a symbol, and behind a field's name
-abbrev pub takes_colon : Place → TokenKind → Bool
-takes_colon p kinds.Word = true
-takes_colon p kinds.KindName = true
-takes_colon p kinds.QuotedSymbol = true
-takes_colon p kinds.ShortString = is_name p
-takes_colon p kinds.LongString = is_name p
-takes_colon p _ = false
 
 -- the octet is used
 abbrev pub go_to : Known → Mode → List ℕ → Known

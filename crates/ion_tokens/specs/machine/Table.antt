@@ -5,7 +5,7 @@ use Rattle.ion_tokens.specs.Octets.{is_white, is_line_end, is_digit, begins_word
 use Rattle.ion_tokens.specs.Ascii.{tab, line_feed, vertical_tab, form_feed, carriage_return, space, double_quote, single_quote, open_parenthesis, close_parenthesis, asterisk, plus, comma, minus, slash, upper_u, open_bracket, backslash, close_bracket, lower_f, lower_i, lower_n, lower_u, lower_x, open_brace, close_brace, delete}
 use Rattle.ion_tokens.specs.Ascii as ascii
 pub use Rattle.ion_tokens.specs.Places.{is_sexp, is_name}
-pub use Rattle.ion_tokens.specs.machine.Styles.{is_long, is_clob, quote_of}
+pub use Rattle.ion_tokens.specs.Styles.{is_long, is_clob, quote_of}
 use Rattle.ion_atoms.specs.declared.refusal.Reason.TheVariants as reasons
 use Rattle.ion_tokens.specs.declared.mode.Place.{Place}
 use Rattle.ion_tokens.specs.declared.mode.Style.{Style}

@@ -17,7 +17,8 @@ use Rattle.ion_tokens.specs.machine.Ahead.{is_closing}
 use Rattle.ion_tokens.specs.Bodies.{Content, Word, Id, TypedNull, Mark', IsBody}
 use Rattle.ion_tokens.specs.Lexed.{Placed, Lexes, LexesTo, colon_behind}
 use Rattle.ion_tokens.specs.machine.Said.{said}
-use Rattle.ion_tokens.specs.machine.Scanning.{Known, Lexeme, at_end}
+use Rattle.ion_tokens.specs.machine.Scanning.{Known, at_end}
+use Rattle.ion_tokens.specs.Lexemes.{Lexeme}
 use Rattle.ion_tokens.specs.machine.Scanned.{Scanned}
 use Rattle.ion_tokens.proofs.EndCauses.{IsEndFair, end_fair}
 use Rattle.ion_tokens.proofs.Holds.{blank_none}

@@ -11,7 +11,8 @@ use Rattle.ion_tokens.specs.declared.mode.Place.{Place}
 use Rattle.ion_tokens.specs.declared.mode.Place.TheVariants as places
 use Rattle.ion_tokens.specs.declared.mode.TokenKind.TheVariants as kinds
 use Rattle.ion_tokens.specs.Bodies.{IsBody}
-use Rattle.ion_tokens.specs.Lexed.{Placed, BeginsLexed, LexesTo, Stands, Begun, Gave, Leaved}
+use Rattle.ion_tokens.specs.Lexed.{Placed, BeginsLexed, LexesTo}
+use Rattle.ion_tokens.specs.machine.Told.{Stands, Begun, Gave, Leaved}
 use Rattle.ion_tokens.specs.machine.Scanning.{Known, Next, Given, Left, run, at_end}
 use Rattle.ion_tokens.specs.machine.Scanned.{IsAhead}
 use Rattle.ion_tokens.proofs.Found.{Last, Gives, Leaves, Unclosed}

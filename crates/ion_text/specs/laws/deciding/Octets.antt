@@ -19,7 +19,8 @@ use Rattle.ion_tokens.specs.machine.Ahead.{is_colons}
 use Rattle.ion_tokens.specs.Bodies.{Content, Mark', IsBody}
 use Rattle.ion_tokens.specs.Lexed.{Placed}
 use Rattle.ion_tokens.specs.machine.Said.{said}
-use Rattle.ion_tokens.specs.machine.Scanning.{Known, Lexeme, Outcome, Next, Given, Left, Refused, feed}
+use Rattle.ion_tokens.specs.machine.Scanning.{Known, Outcome, Next, Given, Left, Refused, feed}
+use Rattle.ion_tokens.specs.Lexemes.{Lexeme}
 use Rattle.ion_tokens.specs.machine.Scanned.{Scanned, Continues}
 use Rattle.ion_tokens.proofs.Scans.{placed, scanned_left}
 use Rattle.ion_text.specs.declared.state.Held.{Held}

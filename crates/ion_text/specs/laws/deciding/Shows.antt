@@ -11,9 +11,9 @@ use Rattle.ion_tokens.specs.machine.Table.{end_of}
 use Rattle.ion_tokens.specs.machine.Bounds.{is_idle}
 use Rattle.ion_tokens.specs.machine.Ahead.{is_sane, is_closing, symbol_waits}
 use Rattle.ion_tokens.specs.Bodies.{Content, Word, Id, Quoted, Short, Long, Number', TypedNull, Operator, Clob, Blob, Mark', IsBody}
-use Rattle.ion_tokens.specs.Lexemes.{IsLexeme}
+use Rattle.ion_tokens.specs.Lexemes.{IsLexeme, Lexeme}
 use Rattle.ion_tokens.specs.Lexed.{Placed, BeginsWith, colon_behind, LexesTo, Passes}
-use Rattle.ion_tokens.specs.machine.Scanning.{Known, Lexeme, Next, Given, Left, feed, run}
+use Rattle.ion_tokens.specs.machine.Scanning.{Known, Next, Given, Left, feed, run}
 use Rattle.ion_tokens.specs.machine.Scanned.{Scanned, Continues}
 use Rattle.ion_tokens.proofs.Holds.{IsTold, InMode, Sound}
 use Rattle.ion_tokens.proofs.Moves.{at}

@@ -29,7 +29,8 @@ use Rattle.ion_tokens.specs.Places.{is_sexp}
 use Rattle.ion_tokens.specs.machine.Bounds.{is_idle}
 use Rattle.ion_tokens.specs.Bodies.{Content, Word, Id, Quoted, Short, Long, Number', TypedNull, Operator, Clob, Blob, Mark', IsBody, IsWordBody, id_of, kind_named, null_of}
 use Rattle.ion_tokens.specs.machine.Said.{said, says}
-use Rattle.ion_tokens.specs.machine.Scanning.{Known, Lexeme, Outcome, Next, Given, Left, Refused, feed, follow, at_end, ends_at}
+use Rattle.ion_tokens.specs.machine.Scanning.{Known, Outcome, Next, Given, Left, Refused, feed, follow, at_end, ends_at}
+use Rattle.ion_tokens.specs.Lexemes.{Lexeme}
 use Rattle.ion_tokens.proofs.Fits.{is_octet_reason}
 use Rattle.ion_tokens.proofs.Causes.{IsFair, run_fair}
 use Rattle.ion_text.specs.declared.state.Held.{Held}

@@ -12,7 +12,8 @@ use Rattle.ion_symtab.specs.Trace.{plain}
 use Rattle.ion_symtab.specs.Promises.{BeginsNone, IsFirst, NoTables, GivesNoTable}
 use Rattle.ion_symtab.specs.laws.Promises.{first_refused}
 use Rattle.ion_tokens.specs.Bodies.{Content}
-use Rattle.ion_tokens.specs.machine.Scanning.{Lexeme, at_end}
+use Rattle.ion_tokens.specs.machine.Scanning.{at_end}
+use Rattle.ion_tokens.specs.Lexemes.{Lexeme}
 use Rattle.ion_tokens.proofs.Runs.{next_used}
 use Rattle.ion_tokens.specs.machine.Said.{said}
 use Rattle.ion_text.specs.declared.state.Now.{Now}

@@ -10,7 +10,7 @@ use lib.Utf8.{scalar, scalars, encode, encodes, low_scalar}
 use Rattle.ion_tokens.specs.declared.mode.Style.{Style}
 use Rattle.ion_tokens.specs.declared.mode.Style.TheVariants as styles
 use Rattle.ion_tokens.specs.Octets.{escaped, hexadecimal_digit}
-use Rattle.ion_tokens.specs.machine.Styles.{is_long, is_clob, quote_of}
+use Rattle.ion_tokens.specs.Styles.{is_long, is_clob, quote_of}
 use Rattle.ion_tokens.specs.Quoted.{Element, Raw, Simple, Hex, IsElement, IsRaw, spelling, meaning, ends_in_cr, CrTakesLf, ClosesFirst, IsQuoted}
 use Rattle.ion_atoms.specs.Octets.{AreOctets}
 use Rattle.ion_text.specs.declared.escape.Quotes.{Quotes}

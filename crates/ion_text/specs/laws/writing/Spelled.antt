@@ -24,9 +24,7 @@ use Rattle.ion_tokens.specs.Blobs.{base64_of, IsBase64}
 use Rattle.ion_tokens.specs.laws.Blobs.{base64_each}
 use Rattle.ion_tokens.specs.laws.Numerals.{numeric_run}
 use Rattle.ion_tokens.specs.Bodies.{Content, Word, Id, Quoted, Short, Number', TypedNull, Clob, Blob, IsBody, id_of, kind_named}
-use Rattle.ion_tokens.specs.Lexemes.{IsLexeme, Each, begins, ShortText}
-use Rattle.ion_tokens.specs.machine.Scanning.{takes_colon}
-use Rattle.ion_tokens.specs.machine.Ahead.{is_segment}
+use Rattle.ion_tokens.specs.Lexemes.{IsLexeme, Each, begins, ShortText, takes_colon, is_segment}
 use Rattle.ion_text.specs.Grammar.{is_keyword, IsSymbol, is_word, is_id, is_quoted}
 use Rattle.ion_text.specs.Output.{of_string, of_symbol, of_clob, is_identifier, is_unquoted, symbol_text, quoted, escaped_text, null_text, truth_text, clob_text, blob_text}
 use Rattle.ion_model.specs.Kept.{IsText}

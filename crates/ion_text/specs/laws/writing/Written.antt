@@ -8,9 +8,8 @@ use Rattle.ion_tokens.specs.declared.mode.TokenKind.TheVariants as kinds
 use Rattle.ion_tokens.specs.Octets.{is_white}
 use Rattle.ion_tokens.specs.Blanks.{IsBlank, White}
 use Rattle.ion_tokens.specs.Bodies.{Content, Mark'}
-use Rattle.ion_tokens.specs.Lexemes.{IsLexeme, mark_spelling, MarkStands, MarkEnds}
+use Rattle.ion_tokens.specs.Lexemes.{IsLexeme, mark_spelling, MarkStands, MarkEnds, takes_colon}
 use Rattle.ion_tokens.specs.Lexed.{Placed, LexesBefore, LexesTo}
-use Rattle.ion_tokens.specs.machine.Scanning.{takes_colon}
 use Rattle.ion_text.specs.Grammar.{Says, is_long, end_of, span}
 use Rattle.ion_text.specs.laws.writing.Spelled.{Spelling}
 

@@ -19,7 +19,8 @@ use Rattle.ion_tokens.specs.declared.mode.TokenKind.TheVariants as kinds
 use Rattle.ion_tokens.specs.machine.Table.{end_of}
 use Rattle.ion_tokens.specs.machine.Bounds.{is_idle}
 use Rattle.ion_tokens.specs.Bodies.{Content, Word, Id, Quoted, Short, Long, Number', TypedNull, Operator, Clob, Blob, Mark', IsBody}
-use Rattle.ion_tokens.specs.machine.Scanning.{Known, Lexeme, Outcome, Next, Given, Left, start_of, feed, at_end, initial, follow}
+use Rattle.ion_tokens.specs.machine.Scanning.{Known, Outcome, Next, Given, Left, start_of, feed, at_end, initial, follow}
+use Rattle.ion_tokens.specs.Lexemes.{Lexeme, is_segment}
 use Rattle.ion_tokens.specs.Lexed.{Placed}
 use Rattle.ion_tokens.proofs.Runs.{feed_used, given_used}
 use Rattle.ion_text.specs.declared.state.Held.{Held}
@@ -33,7 +34,7 @@ use Rattle.ion_text.specs.machine.Run.{State, Effect, uses, tells, eats, takes, 
 use Rattle.ion_text.specs.laws.reading.complete.Segments.{NotRefused, settles_then, waits_unsettled}
 use Rattle.ion_text.specs.machine.TokenLists.{continues, continues_now}
 use Rattle.ion_text.specs.machine.Places.{Leading, settle_same, settle_still}
-use Rattle.ion_tokens.specs.machine.Ahead.{is_quoting, is_sane, is_colons, is_quoted, is_segment}
+use Rattle.ion_tokens.specs.machine.Ahead.{is_quoting, is_sane, is_colons, is_quoted}
 use Rattle.ion_text.specs.laws.reading.sound.Quotes.{Fine, Finely, given_far}
 use Rattle.ion_text.specs.laws.reading.complete.Exact.{Exact, Exactly, feed_exact}
 use Rattle.ion_text.specs.machine.Passed.{said_body}

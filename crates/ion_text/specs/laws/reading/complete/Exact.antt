@@ -24,7 +24,7 @@ use Rattle.ion_tokens.specs.declared.mode.Action.TheVariants as actions
 use Rattle.ion_tokens.specs.Octets.{hexadecimal_digit, escaped, is_digit, is_white, begins_word, is_line_end, is_word_octet, is_operator_octet, is_stop, is_base64}
 use Rattle.ion_tokens.specs.machine.Table.{next, begins_value, digit_behind, in_text, in_lob, raw, lead, in_escape, meant, with_digit, after_digits, character, grow, close, close_long, is_other, stands, is_high, is_low}
 use Rattle.ion_tokens.specs.Places.{is_sexp, is_name}
-use Rattle.ion_tokens.specs.machine.Styles.{is_long, quote_of, is_clob}
+use Rattle.ion_tokens.specs.Styles.{is_long, quote_of, is_clob}
 use Rattle.ion_tokens.specs.Blobs.{blob_of}
 use Rattle.ion_tokens.specs.machine.Scanning.{Known, Outcome, Next, Given, Left, Refused, start_of, acts, blob_ends, go_to, cut, past, feed}
 

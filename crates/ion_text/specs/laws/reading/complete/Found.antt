@@ -8,8 +8,9 @@ use Rattle.ion_tokens.specs.declared.mode.Place.TheVariants as places
 use Rattle.ion_tokens.specs.declared.mode.TokenKind.TheVariants as kinds
 use Rattle.ion_tokens.specs.machine.Table.{is_sexp}
 use Rattle.ion_tokens.specs.Bodies.{Content}
-use Rattle.ion_tokens.specs.machine.Scanning.{Known, Lexeme, Outcome, Next, Given, Left, Refused, feed, follow, run, at_end, initial}
-use Rattle.ion_tokens.specs.Lexed.{Placed, Lexes, LexesBefore, Begun}
+use Rattle.ion_tokens.specs.machine.Scanning.{Known, Outcome, Next, Given, Left, Refused, feed, follow, run, at_end, initial}
+use Rattle.ion_tokens.specs.Lexed.{Placed, Lexes, LexesBefore}
+use Rattle.ion_tokens.specs.machine.Told.{Begun}
 use Rattle.ion_tokens.proofs.Found as found
 use Rattle.ion_tokens.proofs.Histories.{stands_finds, behind_front}
 use Rattle.ion_tokens.proofs.Runs.{feed_used}
@@ -19,7 +20,7 @@ use Rattle.ion_text.specs.machine.Run.{is_top, token_of}
 use Rattle.ion_text.specs.machine.TokenLists.{continues}
 use Rattle.ion_text.specs.machine.Places.{Leading, settle_still}
 use Rattle.ion_text.specs.laws.reading.sound.Spans.{IsClose}
-use Rattle.ion_tokens.specs.Lexemes.{IsLexeme}
+use Rattle.ion_tokens.specs.Lexemes.{IsLexeme, Lexeme}
 use Rattle.ion_tokens.specs.machine.Said.{said}
 use Rattle.ion_text.specs.laws.reading.sound.Quotes.{is_close}
 use Rattle.ion_text.specs.machine.Passed.{said_body}

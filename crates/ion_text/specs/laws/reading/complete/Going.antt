@@ -15,7 +15,8 @@ use Rattle.ion_tokens.specs.machine.Table.{end_of}
 use Rattle.ion_tokens.specs.Places.{is_sexp}
 use Rattle.ion_tokens.specs.machine.Bounds.{is_idle}
 use Rattle.ion_tokens.specs.Bodies.{Content, Word, Id, Quoted, Short, Long, Number', TypedNull, Operator, Clob, Blob, Mark', IsBody, IsWordBody, id_of, kind_named, null_of}
-use Rattle.ion_tokens.specs.machine.Scanning.{Known, Lexeme, Next, Given, Left, feed, follow}
+use Rattle.ion_tokens.specs.machine.Scanning.{Known, Next, Given, Left, feed, follow}
+use Rattle.ion_tokens.specs.Lexemes.{Lexeme}
 use Rattle.ion_tokens.specs.Lexed.{Placed}
 use Rattle.ion_tokens.proofs.Runs.{feed_used, left_used}
 use Rattle.ion_text.specs.declared.state.Now.{Now}

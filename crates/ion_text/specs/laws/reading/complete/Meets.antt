@@ -26,16 +26,17 @@ use Rattle.ion_tokens.specs.declared.mode.Action.TheVariants as actions
 use Rattle.ion_tokens.specs.Octets.{hexadecimal_digit, escaped, is_operator_octet}
 use Rattle.ion_tokens.specs.machine.Table.{next, run_ending, end_of, in_slash, in_text, raw, lead, in_escape, meant, with_digit, after_digits, character, grow, close, close_long, stands, is_high, is_low}
 use Rattle.ion_tokens.specs.Places.{is_sexp}
-use Rattle.ion_tokens.specs.machine.Styles.{is_long, quote_of, is_clob}
+use Rattle.ion_tokens.specs.Styles.{is_long, quote_of, is_clob}
 use Rattle.ion_tokens.specs.Blobs.{blob_of}
 use Rattle.ion_tokens.specs.machine.Bounds.{is_idle}
 use Rattle.ion_tokens.specs.machine.Views.{behind}
-use Rattle.ion_tokens.specs.machine.Scanning.{Known, Lexeme, Outcome, Next, Given, Left, Refused, start_of, acts, blob_ends, feed, follow, at_end, ends_at}
+use Rattle.ion_tokens.specs.machine.Scanning.{Known, Outcome, Next, Given, Left, Refused, start_of, acts, blob_ends, feed, follow, at_end, ends_at}
+use Rattle.ion_tokens.specs.Lexemes.{Lexeme, is_segment}
 use Rattle.ion_tokens.specs.Lexed.{Placed}
 use Rattle.ion_tokens.proofs.Runs.{feed_used, given_used}
 use Rattle.ion_tokens.proofs.Reaches.{Reaches, run_reaches, begun_stays}
 use Rattle.ion_text.specs.Grammar.{is_two_quotes}
-use Rattle.ion_tokens.specs.machine.Ahead.{is_sane, is_mark, is_closing, Follows, is_segment, IsUsed}
+use Rattle.ion_tokens.specs.machine.Ahead.{is_sane, is_mark, is_closing, Follows, IsUsed}
 use Rattle.ion_tokens.specs.laws.Follows.{feed_follows}
 use Rattle.ion_tokens.specs.laws.Again.{blank_uses}
 use Rattle.ion_text.specs.laws.reading.sound.Quotes.{Fine, Finely, feed_fine, given_far, left_none}

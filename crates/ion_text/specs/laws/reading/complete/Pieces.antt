@@ -15,7 +15,7 @@ use Rattle.ion_tokens.specs.declared.mode.TokenKind.{TokenKind}
 use Rattle.ion_tokens.specs.declared.mode.TokenKind.TheVariants as kinds
 use Rattle.ion_tokens.specs.Bodies.{Content, Word, Id, Quoted, Short, Long, Number', TypedNull, Operator, Clob, Blob, Mark', IsBody, IsWordBody, id_of, kind_named, null_of}
 use Rattle.ion_tokens.specs.Lexed.{Placed}
-use Rattle.ion_tokens.specs.machine.Ahead.{is_segment}
+use Rattle.ion_tokens.specs.Lexemes.{is_segment}
 use Rattle.ion_tokens.specs.machine.Said.{said}
 use Rattle.ion_text.specs.declared.state.Now.TheVariants as nows
 use Rattle.ion_text.specs.Grammar.{Says, Annotations, no_annotation, one_annotation, Means, means, Pieces, begins, marked, turns, holds, is_version_word, the_marker, ends_long, is_two_quotes, begins_as_long, span, end_of}

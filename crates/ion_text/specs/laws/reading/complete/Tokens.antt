@@ -18,7 +18,8 @@ use Rattle.ion_tokens.specs.machine.Table.{end_of, next, before, raw, in_text}
 use Rattle.ion_tokens.specs.Places.{is_sexp}
 use Rattle.ion_tokens.specs.machine.Bounds.{is_idle}
 use Rattle.ion_tokens.specs.Bodies.{Content, Word, Id, Quoted, Short, Long, Number', TypedNull, Operator, Clob, Blob, Mark', IsBody}
-use Rattle.ion_tokens.specs.machine.Scanning.{Known, Lexeme, Outcome, Next, Given, Left, acts, start_of, feed, at_end, ends_at}
+use Rattle.ion_tokens.specs.machine.Scanning.{Known, Outcome, Next, Given, Left, acts, start_of, feed, at_end, ends_at}
+use Rattle.ion_tokens.specs.Lexemes.{Lexeme, is_segment}
 use Rattle.ion_tokens.specs.Lexed.{Placed}
 use Rattle.ion_text.specs.declared.state.Held.{Held}
 use Rattle.ion_text.specs.declared.state.Now.{Now}
@@ -29,7 +30,7 @@ use Rattle.ion_text.specs.machine.Run.{waits_now, token_of, is_top}
 use Rattle.ion_text.specs.machine.TokenLists.{continues_now}
 use Rattle.ion_text.specs.laws.reading.complete.Complete.{segment_kind}
 use Rattle.ion_text.specs.laws.reading.complete.Pieces.{quoted_kind}
-use Rattle.ion_tokens.specs.machine.Ahead.{is_quoting, is_sane, is_closing, is_colons, is_quoted, is_segment}
+use Rattle.ion_tokens.specs.machine.Ahead.{is_quoting, is_sane, is_closing, is_colons, is_quoted}
 use Rattle.ion_text.specs.laws.reading.sound.Quotes.{Fine, left_none}
 use Rattle.ion_text.specs.laws.reading.complete.Exact.{Exact, exact}
 use Rattle.ion_text.specs.laws.reading.sound.Held.{or_parts}

@@ -23,7 +23,8 @@ use Rattle.ion_tokens.specs.laws.Follows.{feed_follows}
 use Rattle.ion_tokens.specs.Lexed.{Placed, LexesTo}
 use Rattle.ion_tokens.specs.Places.{is_sexp}
 use Rattle.ion_tokens.specs.machine.Said.{said}
-use Rattle.ion_tokens.specs.machine.Scanning.{Known, Lexeme, Outcome, Next, Given, Left, Refused, feed}
+use Rattle.ion_tokens.specs.machine.Scanning.{Known, Outcome, Next, Given, Left, Refused, feed}
+use Rattle.ion_tokens.specs.Lexemes.{Lexeme}
 use Rattle.ion_tokens.specs.machine.Views.{looks, behind, form_of, begun_in, held_in}
 use Rattle.ion_tokens.proofs.Holds.{InMode}
 use Rattle.ion_tokens.proofs.Reaches.{begun_stays}

@@ -20,7 +20,8 @@ use Rattle.ion_tokens.specs.machine.Table.{end_of}
 use Rattle.ion_tokens.specs.machine.Ahead.{is_quoting, is_quoted, long_waits}
 use Rattle.ion_tokens.specs.Bodies.{Content, Operator, Mark', IsBody}
 use Rattle.ion_tokens.specs.machine.Said.{said}
-use Rattle.ion_tokens.specs.machine.Scanning.{Known, Lexeme, Outcome, Next, Given, Left, Refused, feed, at_end}
+use Rattle.ion_tokens.specs.machine.Scanning.{Known, Outcome, Next, Given, Left, Refused, feed, at_end}
+use Rattle.ion_tokens.specs.Lexemes.{Lexeme}
 use Rattle.ion_text.specs.declared.state.Now.{Now}
 use Rattle.ion_text.specs.declared.state.Now.TheVariants as nows
 use Rattle.ion_text.specs.declared.state.Frame.{Frame}

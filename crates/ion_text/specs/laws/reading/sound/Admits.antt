@@ -21,7 +21,8 @@ use Rattle.ion_tokens.specs.declared.mode.TokenKind.TheVariants as kinds
 use Rattle.ion_tokens.specs.machine.Table.{end_of}
 use Rattle.ion_tokens.specs.Places.{is_sexp}
 use Rattle.ion_tokens.specs.Bodies.{Content}
-use Rattle.ion_tokens.specs.machine.Scanning.{Known, Lexeme, at_end, ends_at}
+use Rattle.ion_tokens.specs.machine.Scanning.{Known, at_end, ends_at}
+use Rattle.ion_tokens.specs.Lexemes.{Lexeme, is_segment}
 use Rattle.ion_tokens.specs.Lexed.{Placed, Lexes}
 use Rattle.ion_tokens.specs.machine.Scanned.{Scanned}
 use Rattle.ion_tokens.proofs.Stepped.{all_since}
@@ -34,7 +35,7 @@ use Rattle.ion_tokens.specs.machine.Said.{said}
 use Rattle.ion_text.specs.machine.EachToken.{Reading, Turn, goes, gives, refuses, late, Symbols, at, place, settle, turn}
 use Rattle.ion_text.specs.machine.Run.{State, begun, is_fresh, cut_short, end_late, end_settled, end_turned, end_said, end_waiting, end_ready, end_now, ends, ends_of, token_of, run, trace}
 use Rattle.ion_tokens.specs.machine.Bounds.{is_idle}
-use Rattle.ion_tokens.specs.machine.Ahead.{is_quoting, is_closing, is_quoted, is_segment}
+use Rattle.ion_tokens.specs.machine.Ahead.{is_quoting, is_closing, is_quoted}
 use Rattle.ion_tokens.specs.declared.mode.Mark.TheVariants as marks
 use Rattle.ion_text.specs.laws.reading.sound.Quotes.{is_close, left_none}
 use Rattle.ion_tokens.proofs.Scans.{placed}

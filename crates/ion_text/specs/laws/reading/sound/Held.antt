@@ -11,7 +11,8 @@ use Rattle.ion_tokens.specs.declared.mode.TokenKind.{TokenKind}
 use Rattle.ion_tokens.specs.declared.mode.TokenKind.TheVariants as kinds
 use Rattle.ion_tokens.specs.machine.Bounds.{is_idle}
 use Rattle.ion_tokens.specs.Bodies.{Content, Long, IsBody}
-use Rattle.ion_tokens.specs.machine.Scanning.{Known, Lexeme, Outcome, Next, Given, Left, Refused, feed}
+use Rattle.ion_tokens.specs.machine.Scanning.{Known, Outcome, Next, Given, Left, Refused, feed}
+use Rattle.ion_tokens.specs.Lexemes.{Lexeme, is_segment}
 use Rattle.ion_tokens.specs.Lexed.{Placed}
 use Rattle.ion_text.specs.declared.state.Now.{Now}
 use Rattle.ion_text.specs.declared.state.Now.TheVariants as nows
@@ -21,7 +22,7 @@ use Rattle.ion_text.specs.Grammar.{Says, Annotations, no_annotation, one_annotat
 use Rattle.ion_tokens.specs.machine.Said.{said}
 use Rattle.ion_text.specs.machine.EachToken.{under, token_at, Reading, Turn, goes, gives, refuses, late, Symbols, at, fresh, place, place_in, settle, turn, turn_now, begun_at}
 use Rattle.ion_text.specs.machine.Run.{waits, waits_now, token_of, is_top, is_fresh}
-use Rattle.ion_tokens.specs.machine.Ahead.{is_quoting, is_sane, Follows, is_quoted, long_waits, is_segment}
+use Rattle.ion_tokens.specs.machine.Ahead.{is_quoting, is_sane, Follows, is_quoted, long_waits}
 use Rattle.ion_tokens.specs.laws.Follows.{feed_follows}
 use Rattle.ion_text.specs.laws.reading.sound.Quotes.{Fine, Finely, feed_fine}
 use Rattle.ion_tokens.proofs.Scans.{placed}

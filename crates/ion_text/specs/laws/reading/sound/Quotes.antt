@@ -28,11 +28,12 @@ use Rattle.ion_tokens.specs.declared.mode.Action.TheVariants as actions
 use Rattle.ion_tokens.specs.Octets.{hexadecimal_digit, escaped, is_digit, is_white, begins_word, is_line_end, is_word_octet, is_operator_octet, is_stop, is_base64}
 use Rattle.ion_tokens.specs.machine.Table.{next, in_blank, begins_value, in_slash, in_number, in_number_slash, in_operator, digit_behind, in_operator_slash, in_infinity, in_text, in_lob, raw, lead, in_utf8, in_escape, meant, with_digit, after_digits, character, grow, close, close_long, in_blob, is_other, stands, is_high, is_low}
 use Rattle.ion_tokens.specs.Places.{is_sexp, is_name}
-use Rattle.ion_tokens.specs.machine.Styles.{is_long, quote_of, is_clob}
+use Rattle.ion_tokens.specs.Styles.{is_long, quote_of, is_clob}
 use Rattle.ion_tokens.specs.Blobs.{blob_of}
-use Rattle.ion_tokens.specs.machine.Scanning.{Known, Lexeme, Outcome, Next, Given, Left, Refused, start_of, acts, blob_ends, go_to, cut, past, feed}
+use Rattle.ion_tokens.specs.machine.Scanning.{Known, Outcome, Next, Given, Left, Refused, start_of, acts, blob_ends, go_to, cut, past, feed}
+use Rattle.ion_tokens.specs.Lexemes.{Lexeme, is_segment}
 use Rattle.ion_text.specs.Grammar.{is_two_quotes}
-use Rattle.ion_tokens.specs.machine.Ahead.{is_quoting, is_sane, is_quoted, is_segment}
+use Rattle.ion_tokens.specs.machine.Ahead.{is_quoting, is_sane, is_quoted}
 
 -- a token that has begun has so many octets
 abbrev pub least : Mode → ℕ

@@ -35,7 +35,7 @@ use Rattle.ion_text.specs.machine.Run.{token_of}
 use Rattle.ion_text.specs.laws.reading.complete.Complete.{depth-list, depth-sexp, depth-struct}
 use Rattle.ion_text.specs.laws.reading.sound.MarkerWords.{other_word, id_no_word, more_words, segments_no_word, noted_no_word, is_unmarked, word_no_word}
 use Rattle.ion_text.specs.laws.reading.sound.Depths.{Deep, flat_held, flat_text, flat_number, flat_symbol, flat_clob, flat_blob}
-use Rattle.ion_tokens.specs.machine.Ahead.{is_segment}
+use Rattle.ion_tokens.specs.Lexemes.{is_segment}
 use Rattle.std.proofs.lemmas.Bool.Decides.{nat_tests}
 
 -- where a value of the innermost container stands

@@ -11,8 +11,10 @@ use Rattle.ion_symtab.specs.Trace.{plain}
 use Rattle.ion_tokens.specs.declared.mode.Place.{Place}
 use Rattle.ion_tokens.specs.machine.Bounds.{is_idle}
 use Rattle.ion_tokens.specs.Bodies.{Content}
-use Rattle.ion_tokens.specs.machine.Scanning.{Known, Lexeme, Outcome, Next, Given, Left, Refused, feed, initial}
-use Rattle.ion_tokens.specs.Lexed.{Placed, Begun}
+use Rattle.ion_tokens.specs.machine.Scanning.{Known, Outcome, Next, Given, Left, Refused, feed, initial}
+use Rattle.ion_tokens.specs.Lexemes.{Lexeme}
+use Rattle.ion_tokens.specs.Lexed.{Placed}
+use Rattle.ion_tokens.specs.machine.Told.{Begun}
 use Rattle.ion_tokens.specs.machine.Scanned.{Scanned, Continues}
 use Rattle.ion_text.specs.Grammar.{Pieces, begins}
 use Rattle.ion_tokens.specs.machine.Said.{said}

@@ -36,7 +36,8 @@ use Rattle.ion_tokens.proofs.TurnsWords.{slash_in}
 use Rattle.ion_scalar.specs.declared.number.Number.{Number}
 use Rattle.ion_scalar.specs.text.Numbers.{ReadsNumber}
 use Rattle.ion_scalar.specs.text.Reading.{number_read, number_reads}
-use Rattle.ion_tokens.specs.machine.Scanning.{Known, Lexeme, Outcome, Next, Given, Left, Refused, acts, go_to, cut, past, feed, at_end, ends_at}
+use Rattle.ion_tokens.specs.machine.Scanning.{Known, Outcome, Next, Given, Left, Refused, acts, go_to, cut, past, feed, at_end, ends_at}
+use Rattle.ion_tokens.specs.Lexemes.{Lexeme}
 use Rattle.ion_text.specs.declared.state.Now.{Now}
 use Rattle.ion_text.specs.declared.state.Now.TheVariants as nows
 use Rattle.ion_text.specs.declared.state.Frame.{Frame}

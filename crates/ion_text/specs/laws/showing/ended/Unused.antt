@@ -32,7 +32,8 @@ use Rattle.ion_tokens.specs.machine.Table.{next, end_of, begins_value, in_blank,
 use Rattle.ion_tokens.specs.machine.Bounds.{is_idle}
 use Rattle.ion_tokens.specs.machine.Ahead.{is_mark}
 use Rattle.ion_tokens.specs.machine.Said.{said}
-use Rattle.ion_tokens.specs.machine.Scanning.{Known, Lexeme, Outcome, Next, Given, Left, Refused, acts, blob_ends, go_to, cut, past, feed, at_end, ends_at}
+use Rattle.ion_tokens.specs.machine.Scanning.{Known, Outcome, Next, Given, Left, Refused, acts, blob_ends, go_to, cut, past, feed, at_end, ends_at}
+use Rattle.ion_tokens.specs.Lexemes.{Lexeme}
 use Rattle.ion_text.specs.declared.state.Held.{Held}
 use Rattle.ion_text.specs.declared.state.Held.TheVariants as helds
 use Rattle.ion_text.specs.declared.state.Now.{Now}

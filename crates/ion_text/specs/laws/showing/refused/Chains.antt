@@ -11,7 +11,8 @@ use Rattle.ion_tokens.specs.machine.Ahead.{Follows, is_quoted, is_quoting}
 use Rattle.ion_tokens.specs.Places.{is_sexp}
 use Rattle.ion_tokens.specs.Bodies.{Content, Mark'}
 use Rattle.ion_tokens.specs.machine.Said.{said}
-use Rattle.ion_tokens.specs.machine.Scanning.{Known, Lexeme, Outcome, Next, Given, Left, Refused, feed}
+use Rattle.ion_tokens.specs.machine.Scanning.{Known, Outcome, Next, Given, Left, Refused, feed}
+use Rattle.ion_tokens.specs.Lexemes.{Lexeme}
 use Rattle.ion_tokens.specs.machine.Scanned.{Scanned, Continues}
 use Rattle.ion_tokens.specs.laws.Follows.{feed_follows}
 use Rattle.ion_text.specs.declared.state.Now.{Now}

@@ -15,7 +15,8 @@ use Rattle.ion_tokens.specs.machine.Ahead.{IsUsed, is_sane, is_colons, is_mark, 
 use Rattle.ion_tokens.specs.Places.{is_sexp}
 use Rattle.ion_tokens.specs.Bodies.{Content}
 use Rattle.ion_tokens.specs.machine.Said.{said}
-use Rattle.ion_tokens.specs.machine.Scanning.{Known, Lexeme, Outcome, Next, Given, Left, Refused, takes_colon, feed}
+use Rattle.ion_tokens.specs.machine.Scanning.{Known, Outcome, Next, Given, Left, Refused, feed}
+use Rattle.ion_tokens.specs.Lexemes.{Lexeme, takes_colon}
 use Rattle.ion_tokens.specs.machine.Scanned.{Scanned, Continues}
 use Rattle.ion_text.specs.Grammar.{ends_long}
 use Rattle.ion_text.specs.machine.EachToken.{Reading, Turn, goes, gives, refuses, late, place, settle, turn}

@@ -6,7 +6,8 @@ use Rattle.ion_symtab.specs.declared.catalog.Catalog.{Catalog}
 use Rattle.ion_symtab.specs.Slots.{Slot, system_slots}
 use Rattle.ion_tokens.specs.declared.mode.Mark.TheVariants as marks
 use Rattle.ion_tokens.specs.declared.mode.Place.{Place}
-use Rattle.ion_tokens.specs.machine.Ahead.{is_colons, is_quoted, is_segment}
+use Rattle.ion_tokens.specs.machine.Ahead.{is_colons, is_quoted}
+use Rattle.ion_tokens.specs.Lexemes.{is_segment}
 use Rattle.ion_tokens.specs.Bodies.{Content, Long, Quoted, Mark', IsBody}
 use Rattle.ion_tokens.specs.machine.Said.{said}
 use Rattle.ion_tokens.specs.machine.Scanning.{Known, Left, feed}

@@ -13,10 +13,11 @@ use Rattle.ion_tokens.specs.declared.mode.Style.TheVariants as styles
 use Rattle.ion_tokens.specs.declared.mode.TokenKind.{TokenKind}
 use Rattle.ion_tokens.specs.declared.mode.TokenKind.TheVariants as kinds
 use Rattle.ion_tokens.specs.machine.Bounds.{is_idle}
-use Rattle.ion_tokens.specs.machine.Ahead.{is_colons, is_quoted, is_quoting, is_segment}
+use Rattle.ion_tokens.specs.machine.Ahead.{is_colons, is_quoted, is_quoting}
 use Rattle.ion_tokens.specs.machine.Views.{behind, begun_in, form_of}
 use Rattle.ion_tokens.specs.Blanks.{IsBlank}
-use Rattle.ion_tokens.specs.machine.Scanning.{Known, Lexeme, Next, Given, Left, feed}
+use Rattle.ion_tokens.specs.machine.Scanning.{Known, Next, Given, Left, feed}
+use Rattle.ion_tokens.specs.Lexemes.{Lexeme, is_segment}
 use Rattle.ion_tokens.specs.Lexed.{Passes}
 use Rattle.ion_tokens.proofs.Holds.{Holds, InMode, IsTold, Sound}
 use Rattle.ion_tokens.proofs.Sounds.{feed_sound}

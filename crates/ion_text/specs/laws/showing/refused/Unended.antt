@@ -8,7 +8,8 @@ use Rattle.ion_tokens.specs.declared.mode.Mode.TheVariants as modes
 use Rattle.ion_tokens.specs.declared.mode.Place.{Place}
 use Rattle.ion_tokens.specs.Bodies.{Content, Long, Mark'}
 use Rattle.ion_tokens.specs.machine.Said.{said}
-use Rattle.ion_tokens.specs.machine.Scanning.{Known, Next, Left, feed, follow, run, takes_colon}
+use Rattle.ion_tokens.specs.machine.Scanning.{Known, Next, Left, feed, follow, run}
+use Rattle.ion_tokens.specs.Lexemes.{takes_colon}
 use Rattle.ion_tokens.specs.Lexed.{Placed, BeginsWith, LexesTo, colon_behind}
 use Rattle.ion_tokens.proofs.Histories.{begins_completes}
 use Rattle.ion_tokens.proofs.Holds.{IsTold, Sound}

@@ -8,7 +8,8 @@ use Rattle.ion_symtab.specs.Slots.{Slot}
 use Rattle.ion_tokens.specs.declared.mode.Mark.TheVariants as marks
 use Rattle.ion_tokens.specs.declared.mode.TokenKind.TheVariants as kinds
 use Rattle.ion_tokens.specs.declared.mode.Place.{Place}
-use Rattle.ion_tokens.specs.machine.Scanning.{Known, Lexeme, Next, start_of, run}
+use Rattle.ion_tokens.specs.machine.Scanning.{Known, Next, start_of, run}
+use Rattle.ion_tokens.specs.Lexemes.{Lexeme}
 use Rattle.ion_tokens.proofs.Moves.{blank}
 use Rattle.ion_tokens.specs.Lexed.{Placed, BeginsWith, LexesTo}
 use Rattle.ion_tokens.specs.machine.Scanned.{Scanned, Continues}

@@ -10,7 +10,8 @@ use Rattle.ion_tokens.specs.declared.mode.Place.TheVariants as places
 use Rattle.ion_tokens.specs.declared.mode.Mode.TheVariants as modes
 use Rattle.ion_tokens.specs.machine.Table.{end_of}
 use Rattle.ion_tokens.specs.Places.{is_sexp}
-use Rattle.ion_tokens.specs.machine.Scanning.{Known, Lexeme, Next, start_of, run, initial}
+use Rattle.ion_tokens.specs.machine.Scanning.{Known, Next, start_of, run, initial}
+use Rattle.ion_tokens.specs.Lexemes.{Lexeme}
 use Rattle.ion_tokens.specs.Lexed.{Placed, LexesTo, colon_behind}
 use Rattle.ion_tokens.proofs.Escapes.{Escapes, Refuses, Goes, Grows, escape}
 use Rattle.ion_tokens.proofs.Histories.{begins_completes}

@@ -13,13 +13,13 @@ use Rattle.ion_tokens.specs.declared.mode.Place.TheVariants as places
 use Rattle.ion_tokens.specs.declared.mode.TokenKind.{TokenKind}
 use Rattle.ion_tokens.specs.declared.mode.TokenKind.TheVariants as kinds
 use Rattle.ion_tokens.specs.machine.Bounds.{is_idle}
-use Rattle.ion_tokens.specs.machine.Ahead.{is_segment, is_quoting}
+use Rattle.ion_tokens.specs.machine.Ahead.{is_quoting}
 use Rattle.ion_tokens.specs.Bodies.{Content, Quoted, Long, Mark', IsBody}
 use Rattle.ion_tokens.specs.Places.{is_sexp}
 use Rattle.ion_tokens.specs.machine.Said.{said}
-use Rattle.ion_tokens.specs.machine.Scanning.{Known, initial, takes_colon, run}
+use Rattle.ion_tokens.specs.machine.Scanning.{Known, initial, run}
 use Rattle.ion_tokens.specs.Lexed.{Placed, BeginsWith, LexesTo, colon_behind}
-use Rattle.ion_tokens.specs.Lexemes.{IsLexeme}
+use Rattle.ion_tokens.specs.Lexemes.{IsLexeme, takes_colon, is_segment}
 use Rattle.ion_tokens.proofs.Escapes.{Escapes, Escape, escape}
 use Rattle.ion_tokens.proofs.Histories.{begins_completes}
 use Rattle.ion_tokens.proofs.Holds.{InMode}

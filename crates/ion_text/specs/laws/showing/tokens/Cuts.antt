@@ -14,7 +14,8 @@ use Rattle.ion_tokens.specs.machine.Bounds.{is_idle}
 use Rattle.ion_tokens.specs.machine.Ahead.{is_sane}
 use Rattle.ion_tokens.specs.Blanks.{IsBlank}
 use Rattle.ion_tokens.specs.Blobs.{blob_of}
-use Rattle.ion_tokens.specs.machine.Scanning.{Known, Lexeme, Outcome, Next, Given, Left, Refused, start_of, takes_colon, go_to, past, acts, blob_ends, feed, run, at_end, cut as token_cut}
+use Rattle.ion_tokens.specs.machine.Scanning.{Known, Outcome, Next, Given, Left, Refused, start_of, go_to, past, acts, blob_ends, feed, run, at_end, cut as token_cut}
+use Rattle.ion_tokens.specs.Lexemes.{Lexeme, takes_colon}
 use Rattle.ion_tokens.specs.Lexed.{Placed, BeginsWith, colon_behind, LexesTo}
 use Rattle.ion_tokens.specs.machine.Scanned.{Scanned, IsAhead, Continues}
 use Rattle.ion_tokens.proofs.Found.{FindsUpTo, Last, Gives, Leaves, Unclosed}

@@ -3,7 +3,8 @@ use Rattle.std.specs.Prelude.{Result, Ok, Err, None, false}
 use Rattle.ion_atoms.specs.declared.refusal.Refusal.{Refusal}
 use Rattle.ion_atoms.specs.declared.refusal.Reason.TheVariants.{Memory}
 use Rattle.ion_tokens.specs.declared.token.Scan.{Scan}
-use Rattle.ion_tokens.specs.machine.Scanning.{Lexeme, Outcome}
+use Rattle.ion_tokens.specs.machine.Scanning.{Outcome}
+use Rattle.ion_tokens.specs.Lexemes.{Lexeme}
 use Rattle.ion_tokens.specs.machine.Machines.{known, lexeme_in}
 use Rattle.ion_tokens.specs.machine.Steps.{Answers, RefusesToken}
 use Rattle.ion_tokens.proofs.Runs.{next_used, given_used, left_used}
