@@ -6,7 +6,7 @@ ghost use Rattle.ion_atoms.specs.Texts.{decimal_text, timestamp_text, cut_text, 
 
 use crate::decimal::Decimal;
 use crate::timestamp::{Local, Precision, Timestamp};
-use crate::whole::Whole;
+use crate::int::Whole;
 use std::fmt::{self, Display, Formatter};
 
 /// Decimal digits, with `-` before a negative int.

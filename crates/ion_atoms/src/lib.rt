@@ -12,11 +12,11 @@ mod refusal;
 mod text;
 pub mod time_laws;
 mod timestamp;
-mod whole;
+mod int;
 
 pub use decimal::Decimal;
 pub use kind::Kind;
 pub use refusal::{Reason, Refusal};
 pub use text::{Bytes, Text};
 pub use timestamp::{Local, Precision, Timestamp};
-pub use whole::Whole;
+pub use int::Whole;

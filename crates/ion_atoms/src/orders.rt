@@ -18,7 +18,7 @@ ghost use Rattle.ion_atoms.specs.laws.Hashed.{timestamps_alike};
 use crate::decimal::Decimal;
 use crate::text::{Bytes, Text};
 use crate::timestamp::Timestamp;
-use crate::whole::Whole;
+use crate::int::Whole;
 use std::cmp::Ordering;
 use std::hash::{Hash, Hasher};
 

@@ -9,7 +9,7 @@ use Rattle.ion_symtab.proofs.Systems.{slice_get-append_left, slice_get-append_ri
 use Rattle.ion_symtab.specs.Tables.{Table, find, newer, newest, otherwise}
 use Rattle.ion_symtab.specs.laws.Tables.{find_more}
 use Rattle.ion_symtab.specs.kept.Places.{place_of, newest_of, newest_place, IsPlaceOf, Indexes}
-use Rattle.ion_symtab.specs.declared.places.Places.{Places}
+use Rattle.ion_symtab.specs.declared.catalog_index.Places.{Places}
 
 newer_if : (b : Bool) (t u : Table) → nat_le u.version t.version ≡ b → newer (Some t) (Some u) ≡ (if b then Some t else Some u)
 newer_if b t u e = rw e refl

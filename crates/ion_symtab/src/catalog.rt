@@ -5,7 +5,7 @@ ghost use Rattle.ion_symtab.specs.laws.ContextTexts.{AreTextTables};
 ghost use Rattle.ion_symtab.specs.Tables.{AreApart, find, find_best, newest};
 ghost use Rattle.ion_symtab.specs.kept.Places.{table_at, newest_place};
 
-use crate::places::Places;
+use crate::catalog_index::Places;
 use crate::shared_table::SharedTable;
 use ion_model::Reason;
 use std::alloc::Global;

@@ -7,7 +7,7 @@ ghost use Rattle.ion_symtab.specs.Next.{next, extended, appends};
 ghost use Rattle.ion_symtab.specs.Outcome.{Gives};
 ghost use Rattle.ion_symtab.specs.kept.Segments.{Fills};
 
-use crate::added::Added;
+use crate::added_slots::Added;
 use crate::catalog::Catalog;
 use crate::fields::{elements, only};
 use crate::segments::Segments;

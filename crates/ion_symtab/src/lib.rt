@@ -2,7 +2,7 @@
 //! the devices that octets come from and go to.
 #![tactic(auto)]
 
-mod added;
+mod added_slots;
 mod catalog;
 mod context;
 mod fault;
@@ -14,7 +14,7 @@ mod items;
 pub mod laws;
 mod limits;
 mod outlet;
-mod places;
+mod catalog_index;
 mod segments;
 mod shared_table;
 mod symbols;

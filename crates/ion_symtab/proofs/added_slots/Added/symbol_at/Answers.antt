@@ -2,7 +2,7 @@ use Rattle.std.proofs.Common.{◌<◌, ◌-◌, length, map, arith, length-appen
 use Rattle.std.proofs.lemmas.List.{length-map}
 use Rattle.ion_symtab.specs.Next.{local_slot}
 use Rattle.ion_symtab.proofs.Systems.{resolve_last}
-use Rattle.ion_symtab.proofs.added.Added.symbol_at.Goals as goal
+use Rattle.ion_symtab.proofs.added_slots.Added.symbol_at.Goals as goal
 
 pub returns : goal.returns
 returns c =

@@ -1,6 +1,6 @@
 use Rattle.std.proofs.Common.{◌-◌, arith}
 use Rattle.ion_symtab.proofs.Systems.{resolve_last}
-use Rattle.ion_symtab.proofs.added.Added.last_symbol.Goals as goal
+use Rattle.ion_symtab.proofs.added_slots.Added.last_symbol.Goals as goal
 
 pub returns-clause-found : goal.returns-clause-found
 returns-clause-found c =
