@@ -103,4 +103,5 @@ time_cmp =
 -- by precision, then the unknown offset first and others by their number, then by the local fields
 abbrev pub timestamp_cmp : TimestampParts → TimestampParts → Ordering
 timestamp_cmp =
-    then_cmp (then_cmp (then_cmp (on (λ t. precision_rank t.precision) nat_cmp) (on (λ t. t.offset) (option_cmp int_cmp))) (on (λ t. t.local) date_cmp)) (on (λ t. t.local) time_cmp)
+    then_cmp (then_cmp (then_cmp (on (λ t. precision_rank t.precision) nat_cmp) (on (λ t. t.offset) (option_cmp int_cmp))) (on (λ t. t.local) date_cmp))
+    (on (λ t. t.local) time_cmp)

@@ -1,6 +1,7 @@
 //! The proleptic Gregorian calendar of the years 1 to 9999, whose days timestamps have (Ion 1.0,
-//! "Timestamp"). Which days a month has and which day lies beside another is answered by `jiff`. It is
-//! asked only where that isn't plain: each month has the days 1 to 28. Nothing here takes memory.
+//! "Timestamp"). Which days a month has and which day lies beside another is answered by `jiff`. It
+//! is asked only where that isn't plain: each month has the days 1 to 28. Nothing here takes
+//! memory.
 ghost use Rattle.std.specs.Prelude.{◌≡◌, ◌≤◌, ◌<◌, ◌+◌, ◌*◌, ◌⊎◌, ◌+ℤ◌, ◌≤ℤ◌, ◌<ℤ◌, pos, neg_ℤ, SomeIff, IfSome, IfNone, IsSome, IsTrue, ◌↔◌};
 ghost use Rattle.jiff.specs.Words.{IsYmd};
 ghost use Rattle.ion_atoms.specs.declared.calendar.Date.{Date as Day};
@@ -49,8 +50,8 @@ fn days_of_month(year: u16, month: u8) -> u8
 }
 
 impl Date {
-    /// The day of this year, month and day of the month; `None` exactly where the years 1 to 9999 have
-    /// no such day.
+    /// The day of this year, month and day of the month; `None` exactly where the years 1 to 9999
+    /// have no such day.
     pub(crate) fn new(year: u16, month: u8, day: u8) -> Option<Date>
         ensures { let date : Day = record { year = year; month = month; day = day } in
             SomeIff result (IsDate date) date }
@@ -135,7 +136,8 @@ fn civil_date(date: Date) -> civil::Date
 
 // The same day, if it isn't before the year 1.
 fn own_date(date: civil::Date) -> Option<Date>
-    ensures some { IfSome result (λ d. IsDate d × IsYmd (pos d.year) (pos d.month) (pos d.day) date) }
+    ensures some { IfSome result (λ d. IsDate d
+        × IsYmd (pos d.year) (pos d.month) (pos d.day) date) }
     ensures none { IfNone result (date.year <ℤ pos 1) }
 {
     if date.year() < 1 {
@@ -153,7 +155,8 @@ fn neighbour(date: Date, days: u16) -> Option<Date>
     requires date { IsDate date }
     requires days { days ≤ 2 }
     ensures some { IfSome result (λ d. IsDate d × (day_number d + 1 ≡ day_number date + days)) }
-    ensures none { IfNone result ((day_number date + days < first_day + 1) ⊎ (last_day + 1 < day_number date + days)) }
+    ensures none { IfNone result ((day_number date + days < first_day + 1)
+        ⊎ (last_day + 1 < day_number date + days)) }
 {
     match days {
         0 => date.before(),
@@ -162,8 +165,8 @@ fn neighbour(date: Date, days: u16) -> Option<Date>
     }
 }
 
-// In how many days a minute of the day comes that lies so many minutes later, the day before counted
-// as 0, and which minute of that day it is.
+// In how many days a minute of the day comes that lies so many minutes later, the day before
+// counted as 0, and which minute of that day it is.
 fn carried(minute: u16, by: i16) -> (u16, u16)
     requires minute { minute < 1440 }
     requires by { (neg_ℤ (pos 1439) ≤ℤ by) × (by ≤ℤ pos 1439) }
@@ -182,7 +185,8 @@ impl Minute {
         requires minute { IsMinute self }
         requires by { (neg_ℤ (pos 1439) ≤ℤ by) × (by ≤ℤ pos 1439) }
         ensures some { IsSome result ↔ InYears (pos (minute_number self) +ℤ by) }
-        ensures value { IfSome result (λ m. IsMinute m × (pos (minute_number m) ≡ pos (minute_number self) +ℤ by)) }
+        ensures value { IfSome result (λ m. IsMinute m
+            × (pos (minute_number m) ≡ pos (minute_number self) +ℤ by)) }
     {
         let (days, minute) = carried(u16::from(self.hour) * 60 + u16::from(self.minute), by);
         let Some(date) = neighbour(self.date, days) else {

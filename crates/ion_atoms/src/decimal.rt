@@ -8,8 +8,8 @@ use std::fmt::{self, Debug, Formatter};
 use std::marker::Model;
 
 /// A decimal: a coefficient of sign and magnitude, so that zero has two, and a power of ten that it
-/// is multiplied by (Ion 1.0, "Decimal"). Kept are magnitudes below 2^127 and exponents from -2^31 to
-/// 2^31-1. Numerically equal decimals of different exponents are different values.
+/// is multiplied by (Ion 1.0, "Decimal"). Kept are magnitudes below 2^127 and exponents from -2^31
+/// to 2^31-1. Numerically equal decimals of different exponents are different values.
 #[derive(Clone, Copy, PartialEq, Eq)]
 pub struct Decimal {
     magnitude: Halves,
@@ -22,11 +22,20 @@ impl Model for Decimal {
 
     ghost Value = { DecimalParts };
 
-    ghost view = { λ d. record { negative = d.negative; magnitude = d.magnitude; exponent = d.exponent } };
+    ghost view = { λ d. record {
+      negative = d.negative;
+      magnitude = d.magnitude;
+      exponent = d.exponent;
+    } };
 
-    ghost invariant = { λ d. IsDecimal (record { negative = d.negative; magnitude = d.magnitude; exponent = d.exponent }) };
+    ghost invariant = { λ d. IsDecimal
+        (record { negative = d.negative; magnitude = d.magnitude; exponent = d.exponent }) };
 
-    ghost inverse = { λ d. record { negative = d.negative; magnitude = d.magnitude; exponent = d.exponent } };
+    ghost inverse = { λ d. record {
+      negative = d.negative;
+      magnitude = d.magnitude;
+      exponent = d.exponent;
+    } };
 }
 
 impl Debug for Decimal {
@@ -40,11 +49,12 @@ impl Debug for Decimal {
 }
 
 impl Decimal {
-    /// The decimal of this sign, magnitude and exponent; `None` exactly where the magnitude is 2^127 or
-    /// more. Takes no memory.
+    /// The decimal of this sign, magnitude and exponent; `None` exactly where the magnitude is
+    /// 2^127 or more. Takes no memory.
     #[inline(always)]
     pub fn new(negative: bool, magnitude: u128, exponent: i32) -> Option<Decimal>
-        ensures { let parts : DecimalParts = record { negative = negative; magnitude = magnitude; exponent = exponent } in
+        ensures { let parts : DecimalParts =
+            record { negative = negative; magnitude = magnitude; exponent = exponent } in
             SomeIff result (IsDecimal parts) parts }
     {
         if magnitude >= 1 << 127 {

@@ -1,12 +1,13 @@
-//! Ints, decimals and timestamps as text documents spell them (Ion 1.0, "Ion Text Encoding"). None takes memory.
+//! Ints, decimals and timestamps as text documents spell them (Ion 1.0, "Ion Text Encoding"). None
+//! takes memory.
 ghost use Rattle.std.specs.Prelude.{◌+◌, ◌<◌, ◌∷◌, ◌++◌, [], Some, IfSome};
 ghost use Rattle.std.specs.Fmt.{WritesOnOk, signed_decimal};
 ghost use Rattle.ion_atoms.specs.Timestamps.{IsOffset};
 ghost use Rattle.ion_atoms.specs.Texts.{decimal_text, timestamp_text, cut_text, offset_text, clock_text, two_digits, four_digits, padded, month_text, day_text, minute_text, second_text};
 
 use crate::decimal::Decimal;
-use crate::timestamp::{Local, Precision, Timestamp};
 use crate::int::Whole;
+use crate::timestamp::{Local, Precision, Timestamp};
 use std::fmt::{self, Display, Formatter};
 
 /// Decimal digits, with `-` before a negative int.
@@ -18,7 +19,8 @@ impl Display for Whole {
     }
 }
 
-/// Coefficient, `d` and exponent, as in `-15d-1`. The exponent stands there always, and so does the sign of a zero.
+/// Coefficient, `d` and exponent, as in `-15d-1`. The exponent stands there always, and so does the
+/// sign of a zero.
 impl Display for Decimal {
     ghost output = { λ decimal. Some (decimal_text decimal) };
 
@@ -30,8 +32,8 @@ impl Display for Decimal {
     }
 }
 
-/// To the precision: `2007T`, `2007-02T`, `2007-02-23`, `2007-02-23T12:14Z`. In place of `Z` stands another offset, as in
-/// `+01:00`, or `-00:00` where it is unknown.
+/// To the precision: `2007T`, `2007-02T`, `2007-02-23`, `2007-02-23T12:14Z`. In place of `Z` stands
+/// another offset, as in `+01:00`, or `-00:00` where it is unknown.
 impl Display for Timestamp {
     ghost output = { λ timestamp. Some (timestamp_text timestamp) };
 
@@ -118,7 +120,8 @@ fn day<W: fmt::Write>(f: &mut Formatter<W>, local: Local) -> fmt::Result
 }
 
 fn minute<W: fmt::Write>(f: &mut Formatter<W>, local: Local) -> fmt::Result
-    requires { (local.year < 10000) × (local.month < 100) × (local.day < 100) × (local.hour < 100) × (local.minute < 100) }
+    requires { (local.year < 10000) × (local.month < 100) × (local.day < 100) × (local.hour < 100)
+        × (local.minute < 100) }
     ensures { WritesOnOk W.write_str_gives f.old result (minute_text local) f.new }
 {
     day(f, local)?;
@@ -129,7 +132,8 @@ fn minute<W: fmt::Write>(f: &mut Formatter<W>, local: Local) -> fmt::Result
 }
 
 fn second<W: fmt::Write>(f: &mut Formatter<W>, local: Local) -> fmt::Result
-    requires { (local.year < 10000) × (local.month < 100) × (local.day < 100) × (local.hour < 100) × (local.minute < 100) × (local.second < 100) }
+    requires { (local.year < 10000) × (local.month < 100) × (local.day < 100) × (local.hour < 100)
+        × (local.minute < 100) × (local.second < 100) }
     ensures { WritesOnOk W.write_str_gives f.old result (second_text local) f.new }
 {
     minute(f, local)?;

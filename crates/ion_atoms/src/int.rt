@@ -8,7 +8,8 @@ use crate::halves::Halves;
 use std::fmt::{self, Debug, Formatter};
 use std::marker::Model;
 
-/// An int of magnitude below 2^127, which contracts see as a whole number. Ion itself sets ints no bound.
+/// An int of magnitude below 2^127, which contracts see as a whole number. Ion itself sets ints no
+/// bound.
 #[derive(Clone, Copy)]
 pub struct Whole {
     // the value in two's complement
@@ -54,7 +55,8 @@ impl Debug for Whole {
 }
 
 impl Whole {
-    /// The int of this value; `None` exactly where the magnitude is 2^127, the one that is out of range.
+    /// The int of this value; `None` exactly where the magnitude is 2^127, the one that is out of
+    /// range.
     #[inline(always)]
     pub fn new(value: i128) -> Option<Whole>
         ensures { SomeIff result (IsWhole value) value }

@@ -1,22 +1,22 @@
-//! What values of Amazon Ion 1.0 consist of, but for symbols and values themselves: kinds, ints, decimals, timestamps and
-//! texts; and the reasons for which octets are refused.
+//! What values of Amazon Ion 1.0 consist of, but for symbols and values themselves: kinds, ints,
+//! decimals, timestamps and texts; and the reasons for which octets are refused.
 #![tactic(auto)]
 
 pub mod calendar;
 mod decimal;
 mod display;
 mod halves;
+mod int;
 mod kind;
 mod orders;
 mod refusal;
 mod text;
 pub mod time_laws;
 mod timestamp;
-mod int;
 
 pub use decimal::Decimal;
+pub use int::Whole;
 pub use kind::Kind;
 pub use refusal::{Reason, Refusal};
 pub use text::{Bytes, Text};
 pub use timestamp::{Local, Precision, Timestamp};
-pub use int::Whole;

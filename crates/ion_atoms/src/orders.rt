@@ -1,5 +1,5 @@
-//! Orders and hashes of ints, decimals, timestamps, texts and octets as std's traits have them, so that sorts and maps take
-//! them.
+//! Orders and hashes of ints, decimals, timestamps, texts and octets as std's traits have them, so
+//! that sorts and maps take them.
 ghost use Rattle.std.specs.Prelude.{refl, nat_eq};
 ghost use Rattle.std.specs.Cmp.{int_cmp_total, partial_equiv_from_equiv, partial_order_from_own_ties, partial_order_from_total};
 ghost use Rattle.std.specs.Cmp.Lexicographic.{nat_list_cmp_total, slice_cmp, texts_po, texts_ties};
@@ -16,9 +16,9 @@ ghost use Rattle.ion_atoms.specs.laws.Ties.{timestamp_ties};
 ghost use Rattle.ion_atoms.specs.laws.Hashed.{timestamps_alike};
 
 use crate::decimal::Decimal;
+use crate::int::Whole;
 use crate::text::{Bytes, Text};
 use crate::timestamp::Timestamp;
-use crate::int::Whole;
 use std::cmp::Ordering;
 use std::hash::{Hash, Hasher};
 

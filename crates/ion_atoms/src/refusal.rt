@@ -5,8 +5,8 @@ ghost use Rattle.ion_atoms.specs.Reasons.{reason_number, reason_name, is_of_prof
 use std::alloc::{AllocError, AllocFailed};
 use std::fmt::{self, Display, Formatter};
 
-/// Why octets are refused. Where two reasons fall on one octet, the one of the smaller number answers. The derived order
-/// is that of the numbers.
+/// Why octets are refused. Where two reasons fall on one octet, the one of the smaller number
+/// answers. The derived order is that of the numbers.
 #[derive(Clone, Copy, Debug, PartialEq, Eq, PartialOrd, Ord, Hash)]
 pub enum Reason {
     /// A growth was refused: there is too little memory.
@@ -93,9 +93,10 @@ impl Reason {
         }
     }
 
-    /// Whether octets that are refused for it may be Ion 1.0 all the same, which this project doesn't read
-    /// (`docs/FORMAT.md`), or not within these limits and under this catalog. Octets refused for another
-    /// reason are no Ion 1.0, or want of memory and of further octets says nothing of them.
+    /// Whether octets that are refused for it may be Ion 1.0 all the same, which this project
+    /// doesn't read (`docs/FORMAT.md`), or not within these limits and under this catalog. Octets
+    /// refused for another reason are no Ion 1.0, or want of memory and of further octets says
+    /// nothing of them.
     pub fn is_of_profile(self) -> bool
         ensures { result ≡ is_of_profile self }
     {
@@ -130,9 +131,9 @@ impl std::error::Error for Reason {}
 /// A refusal: where it came, and why.
 #[derive(Clone, Copy, Debug, PartialEq, Eq)]
 pub struct Refusal {
-    /// How many octets decided it: no document begins with that many of the input's first octets, or,
-    /// where the input's end decided it, this is the input's length. At `Memory` it says nothing but
-    /// how many octets were read before.
+    /// How many octets decided it: no document begins with that many of the input's first octets,
+    /// or, where the input's end decided it, this is the input's length. At `Memory` it says
+    /// nothing but how many octets were read before.
     pub offset: u64,
     pub reason: Reason,
 }

@@ -23,8 +23,8 @@ pub enum Precision {
     Fraction(u8),
 }
 
-/// The fields of a point in time as its place's clock and calendar show it. Those past the precision
-/// are 1 (month and day) or 0.
+/// The fields of a point in time as its place's clock and calendar show it. Those past the
+/// precision are 1 (month and day) or 0.
 #[derive(Debug, Clone, Copy, PartialEq, Eq)]
 pub struct Local {
     /// 1 to 9999.
@@ -92,12 +92,13 @@ impl Debug for Timestamp {
 impl Timestamp {
     /// The timestamp of these parts (Ion 1.0, "Timestamp"). `None` exactly where there is none: the
     /// date is no day of the years 1 to 9999 or the time no time of day, a field past the precision
-    /// isn't the least (1 for month and day, else 0), a fraction hasn't 1 to 38 digits or isn't below
-    /// ten to their number, the offset isn't from -1439 to 1439 minutes or is known below minute
-    /// precision, or the minute lies outside the years 1 to 9999 in UTC. The bounds of the digits, of
-    /// offsets, and of years in UTC are this project's. Takes no memory.
+    /// isn't the least (1 for month and day, else 0), a fraction hasn't 1 to 38 digits or isn't
+    /// below ten to their number, the offset isn't from -1439 to 1439 minutes or is known below
+    /// minute precision, or the minute lies outside the years 1 to 9999 in UTC. The bounds of the
+    /// digits, of offsets, and of years in UTC are this project's. Takes no memory.
     pub fn new(local: Local, precision: Precision, offset: Option<i16>) -> Option<Timestamp>
-        ensures { let parts : TimestampParts = record { local = local; precision = precision; offset = offset } in
+        ensures { let parts : TimestampParts =
+            record { local = local; precision = precision; offset = offset } in
             SomeIff result (IsTimestamp parts) parts }
     {
         let date = Date::new(local.year, local.month, local.day)?;
@@ -118,13 +119,15 @@ impl Timestamp {
         Some(Timestamp::of_parts(local, precision, offset))
     }
 
-    /// The timestamp of parts that are known to be one (Ion 1.0, "Timestamp"): nothing is judged. Takes
-    /// no memory.
+    /// The timestamp of parts that are known to be one (Ion 1.0, "Timestamp"): nothing is judged.
+    /// Takes no memory.
     #[inline(always)]
     pub fn of_parts(local: Local, precision: Precision, offset: Option<i16>) -> Timestamp
-        requires { let parts : TimestampParts = record { local = local; precision = precision; offset = offset } in
+        requires { let parts : TimestampParts =
+            record { local = local; precision = precision; offset = offset } in
             IsTimestamp parts }
-        ensures { let parts : TimestampParts = record { local = local; precision = precision; offset = offset } in
+        ensures { let parts : TimestampParts =
+            record { local = local; precision = precision; offset = offset } in
             result ≡ parts }
     {
         Timestamp {
@@ -164,7 +167,8 @@ impl Timestamp {
         self.precision
     }
 
-    /// How many minutes the place's clock is ahead of UTC, -1439 to 1439; `None` where it is unknown.
+    /// How many minutes the place's clock is ahead of UTC, -1439 to 1439; `None` where it is
+    /// unknown.
     pub fn offset(self) -> Option<i16>
         ensures value { result ≡ self.offset }
         ensures range { HasOffset self.precision result }
@@ -180,8 +184,8 @@ impl Timestamp {
         precisions && same_offsets(self.offset, other.offset) && self.local().same(other.local())
     }
 
-    /// The order of timestamps: by precision (year first, fewer digits first), then the unknown offset
-    /// first and others by their number, then by the local fields from the year on.
+    /// The order of timestamps: by precision (year first, fewer digits first), then the unknown
+    /// offset first and others by their number, then by the local fields from the year on.
     pub fn order(self, other: Timestamp) -> Ordering
         ensures { result ≡ timestamp_cmp self other }
     {

@@ -10,7 +10,13 @@ last_octet (octet ∷ []) = octet
 last_octet (octet ∷ following ∷ rest) = last_octet (following ∷ rest)
 
 abbrev pub spot_of : List ℕ → Spot
-spot_of octets = record { lines = lines_before octets; octets = length (last_line octets); characters = characters (last_line octets); last = last_octet octets }
+spot_of octets = record {
+  lines = lines_before octets;
+  octets = length (last_line octets);
+  characters =
+      characters (last_line octets);
+  last = last_octet octets;
+}
 
 -- at the next octet, which begins a line or not, and begins so many characters
 abbrev pub stepped : Bool → ℕ → Spot → ℕ → Spot

@@ -19,9 +19,9 @@ pub struct Position {
     pub column: u64,
 }
 
-/// Where the octet with this number stands, counted from 1 as offsets of refusals are; where the text has
-/// fewer octets, its last one, and at its front where there is none. `reader` has to stand at the front of
-/// the text, and isn't read beyond that octet.
+/// Where the octet with this number stands, counted from 1 as offsets of refusals are; where the
+/// text has fewer octets, its last one, and at its front where there is none. `reader` has to stand
+/// at the front of the text, and isn't read beyond that octet.
 ///
 /// The only fault is `Read`, where the reader failed.
 pub fn position_of<R: Inlet>(reader: &mut R, offset: u64) -> Result<Position, Fault>
@@ -29,7 +29,8 @@ pub fn position_of<R: Inlet>(reader: &mut R, offset: u64) -> Result<Position, Fa
     ensures few_calls { R.calls_made reader.new ≤ R.calls_made reader.old + offset }
     ensures no_read_failed { OnOk result
         ((reader.new ≡ reader.old) ⊎ (R.has_failed reader.new ≡ false)) }
-    ensures cause { IfErr result (λ fault. (fault ≡ Fault.Read) × (R.has_failed reader.new ≡ true)) }
+    ensures cause { IfErr result (λ fault. (fault ≡ Fault.Read)
+        × (R.has_failed reader.new ≡ true)) }
 {
     let mut piece = [0; PIECE];
     let mut spot = Spot::new();

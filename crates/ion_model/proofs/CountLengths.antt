@@ -19,7 +19,8 @@ length-without [] k h = absurd (omega arith)
 length-without (x ∷ xs) zero h = refl
 length-without (x ∷ xs) (suc k) h = omega (arith, length-without xs k (omega arith))
 
-count_by-without : {X : Type 0} (p : X → Bool) (xs : List X) (k : ℕ) (d : X) → k < length xs → count_by p xs ≡ cond (p (get_or xs k d)) 1 0 + count_by p (without xs k)
+count_by-without : {X : Type 0} (p : X → Bool) (xs : List X) (k : ℕ) (d : X) → k < length xs
+    → count_by p xs ≡ cond (p (get_or xs k d)) 1 0 + count_by p (without xs k)
 unfolding without
 count_by-without p [] k d h = absurd (omega arith)
 count_by-without p (x ∷ xs) zero d h = count_by-cons p x xs

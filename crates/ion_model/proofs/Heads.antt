@@ -28,7 +28,8 @@ not_full true false g p q h = refl
 not_full true true g p q h = q ∙ h
 
 -- behind a kind and nullness that decide, nothing counts
-decided : (k f r s : Ordering) → (ordering_then k f ≡ Equal → ordering_then r s ≡ Equal) → ordering_then k f ≡ ordering_then (ordering_then k (ordering_then f r)) s
+decided : (k f r s : Ordering) → (ordering_then k f ≡ Equal → ordering_then r s ≡ Equal)
+    → ordering_then k f ≡ ordering_then (ordering_then k (ordering_then f r)) s
 decided Less f r s h = refl
 decided Greater f r s h = refl
 decided Equal Less r s h = refl
@@ -57,4 +58,5 @@ module _ (R : Value → Value → Ordering) where
 
   pub heads_decide : (a b : Layer) → alike a b ≡ false → heads_cmp a b ≡ layer_cmp R a b
   heads_decide a b h =
-      decided (nat_cmp (scalar a).kind (scalar b).kind) (bool_cmp (scalar a).full (scalar b).full) (parts_cmp (scalar a) (scalar b)) (inside_cmp a b) (nulls_tie a b h)
+      decided (nat_cmp (scalar a).kind (scalar b).kind) (bool_cmp (scalar a).full (scalar b).full) (parts_cmp (scalar a) (scalar b)) (inside_cmp a b)
+      (nulls_tie a b h)

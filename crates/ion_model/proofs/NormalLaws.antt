@@ -46,7 +46,8 @@ same_payload v w e h =
     same-is v w ∙ both _ _ (rw e ((lists_equiv symbol_same-equiv).refl w.annotations)) h
 
 -- one item is replaced
-pub pointwise-set : {X : Type 0} (E : X → X → Bool) (xs ys : List X) (i : ℕ) (x d : X) → i < length xs → pointwise E xs ys ≡ true → E x (get_or ys i d) ≡ true → pointwise E (set xs i x) ys ≡ true
+pub pointwise-set : {X : Type 0} (E : X → X → Bool) (xs ys : List X) (i : ℕ) (x d : X) → i < length xs → pointwise E xs ys ≡ true → E x (get_or ys i d) ≡ true
+    → pointwise E (set xs i x) ys ≡ true
 pointwise-set E [] ys i x d lt h e = absurd (omega arith)
 pointwise-set E (y ∷ xs) [] i x d lt h e = cc
 pointwise-set E (y ∷ xs) (z ∷ ys) zero x d lt h e = both _ _ e (second _ _ h)
@@ -73,9 +74,11 @@ pub fields_moved : (xs ys zs : List Field) → pointwise (field_same same) ys xs
 fields_moved xs ys zs h p = alike_from (field_same same) zs xs (counts_moved (field_same same) (field_same-equiv same same-equiv) xs ys zs h p)
 
 -- the value with a payload put back
-pub same_with : (v : Value) (p q : Payload) → q ≡ v.payload → layer_same same (out-Payload p) (out-Payload q) ≡ true → same (roll-Value (record { annotations = v.annotations; payload = p })) v ≡ true
+pub same_with : (v : Value) (p q : Payload) → q ≡ v.payload → layer_same same (out-Payload p) (out-Payload q) ≡ true
+    → same (roll-Value (record { annotations = v.annotations; payload = p })) v ≡ true
 same_with v p q e h =
-    same_payload (roll-Value (record { annotations = v.annotations; payload = p })) v refl (subst (λ r. layer_same same (out-Payload p) (out-Payload r) ≡ true) e h)
+    same_payload (roll-Value (record { annotations = v.annotations; payload = p })) v refl
+    (subst (λ r. layer_same same (out-Payload p) (out-Payload r) ≡ true) e h)
 
 module _ {X : Type 0} (E : X → X → Bool) where
   -- a walk that changes the item at i
@@ -84,14 +87,16 @@ module _ {X : Type 0} (E : X → X → Bool) where
   walked now was i x y lt h later is e = pointwise-set E now was i x y lt h (subst (λ z. E x z ≡ true) (is ∙ later i y (omega arith)) e)
 
 -- what a walk keeps of the items that come
-pub later_more : {X : Type 0} (now was : List X) (i : ℕ) (x : X) → ((k : ℕ) (d : X) → i ≤ k → get_or now k d ≡ get_or was k d) → (k : ℕ) (d : X) → i + 1 ≤ k → get_or (set now i x) k d ≡ get_or was k d
+pub later_more : {X : Type 0} (now was : List X) (i : ℕ) (x : X) → ((k : ℕ) (d : X) → i ≤ k → get_or now k d ≡ get_or was k d) → (k : ℕ) (d : X) → i + 1 ≤ k
+    → get_or (set now i x) k d ≡ get_or was k d
 later_more now was i x later k d le = let ne : k ≢ i = omega arith in get_or-set_other now i k x d ne ∙ later k d (omega arith)
 
 last_or_below : (k i : ℕ) → k < i + 1 → (k ≡ i) ⊎ (k < i)
 last_or_below k i h = ⊎_elim (λ (e : k ≡ i). inl e) (λ (n : k ≢ i). inr (omega arith)) (cases_eq k i)
 
 -- and says of those that are done
-pub done_more : {X : Type 0} (P : X → Type 0) (now : List X) (i : ℕ) (x : X) → i < length now → ((k : ℕ) (d : X) → k < i → P (get_or now k d)) → P x → (k : ℕ) (d : X) → k < i + 1 → P (get_or (set now i x) k d)
+pub done_more : {X : Type 0} (P : X → Type 0) (now : List X) (i : ℕ) (x : X) → i < length now → ((k : ℕ) (d : X) → k < i → P (get_or now k d)) → P x
+    → (k : ℕ) (d : X) → k < i + 1 → P (get_or (set now i x) k d)
 done_more P now i x lt done p k d below = ⊎_elim
     (λ (e : k ≡ i). subst P (sym (ap (λ j. get_or (set now i x) j d) e ∙ get_or-set_same now i x d lt)) p)
     (λ (h : k < i). let ne : k ≢ i = omega arith in subst P (sym (get_or-set_other now i k x d ne)) (done k d h))
@@ -102,8 +107,10 @@ always_ok (Ok x) = tt
 always_ok (Err e) = tt
 
 -- what the sort leaves, by a closure that answers by the order of fields
-pub sorted_rows : {T E F : Type 0} (g : Mut F (Bor Field × (Bor Field × Unit {0})) Ordering) (f : F) (fs : List Field) (r : Result T E) → OnOk r (IsSortedByClosure g f fs)
-    → ((f : F) (a : Bor Field × (Bor Field × Unit {0})) (o : Ordering) (f' : F) → Called g f a o f' → o ≡ field_cmp order a.0.now a.1.0.now) → OnOk r (FieldsInOrder fs)
+pub sorted_rows : {T E F : Type 0} (g : Mut F (Bor Field × (Bor Field × Unit {0})) Ordering) (f : F) (fs : List Field) (r : Result T E)
+    → OnOk r (IsSortedByClosure g f fs)
+    → ((f : F) (a : Bor Field × (Bor Field × Unit {0})) (o : Ordering) (f' : F) → Called g f a o f' → o ≡ field_cmp order a.0.now a.1.0.now)
+    → OnOk r (FieldsInOrder fs)
 sorted_rows g f fs (Ok x) h each =
     h (λ x y. is_lt (field_cmp order x y)) (ranks_by (field_cmp-total order order-total) (λ (x : Field). x))
     (answers_always g (λ a r. is_lt r ≡ is_lt (field_cmp order a.0.now a.1.0.now)) f (λ f a o f' c. ap is_lt (each f a o f' c)))

@@ -82,7 +82,8 @@ in_order fs up k d low h = rw (add-one k) (placed fs up k d (omega arith))
 
 -- the fields that are put are counted as before
 module _ (E : Field → Field → Bool) where
-  put_counts_at : (x f g : Field) (gs : List Field) (b : Bool) → count E (put f gs) x ≡ bit (E x f) + count E gs x → count E (cond b (g ∷ put f gs) (f ∷ g ∷ gs)) x ≡ bit (E x f) + count E (g ∷ gs) x
+  put_counts_at : (x f g : Field) (gs : List Field) (b : Bool) → count E (put f gs) x ≡ bit (E x f) + count E gs x
+      → count E (cond b (g ∷ put f gs) (f ∷ g ∷ gs)) x ≡ bit (E x f) + count E (g ∷ gs) x
   put_counts_at x f g gs true h = omega (arith, h, count_by-cons (E x) g (put f gs), count_by-cons (E x) g gs)
   put_counts_at x f g gs false h = count_by-cons (E x) f (g ∷ gs)
 
@@ -102,7 +103,8 @@ one_more f fs n all (suc k) d h = all k d (omega arith)
 rest_of : (f : Field) (fs : List Field) → AllFieldsNormal (f ∷ fs) → AllFieldsNormal fs
 rest_of f fs all k d h = all (suc k) d (omega arith)
 
-put_normal_at : (f g : Field) (gs : List Field) (b : Bool) → IsNormal f.value → AllFieldsNormal (g ∷ gs) → AllFieldsNormal (put f gs) → AllFieldsNormal (cond b (g ∷ put f gs) (f ∷ g ∷ gs))
+put_normal_at : (f g : Field) (gs : List Field) (b : Bool) → IsNormal f.value → AllFieldsNormal (g ∷ gs) → AllFieldsNormal (put f gs)
+    → AllFieldsNormal (cond b (g ∷ put f gs) (f ∷ g ∷ gs))
 put_normal_at f g gs true n all rest = one_more g (put f gs) (all 0 g (omega arith)) rest
 put_normal_at f g gs false n all rest = one_more f (g ∷ gs) n all
 
@@ -149,7 +151,12 @@ module _ (n : ℕ) (each : (v : Value) → depth v < n → NormalOf v) where
       let first = each f.value (omega arith) in
       let rest = row_forms fs (omega arith) in
       let row : Field = record { name = f.name; value = first.form } in
-      record { forms = row ∷ rest.forms; normal = one_more row rest.forms first.normal rest.normal; alike = both _ _ (both _ _ (symbol_same-equiv.refl f.name) first.alike) rest.alike }
+      record {
+        forms = row ∷ rest.forms;
+        normal = one_more row rest.forms first.normal rest.normal;
+        alike =
+            both _ _ (both _ _ (symbol_same-equiv.refl f.name) first.alike) rest.alike;
+      }
 
   -- and of the fields of a struct
   field_forms : (fs : List Field) → fields_deep fs ≤ n → (rows : List Field) × AreNormalOf rows fs
@@ -176,11 +183,13 @@ module _ (n : ℕ) (each : (v : Value) → depth v < n → NormalOf v) where
   itself v a e i f = record { form = v; normal = normal_from v (subst LayerNormal (sym e) (no_inside a i f)); alike = same-equiv.refl v }
 
   -- a value with other payloads inside
-  with_payload : (v : Value) (p : Payload) (a b : Layer) → out-Payload v.payload ≡ a → out-Payload p ≡ b → LayerNormal b → layer_same same b a ≡ true → NormalOf v
+  with_payload : (v : Value) (p : Payload) (a b : Layer) → out-Payload v.payload ≡ a → out-Payload p ≡ b → LayerNormal b → layer_same same b a ≡ true
+      → NormalOf v
   with_payload v p a b e f normal alike = record {
     form = annotated v.annotations p;
     normal = normal_from (annotated v.annotations p) (subst LayerNormal (sym f) normal);
-    alike = same_payload (annotated v.annotations p) v refl (subst (λ x. layer_same same x (out-Payload v.payload) ≡ true) (sym f) (subst (λ y. layer_same same b y ≡ true) (sym e) alike));
+    alike = same_payload (annotated v.annotations p) v refl
+        (subst (λ x. layer_same same x (out-Payload v.payload) ≡ true) (sym f) (subst (λ y. layer_same same b y ≡ true) (sym e) alike));
   }
 
   at_layer : (v : Value) (a : Layer) → out-Payload v.payload ≡ a → layer_depth a ≤ n → NormalOf v

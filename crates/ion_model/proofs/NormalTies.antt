@@ -33,12 +33,18 @@ same_to-from (suc n) v w h =
     let R = order_to n in
     let l = then_first (layer_cmp R a b) _ h in
     let k = then_second (scalar_cmp (scalar a) (scalar b)) _ l in
-    let field_back = λ (f g : Field) (e : field_cmp R f g ≡ Equal). both _ _ (symbol_back f.name g.name (then_first (symbol_cmp f.name g.name) _ e)) (same_to-from n f.value g.value (then_second (symbol_cmp f.name g.name) _ e)) in
-    let annotations_same : pointwise symbol_same v.annotations w.annotations ≡ true = pointwise_back symbol_same symbol_cmp symbol_back v.annotations w.annotations (then_second (layer_cmp R a b) _ h) in
+    let field_back = λ (f g : Field) (e : field_cmp R f g ≡ Equal). both _ _ (symbol_back f.name g.name (then_first (symbol_cmp f.name g.name) _ e))
+    (same_to-from n f.value g.value (then_second (symbol_cmp f.name g.name) _ e)) in
+    let annotations_same : pointwise symbol_same v.annotations w.annotations ≡ true =
+    pointwise_back symbol_same symbol_cmp symbol_back v.annotations w.annotations (then_second (layer_cmp R a b) _ h) in
     let scalars : scalar_same (scalar a) (scalar b) ≡ true = scalar_back (scalar a) (scalar b) (then_first (scalar_cmp (scalar a) (scalar b)) _ l) in
-    let items_same : pointwise (same_to n) (items a) (items b) ≡ true = pointwise_back (same_to n) R (same_to-from n) (items a) (items b) (then_first (slice_cmp R (items a) (items b)) _ k) in
-    let rows : pointwise (field_same (same_to n)) (fields a) (fields b) ≡ true = pointwise_back (field_same (same_to n)) (field_cmp R) field_back (fields a) (fields b) (then_second (slice_cmp R (items a) (items b)) _ k) in
-    let fields_are : fields_same (same_to n) (fields a) (fields b) ≡ true = alike_from (field_same (same_to n)) (fields a) (fields b) (pointwise_counts (field_same (same_to n)) (field_same-equiv (same_to n) (same_to-equiv n)) (fields a) (fields b) rows) in
+    let items_same : pointwise (same_to n) (items a) (items b) ≡ true =
+    pointwise_back (same_to n) R (same_to-from n) (items a) (items b) (then_first (slice_cmp R (items a) (items b)) _ k) in
+    let rows : pointwise (field_same (same_to n)) (fields a) (fields b) ≡ true =
+    pointwise_back (field_same (same_to n)) (field_cmp R) field_back (fields a) (fields b) (then_second (slice_cmp R (items a) (items b)) _ k) in
+    let fields_are : fields_same (same_to n) (fields a) (fields b) ≡ true =
+    alike_from (field_same (same_to n)) (fields a) (fields b)
+    (pointwise_counts (field_same (same_to n)) (field_same-equiv (same_to n) (same_to-equiv n)) (fields a) (fields b) rows) in
     both _ _ annotations_same (both _ _ scalars (both _ _ items_same fields_are))
 
 pub same-from_order : (v w : Value) → order v w ≡ Equal → same v w ≡ true
@@ -47,7 +53,8 @@ same-from_order v w h =
     sym ((same-agrees n).at v w (omega arith) (omega arith)) ∙ same_to-from n v w ((order-agrees n).at v w (omega arith) (omega arith) ∙ h)
 
 pub field_back : (f g : Field) → field_cmp order f g ≡ Equal → field_same same f g ≡ true
-field_back f g e = both _ _ (symbol_back f.name g.name (then_first (symbol_cmp f.name g.name) _ e)) (same-from_order f.value g.value (then_second (symbol_cmp f.name g.name) _ e))
+field_back f g e = both _ _ (symbol_back f.name g.name (then_first (symbol_cmp f.name g.name) _ e))
+    (same-from_order f.value g.value (then_second (symbol_cmp f.name g.name) _ e))
 
 get-greatest : {A : Type 0} (f : A → ℕ) (xs : List A) (i : ℕ) (d : A) → i < length xs → f (get_or xs i d) ≤ greatest (map f xs)
 get-greatest f [] i d h = absurd (omega arith)
@@ -71,37 +78,49 @@ ties_to (suc n) v w p q nv nw h =
     let si = second (scalar_same (scalar a) (scalar b)) _ sl in
     let items_tie : slice_cmp order (items a) (items b) ≡ Equal =
     pointwise_tie same order (items a) (items b)
-    (λ k d lx ly e. ties_to n (get_or (items a) k d) (get_or (items b) k d) (omega (arith, ia, get-greatest (λ x. suc (depth x)) (items a) k d lx)) (omega (arith, ib, get-greatest (λ x. suc (depth x)) (items b) k d ly)) (la.0 k d lx) (lb.0 k d ly) e)
+    (λ k d lx ly e. ties_to n (get_or (items a) k d) (get_or (items b) k d) (omega (arith, ia, get-greatest (λ x. suc (depth x)) (items a) k d lx))
+    (omega (arith, ib, get-greatest (λ x. suc (depth x)) (items b) k d ly)) (la.0 k d lx) (lb.0 k d ly) e)
     (first (pointwise same (items a) (items b)) _ si) in
     let fields_tie : slice_cmp (field_cmp order) (fields a) (fields b) ≡ Equal =
     tie (field_same same) (field_same-equiv same same-equiv) (field_cmp order) (field_cmp-total order order-total) (fields a) (fields b) la.2 lb.2
     (record {
-      from = λ i j d lx ly e. then_tie _ _ (symbol_tie (get_or (fields a) i d).name (get_or (fields b) j d).name (first (symbol_same (get_or (fields a) i d).name (get_or (fields b) j d).name) _ e))
-          (ties_to n (get_or (fields a) i d).value (get_or (fields b) j d).value (omega (arith, fa, get-greatest (λ f. suc (depth f.value)) (fields a) i d lx)) (omega (arith, fb, get-greatest (λ f. suc (depth f.value)) (fields b) j d ly)) (la.1 i d lx) (lb.1 j d ly)
+      from = λ i j d lx ly e. then_tie _ _ (symbol_tie (get_or (fields a) i d).name (get_or (fields b) j d).name
+          (first (symbol_same (get_or (fields a) i d).name (get_or (fields b) j d).name) _ e))
+          (ties_to n (get_or (fields a) i d).value (get_or (fields b) j d).value (omega (arith, fa, get-greatest (λ f. suc (depth f.value)) (fields a) i d lx))
+          (omega (arith, fb, get-greatest (λ f. suc (depth f.value)) (fields b) j d ly)) (la.1 i d lx) (lb.1 j d ly)
           (second (symbol_same (get_or (fields a) i d).name (get_or (fields b) j d).name) _ e));
-      back = λ i j d lx ly e. both _ _ (symbol_back (get_or (fields a) i d).name (get_or (fields b) j d).name (then_first (symbol_cmp (get_or (fields a) i d).name (get_or (fields b) j d).name) _ e)) (same-from_order (get_or (fields a) i d).value (get_or (fields b) j d).value (then_second (symbol_cmp (get_or (fields a) i d).name (get_or (fields b) j d).name) _ e));
+      back = λ i j d lx ly e. both _ _ (symbol_back (get_or (fields a) i d).name (get_or (fields b) j d).name
+          (then_first (symbol_cmp (get_or (fields a) i d).name (get_or (fields b) j d).name) _ e))
+          (same-from_order (get_or (fields a) i d).value (get_or (fields b) j d).value
+          (then_second (symbol_cmp (get_or (fields a) i d).name (get_or (fields b) j d).name) _ e));
     })
     (counts_from (field_same same) (field_same-equiv same same-equiv) (fields a) (fields b) (second (pointwise same (items a) (items b)) _ si)) in
     order-is v w
-    ∙ then_tie _ _ (then_tie _ _ (scalar_tie (scalar a) (scalar b) (first (scalar_same (scalar a) (scalar b)) _ sl)) (then_tie _ _ items_tie fields_tie)) (pointwise_tie symbol_same symbol_cmp v.annotations w.annotations (λ k d lx ly e. symbol_tie (get_or v.annotations k d) (get_or w.annotations k d) e) (first (pointwise symbol_same v.annotations w.annotations) _ s))
+    ∙ then_tie _ _ (then_tie _ _ (scalar_tie (scalar a) (scalar b) (first (scalar_same (scalar a) (scalar b)) _ sl)) (then_tie _ _ items_tie fields_tie))
+    (pointwise_tie symbol_same symbol_cmp v.annotations w.annotations (λ k d lx ly e. symbol_tie (get_or v.annotations k d) (get_or w.annotations k d) e)
+    (first (pointwise symbol_same v.annotations w.annotations) _ s))
 
 pub order-from_same : (v w : Value) → IsNormal v → IsNormal w → same v w ≡ true → order v w ≡ Equal
 order-from_same v w = ties_to (suc (max (depth v) (depth w))) v w (omega arith) (omega arith)
 
 -- the fields of two structs, of which the values are in normal form, and which are in order
-pub fields-order_from_same : (fs gs : List Field) → AllFieldsNormal fs → AllFieldsNormal gs → FieldsInOrder fs → FieldsInOrder gs → fields_same same fs gs ≡ true → slice_cmp (field_cmp order) fs gs ≡ Equal
+pub fields-order_from_same : (fs gs : List Field) → AllFieldsNormal fs → AllFieldsNormal gs → FieldsInOrder fs → FieldsInOrder gs
+    → fields_same same fs gs ≡ true → slice_cmp (field_cmp order) fs gs ≡ Equal
 fields-order_from_same fs gs nf ng uf ug h =
     tie (field_same same) (field_same-equiv same same-equiv) (field_cmp order) (field_cmp-total order order-total) fs gs uf ug
     (record {
-      from = λ i j d lx ly e. then_tie _ _ (symbol_tie (get_or fs i d).name (get_or gs j d).name (first (symbol_same (get_or fs i d).name (get_or gs j d).name) _ e))
-          (order-from_same (get_or fs i d).value (get_or gs j d).value (nf i d lx) (ng j d ly) (second (symbol_same (get_or fs i d).name (get_or gs j d).name) _ e));
+      from = λ i j d lx ly e. then_tie _ _ (symbol_tie (get_or fs i d).name (get_or gs j d).name
+          (first (symbol_same (get_or fs i d).name (get_or gs j d).name) _ e))
+          (order-from_same (get_or fs i d).value (get_or gs j d).value (nf i d lx) (ng j d ly)
+          (second (symbol_same (get_or fs i d).name (get_or gs j d).name) _ e));
       back = λ i j d lx ly e. field_back (get_or fs i d) (get_or gs j d) e;
     })
     (counts_from (field_same same) (field_same-equiv same same-equiv) fs gs h)
 
 pub fields-same_from_order : (fs gs : List Field) → slice_cmp (field_cmp order) fs gs ≡ Equal → fields_same same fs gs ≡ true
 fields-same_from_order fs gs h =
-    alike_from (field_same same) fs gs (pointwise_counts (field_same same) (field_same-equiv same same-equiv) fs gs (pointwise_back (field_same same) (field_cmp order) field_back fs gs h))
+    alike_from (field_same same) fs gs (pointwise_counts (field_same same) (field_same-equiv same same-equiv) fs gs
+    (pointwise_back (field_same same) (field_cmp order) field_back fs gs h))
 
 -- what the order of two structs' fields in normal form tells
 pub tied-fields : (fs gs l r : List Field) → AreNormalOf l fs → AreNormalOf r gs → is_eq (slice_cmp (field_cmp order) l r) ≡ fields_same same fs gs

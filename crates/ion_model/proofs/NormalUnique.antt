@@ -34,7 +34,8 @@ module _ {X : Type 0} (E : X → X → Bool) (e : IsEquivalence E) (R : X → X 
       let ty : R (get_or (x ∷ xs) fy.place x) y ≡ Equal = ties.from fy.place 0 x fy.within (omega arith) (e.symm _ y ∙ fy.alike x) in
       -- y is not above what ties with x, and x not above what ties with y
       let a : is_lt (R x y) ≡ false = ap is_lt (o.congr x (get_or (y ∷ ys) fx.place y) y tx) ∙ first_least y ys upy fx.place y fx.within in
-      let b : is_lt (R y x) ≡ false = ap is_lt (o.congr y (get_or (x ∷ xs) fy.place x) x (o.antisymm y _ ∙ ap ordering_reverse ty)) ∙ first_least x xs upx fy.place x fy.within in
+      let b : is_lt (R y x) ≡ false = ap is_lt (o.congr y (get_or (x ∷ xs) fy.place x) x (o.antisymm y _ ∙ ap ordering_reverse ty))
+      ∙ first_least x xs upx fy.place x fy.within in
       not_less (R y x) (R x y) (o.antisymm y x) b a
 
   tail_up : (x : X) (xs : List X) → Up (x ∷ xs) → Up xs

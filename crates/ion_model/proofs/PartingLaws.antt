@@ -80,7 +80,8 @@ heads_from : (v w : Value) → same v w ≡ true → heads_same v w ≡ true
 heads_from v w h =
     let s = sym (same-is v w) ∙ h in
     let l = second (pointwise symbol_same v.annotations w.annotations) _ s in
-    both _ _ (first (pointwise symbol_same v.annotations w.annotations) _ s) (first (scalar_same (scalar (out-Payload v.payload)) (scalar (out-Payload w.payload))) _ l)
+    both _ _ (first (pointwise symbol_same v.annotations w.annotations) _ s)
+    (first (scalar_same (scalar (out-Payload v.payload)) (scalar (out-Payload w.payload))) _ l)
 
 -- values of which nothing is looked into part at once
 pub ends_here : (v w : Value) → both_hold (out-Payload v.payload) (out-Payload w.payload) ≡ false → same v w ≡ false → heads_same v w ≡ false
@@ -93,8 +94,10 @@ ends_here v w none differ = not_true _ (λ h.
     true≢false (sym (same-is v w ∙ both _ _ ann (both _ _ sc (inside same a b none k))) ∙ differ))
 
 -- values are equivalent if their annotations agree and one level inside does
-same_at : (v w : Value) (a b : Layer) → out-Payload v.payload ≡ a → out-Payload w.payload ≡ b → pointwise symbol_same v.annotations w.annotations ≡ true → layer_same same a b ≡ true → same v w ≡ true
-same_at v w a b p q ann h = same-is v w ∙ both _ _ ann (subst (λ x. layer_same same x (out-Payload w.payload) ≡ true) (sym p) (subst (λ y. layer_same same a y ≡ true) (sym q) h))
+same_at : (v w : Value) (a b : Layer) → out-Payload v.payload ≡ a → out-Payload w.payload ≡ b → pointwise symbol_same v.annotations w.annotations ≡ true
+    → layer_same same a b ≡ true → same v w ≡ true
+same_at v w a b p q ann h = same-is v w ∙ both _ _ ann (subst (λ x. layer_same same x (out-Payload w.payload) ≡ true) (sym p)
+    (subst (λ y. layer_same same a y ≡ true) (sym q) h))
 
 -- no test is both true and false
 pub contra : (b : Bool) → b ≡ true → b ≡ false → ⊥
@@ -104,12 +107,14 @@ contra b p q = true≢false (sym p ∙ q)
 pub list_parts : (v w : Value) (vs ws : List Value) → v.payload ≡ payloads.List vs → w.payload ≡ payloads.List ws
     → pointwise symbol_same v.annotations w.annotations ≡ true → same v w ≡ false → pointwise same vs ws ≡ false
 list_parts v w vs ws p q ann differ = not_true _ (λ h.
-    contra _ (same_at v w (Payload-F.List vs) (Payload-F.List ws) (ap out-Payload p ∙ outs-List vs) (ap out-Payload q ∙ outs-List ws) ann (both _ _ h refl)) differ)
+    contra _ (same_at v w (Payload-F.List vs) (Payload-F.List ws) (ap out-Payload p ∙ outs-List vs) (ap out-Payload q ∙ outs-List ws) ann (both _ _ h refl))
+    differ)
 
 pub sexp_parts : (v w : Value) (vs ws : List Value) → v.payload ≡ payloads.Sexp vs → w.payload ≡ payloads.Sexp ws
     → pointwise symbol_same v.annotations w.annotations ≡ true → same v w ≡ false → pointwise same vs ws ≡ false
 sexp_parts v w vs ws p q ann differ = not_true _ (λ h.
-    contra _ (same_at v w (Payload-F.Sexp vs) (Payload-F.Sexp ws) (ap out-Payload p ∙ outs-Sexp vs) (ap out-Payload q ∙ outs-Sexp ws) ann (both _ _ h refl)) differ)
+    contra _ (same_at v w (Payload-F.Sexp vs) (Payload-F.Sexp ws) (ap out-Payload p ∙ outs-Sexp vs) (ap out-Payload q ∙ outs-Sexp ws) ann (both _ _ h refl))
+    differ)
 
 pub struct_parts : (v w : Value) (fs gs : List Field) → v.payload ≡ payloads.Fields fs → w.payload ≡ payloads.Fields gs
     → pointwise symbol_same v.annotations w.annotations ≡ true → same v w ≡ false → fields_same same fs gs ≡ false
@@ -117,25 +122,29 @@ struct_parts v w fs gs p q ann differ = not_true _ (λ h.
     contra _ (same_at v w (Payload-F.Fields fs) (Payload-F.Fields gs) (ap out-Payload p ∙ outs-Fields fs) (ap out-Payload q ∙ outs-Fields gs) ann h) differ)
 
 -- the items at the first place that differs aren't equivalent
-pub differ_at : (vs ws : List Value) (k : ℕ) (v w : Value) → k < length vs → k < length ws → v ≡ get_or vs k v → w ≡ get_or ws k w → EndOrDiffer (drop k vs) (drop k ws) → same v w ≡ false
+pub differ_at : (vs ws : List Value) (k : ℕ) (v w : Value) → k < length vs → k < length ws → v ≡ get_or vs k v → w ≡ get_or ws k w
+    → EndOrDiffer (drop k vs) (drop k ws) → same v w ≡ false
 differ_at [] ws k v w p q e f h = absurd (omega arith)
 differ_at (x ∷ vs) [] k v w p q e f h = absurd (omega arith)
 differ_at (x ∷ vs) (y ∷ ws) zero v w p q e f h = rw (e, f) h
 differ_at (x ∷ vs) (y ∷ ws) (suc k) v w p q e f h = differ_at vs ws k v w (omega arith) (omega arith) e f h
 
 -- one item more that agrees
-agree_suc : (vs ws : List Value) (k : ℕ) (v w : Value) → k < length vs → k < length ws → v ≡ get_or vs k v → w ≡ get_or ws k w → same v w ≡ true → pointwise same (take k vs) (take k ws) ≡ true → pointwise same (take (suc k) vs) (take (suc k) ws) ≡ true
+agree_suc : (vs ws : List Value) (k : ℕ) (v w : Value) → k < length vs → k < length ws → v ≡ get_or vs k v → w ≡ get_or ws k w → same v w ≡ true
+    → pointwise same (take k vs) (take k ws) ≡ true → pointwise same (take (suc k) vs) (take (suc k) ws) ≡ true
 agree_suc [] ws k v w p q e f h so_far = absurd (omega arith)
 agree_suc (x ∷ vs) [] k v w p q e f h so_far = absurd (omega arith)
 agree_suc (x ∷ vs) (y ∷ ws) zero v w p q e f h so_far = both _ _ (rw (← e, ← f) h) refl
 agree_suc (x ∷ vs) (y ∷ ws) (suc k) v w p q e f h so_far =
     both _ _ (first (same x y) _ so_far) (agree_suc vs ws k v w (omega arith) (omega arith) e f h (second (same x y) _ so_far))
 
-pub agree_more : (vs ws : List Value) (k : ℕ) (v w : Value) → k < length vs → k < length ws → v ≡ get_or vs k v → w ≡ get_or ws k w → same v w ≡ true → pointwise same (take k vs) (take k ws) ≡ true → pointwise same (take (k + 1) vs) (take (k + 1) ws) ≡ true
+pub agree_more : (vs ws : List Value) (k : ℕ) (v w : Value) → k < length vs → k < length ws → v ≡ get_or vs k v → w ≡ get_or ws k w → same v w ≡ true
+    → pointwise same (take k vs) (take k ws) ≡ true → pointwise same (take (k + 1) vs) (take (k + 1) ws) ≡ true
 agree_more vs ws k v w p q e f h so_far = rw (add-one k) (agree_suc vs ws k v w p q e f h so_far)
 
 -- one side ends behind the items that agree
-pub one_ends : (P : Value → Value → Type 0) (vs ws : List Value) (k : ℕ) → (k < length vs → k < length ws → ⊥) → k ≤ length vs → pointwise same (take k vs) (take k ws) ≡ true → pointwise same vs ws ≡ false → AtItems [] P (drop k vs) (drop k ws)
+pub one_ends : (P : Value → Value → Type 0) (vs ws : List Value) (k : ℕ) → (k < length vs → k < length ws → ⊥) → k ≤ length vs
+    → pointwise same (take k vs) (take k ws) ≡ true → pointwise same vs ws ≡ false → AtItems [] P (drop k vs) (drop k ws)
 one_ends P [] [] k short le agree differ = absurd (true≢false differ)
 one_ends P [] (w ∷ ws) zero short le agree differ = refl
 one_ends P [] (w ∷ ws) (suc k) short le agree differ = absurd (omega arith)
@@ -152,7 +161,8 @@ named_step : (f g : Field) (b : Bool) (fs : List Field) (n : ℕ) → n ≡ coun
 named_step f g true fs n e = omega (arith, e, count_by-cons (λ h. same f.value h.value) g fs)
 named_step f g false fs n e = omega (arith, e)
 
-named-count : (s : Option (List ℕ)) (f : Field) → symbol_same s f.name ≡ true → (fs : List Field) → field_count same fs f ≡ count_by (λ g. same f.value g.value) (filter (λ g. symbol_same s g.name) fs)
+named-count : (s : Option (List ℕ)) (f : Field) → symbol_same s f.name ≡ true → (fs : List Field)
+    → field_count same fs f ≡ count_by (λ g. same f.value g.value) (filter (λ g. symbol_same s g.name) fs)
 named-count s f is [] = refl
 named-count s f is (g ∷ fs) =
     let q : symbol_same f.name g.name ≡ symbol_same s g.name = sym (symbol_same-equiv.congr s f.name g.name is) in
@@ -166,16 +176,19 @@ only_is (g ∷ []) f e = cc
 only_is (g ∷ h ∷ fs) f e = cc
 
 -- a name that stands once counts once
-once-count : (s : Option (List ℕ)) (f x : Field) (fs : List Field) → symbol_same s f.name ≡ true → once_named s fs ≡ Some x → field_count same fs f ≡ bit (same f.value x.value) + 0
+once-count : (s : Option (List ℕ)) (f x : Field) (fs : List Field) → symbol_same s f.name ≡ true → once_named s fs ≡ Some x
+    → field_count same fs f ≡ bit (same f.value x.value) + 0
 once-count s f x fs is e =
     named-count s f is fs ∙ ap (count_by (λ g. same f.value g.value)) (only_is _ x e) ∙ count_by-cons (λ g. same f.value g.value) x []
 
 -- the values of a name that stands once in both structs part
-pub once_parts : (fs gs : List Field) (s : Option (List ℕ)) (f g : Field) → LeastParting fs gs s → once_named s fs ≡ Some f → once_named s gs ≡ Some g → same f.value g.value ≡ false
+pub once_parts : (fs gs : List Field) (s : Option (List ℕ)) (f g : Field) → LeastParting fs gs s → once_named s fs ≡ Some f → once_named s gs ≡ Some g
+    → same f.value g.value ≡ false
 once_parts fs gs s f g l p q = not_true _ (λ h.
     let x = l.field in
     let is : symbol_same s x.name ≡ true = subst (λ n. symbol_same s n ≡ true) (sym l.named) (symbol_same-equiv.refl s) in
-    let e : same x.value f.value ≡ same x.value g.value = same-equiv.symm x.value f.value ∙ same-equiv.congr f.value g.value x.value h ∙ same-equiv.symm g.value x.value in
+    let e : same x.value f.value ≡ same x.value g.value = same-equiv.symm x.value f.value ∙ same-equiv.congr f.value g.value x.value h
+    ∙ same-equiv.symm g.value x.value in
     l.parted (once-count s x f fs is p ∙ ap (λ b. bit b + 0) e ∙ sym (once-count s x g gs is q)))
 
 -- and is no deeper than the fields
@@ -196,7 +209,8 @@ once_deep s fs f e =
     omega (arith, k, deep_filter (λ g. symbol_same s g.name) fs)
 
 -- what a path leads to isn't equivalent
-items_differ : (rest : List Part) → ((v w : Value) → IsPath rest v w → same v w ≡ false) → (vs ws : List Value) (k : ℕ) → AtItems rest (IsPath rest) (drop k vs) (drop k ws) → pointwise same vs ws ≡ true → ⊥
+items_differ : (rest : List Part) → ((v w : Value) → IsPath rest v w → same v w ≡ false) → (vs ws : List Value) (k : ℕ)
+    → AtItems rest (IsPath rest) (drop k vs) (drop k ws) → pointwise same vs ws ≡ true → ⊥
 items_differ rest each [] [] zero h s = h
 items_differ rest each [] [] (suc k) h s = h
 items_differ rest each [] (w ∷ ws) k h s = true≢false (sym s)
@@ -212,8 +226,10 @@ path_differs [] v w h = not_true _ (λ s. contra _ (heads_from v w s) h)
 path_differs (parts.Item n ∷ rest) v w h = not_true _ (λ s.
     let l = second (pointwise symbol_same v.annotations w.annotations) _ (sym (same-is v w) ∙ s) in
     let i = second (scalar_same (scalar (out-Payload v.payload)) (scalar (out-Payload w.payload))) _ l in
-    items_differ rest (path_differs rest) (items (out-Payload v.payload)) (items (out-Payload w.payload)) h.1.before h.1.there (first (pointwise same (items (out-Payload v.payload)) (items (out-Payload w.payload))) _ i))
+    items_differ rest (path_differs rest) (items (out-Payload v.payload)) (items (out-Payload w.payload)) h.1.before h.1.there
+    (first (pointwise same (items (out-Payload v.payload)) (items (out-Payload w.payload))) _ i))
 path_differs (parts.Name s ∷ rest) v w h = not_true _ (λ e.
     let l = second (pointwise symbol_same v.annotations w.annotations) _ (sym (same-is v w) ∙ e) in
     let i = second (scalar_same (scalar (out-Payload v.payload)) (scalar (out-Payload w.payload))) _ l in
-    fields_differ (fields (out-Payload v.payload)) (fields (out-Payload w.payload)) s h.1.name (second (pointwise same (items (out-Payload v.payload)) (items (out-Payload w.payload))) _ i))
+    fields_differ (fields (out-Payload v.payload)) (fields (out-Payload w.payload)) s h.1.name
+    (second (pointwise same (items (out-Payload v.payload)) (items (out-Payload w.payload))) _ i))

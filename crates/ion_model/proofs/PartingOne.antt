@@ -64,7 +64,8 @@ no_fields (Payload-F.Fields fs) h = absurd (omega (arith, h))
 no_fields _ h = refl
 
 -- where nothing is inside, nothing parts
-items_gone : (rest : List Part) (Leads : Value → Value → Type 0) (vs ws : List Value) (k : ℕ) → vs ≡ [] → ws ≡ [] → AtItems rest Leads (drop k vs) (drop k ws) → ⊥
+items_gone : (rest : List Part) (Leads : Value → Value → Type 0) (vs ws : List Value) (k : ℕ) → vs ≡ [] → ws ≡ [] → AtItems rest Leads (drop k vs) (drop k ws)
+    → ⊥
 items_gone rest Leads [] [] zero e f h = h
 items_gone rest Leads [] [] (suc k) e f h = h
 items_gone rest Leads [] (w ∷ ws) k e f h = cc
@@ -74,7 +75,8 @@ fields_gone : (fs gs : List Field) (s : Option (List ℕ)) → fs ≡ [] → gs 
 fields_gone fs gs s e f l = l.parted (ap (λ hs. field_count same hs l.field) (e ∙ sym f))
 
 -- two payloads of one kind don't part both at an item and at a name
-item_or_name : (a b : Layer) → tag (scalar a) ≡ tag (scalar b) → (p q : List Part) (n : ℕ) (s : Option (List ℕ)) → ItemsPart p (IsPath p) n (items a) (items b) → FieldsPart q (IsPath q) s (fields a) (fields b) → ⊥
+item_or_name : (a b : Layer) → tag (scalar a) ≡ tag (scalar b) → (p q : List Part) (n : ℕ) (s : Option (List ℕ)) → ItemsPart p (IsPath p) n (items a) (items b)
+    → FieldsPart q (IsPath q) s (fields a) (fields b) → ⊥
 item_or_name a b e p q n s i f =
     ⊎_elim
     (λ none. ⊎_elim
@@ -85,7 +87,8 @@ item_or_name a b e p q n s i f =
     (items_or_fields a)
 
 kinds_agree : (v w : Value) → heads_same v w ≡ true → tag (scalar (out-Payload v.payload)) ≡ tag (scalar (out-Payload w.payload))
-kinds_agree v w h = ap tag (scalar_from (scalar (out-Payload v.payload)) (scalar (out-Payload w.payload)) (second (pointwise symbol_same v.annotations w.annotations) _ h))
+kinds_agree v w h = ap tag (scalar_from (scalar (out-Payload v.payload)) (scalar (out-Payload w.payload))
+    (second (pointwise symbol_same v.annotations w.annotations) _ h))
 
 pub path_one : (p q : List Part) (v w : Value) → IsPath p v w → IsPath q v w → p ≡ q
 path_one [] [] v w h k = refl
@@ -96,8 +99,10 @@ path_one (parts.Item n ∷ p) (parts.Item m ∷ q) v w h k =
     let j = k.1 in
     let r = items_one p q (path_one p q) (items (out-Payload v.payload)) (items (out-Payload w.payload)) i.before j.before i.agree j.agree i.there j.there in
     ap (λ x. parts.Item x ∷ p) (i.number ∙ ap (λ x. x + 1) r.0 ∙ sym j.number) ∙ ap (λ x. parts.Item m ∷ x) r.1
-path_one (parts.Item n ∷ p) (parts.Name t ∷ q) v w h k = absurd (item_or_name (out-Payload v.payload) (out-Payload w.payload) (kinds_agree v w h.0) p q n t h.1 k.1)
-path_one (parts.Name s ∷ p) (parts.Item m ∷ q) v w h k = absurd (item_or_name (out-Payload v.payload) (out-Payload w.payload) (kinds_agree v w h.0) q p m s k.1 h.1)
+path_one (parts.Item n ∷ p) (parts.Name t ∷ q) v w h k =
+    absurd (item_or_name (out-Payload v.payload) (out-Payload w.payload) (kinds_agree v w h.0) p q n t h.1 k.1)
+path_one (parts.Name s ∷ p) (parts.Item m ∷ q) v w h k =
+    absurd (item_or_name (out-Payload v.payload) (out-Payload w.payload) (kinds_agree v w h.0) q p m s k.1 h.1)
 path_one (parts.Name s ∷ p) (parts.Name t ∷ q) v w h k =
     let fs = fields (out-Payload v.payload) in
     let gs = fields (out-Payload w.payload) in

@@ -19,24 +19,29 @@ abbrev Symbols : Type 0
 Symbols = List (Option (List ℕ))
 
 -- two values of the same annotations, by one level of their payloads
-level : (a : Symbols) (p q : Payload) (x y : Layer) → views.out-Payload p ≡ x → views.out-Payload q ≡ y → layer_same same x y ≡ true → same (annotated a p) (annotated a q) ≡ true
+level : (a : Symbols) (p q : Payload) (x y : Layer) → views.out-Payload p ≡ x → views.out-Payload q ≡ y → layer_same same x y ≡ true
+    → same (annotated a p) (annotated a q) ≡ true
 level a p q x y e f h =
     sym (same-payload (annotated a p) (annotated a q) ((lists_equiv symbol_same-equiv).refl a))
     ∙ ap (λ l. layer_same same l (views.out-Payload q)) e ∙ ap (λ l. layer_same same x l) f ∙ h
 
-pub same-lists : (a : Symbols) (vs ws : List Value) → pointwise same vs ws ≡ true → same (annotated a (payloads.List vs)) (annotated a (payloads.List ws)) ≡ true
+pub same-lists : (a : Symbols) (vs ws : List Value) → pointwise same vs ws ≡ true → same (annotated a (payloads.List vs)) (annotated a (payloads.List ws))
+    ≡ true
 same-lists a vs ws h = level a _ _ _ _ (views.outs-List vs) (views.outs-List ws) (both _ _ h refl)
 
-pub same-sexps : (a : Symbols) (vs ws : List Value) → pointwise same vs ws ≡ true → same (annotated a (payloads.Sexp vs)) (annotated a (payloads.Sexp ws)) ≡ true
+pub same-sexps : (a : Symbols) (vs ws : List Value) → pointwise same vs ws ≡ true → same (annotated a (payloads.Sexp vs)) (annotated a (payloads.Sexp ws))
+    ≡ true
 same-sexps a vs ws h = level a _ _ _ _ (views.outs-Sexp vs) (views.outs-Sexp ws) (both _ _ h refl)
 
 structs : (a : Symbols) (fs gs : List Field) → fields_same same fs gs ≡ true → same (annotated a (payloads.Fields fs)) (annotated a (payloads.Fields gs)) ≡ true
 structs a fs gs h = level a _ _ _ _ (views.outs-Fields fs) (views.outs-Fields gs) h
 
-pub same-structs : (a : Symbols) (fs gs : List Field) → pointwise (field_same same) fs gs ≡ true → same (annotated a (payloads.Fields fs)) (annotated a (payloads.Fields gs)) ≡ true
+pub same-structs : (a : Symbols) (fs gs : List Field) → pointwise (field_same same) fs gs ≡ true
+    → same (annotated a (payloads.Fields fs)) (annotated a (payloads.Fields gs)) ≡ true
 same-structs a fs gs h = structs a fs gs (alike_from (field_same same) fs gs (pointwise_counts (field_same same) (field_same-equiv same same-equiv) fs gs h))
 
-pub same-reordered : (a : Symbols) (fs gs : List Field) → IsPermutation fs gs → same (annotated a (payloads.Fields fs)) (annotated a (payloads.Fields gs)) ≡ true
+pub same-reordered : (a : Symbols) (fs gs : List Field) → IsPermutation fs gs → same (annotated a (payloads.Fields fs)) (annotated a (payloads.Fields gs))
+    ≡ true
 same-reordered a fs gs p =
     same-equiv.symm (annotated a (payloads.Fields fs)) (annotated a (payloads.Fields gs))
     ∙ structs a gs fs (fields_moved fs fs gs ((lists_equiv (field_same-equiv same same-equiv)).refl fs) p)

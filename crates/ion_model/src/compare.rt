@@ -8,12 +8,12 @@ ghost use Rattle.ion_model.specs.declared.value.Payload.TheViews.{out-Payload};
 use crate::value::{Field, Payload, Value};
 use std::cmp::Ordering;
 
-/// The order of values: by kind, a null before the rest, then the payload, then the annotations. Bools
-/// go false first, ints by value, decimals by exponent, minus and magnitude, timestamps by precision,
-/// offset and local fields, symbols, strings, clobs and blobs by octets, an unknown symbol first, and
-/// all else item by item, a proper prefix first; the fields of a struct as they stand, each by name and
-/// then by value. It is `Equal` just for equal values. Takes no memory. Calls itself once
-/// for each level (`Value`).
+/// The order of values: by kind, a null before the rest, then the payload, then the annotations.
+/// Bools go false first, ints by value, decimals by exponent, minus and magnitude, timestamps by
+/// precision, offset and local fields, symbols, strings, clobs and blobs by octets, an unknown
+/// symbol first, and all else item by item, a proper prefix first; the fields of a struct as they
+/// stand, each by name and then by value. It is `Equal` just for equal values. Takes no memory.
+/// Calls itself once for each level (`Value`).
 pub fn order(a: &Value, b: &Value) -> Ordering
     ensures { result ≡ order a.now b.now }
 {

@@ -9,8 +9,8 @@ use ion_atoms::Reason;
 use std::alloc::Global;
 
 impl Value {
-    /// An equal value, which shares the texts of its symbols. The only refusal is `Memory`. Calls itself
-    /// once for each level.
+    /// An equal value, which shares the texts of its symbols. The only refusal is `Memory`. Calls
+    /// itself once for each level.
     pub fn copy(&self, alloc: Global) -> Result<Value, Reason>
         ensures { MatchResult result (λ v. v ≡ self.now) (λ r. r ≡ reasons.Memory) }
     {

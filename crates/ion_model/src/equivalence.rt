@@ -19,10 +19,11 @@ use crate::value::{Field, Payload, Value};
 use ion_atoms::Reason;
 use std::alloc::Global;
 
-/// Whether two values are equivalent, as `same_slow` says. The only refusal is `Memory`. Values that
-/// agree part by part, fields as they stand, take no memory. Others are compared as they stand down to
-/// their structs; two structs of n fields each are copied, their fields sorted, inner levels first, and
-/// then compared, which costs some n log n comparisons of fields. Calls itself once for each level.
+/// Whether two values are equivalent, as `same_slow` says. The only refusal is `Memory`. Values
+/// that agree part by part, fields as they stand, take no memory. Others are compared as they stand
+/// down to their structs; two structs of n fields each are copied, their fields sorted, inner
+/// levels first, and then compared, which costs some n log n comparisons of fields. Calls itself
+/// once for each level.
 pub fn equivalent(alloc: Global, a: &Value, b: &Value) -> Result<bool, Reason>
     ensures same { MatchResult result (λ r. r ≡ same a.now b.now) (λ e. e ≡ reasons.Memory) }
     ensures free { order a.now b.now ≡ Equal → result ≡ Ok true }
@@ -81,7 +82,8 @@ fn equivalent_fields(
     fs: &Sequence<Field>,
     gs: &Sequence<Field>,
 ) -> Result<bool, Reason>
-    ensures { MatchResult result (λ r. r ≡ fields_same same fs.now gs.now) (λ e. e ≡ reasons.Memory) }
+    ensures { MatchResult result (λ r. r ≡ fields_same same fs.now gs.now)
+        (λ e. e ≡ reasons.Memory) }
 {
     if fs.len() != gs.len() {
         return Ok(false);
@@ -93,7 +95,8 @@ fn equivalent_fields(
 
 // The fields in ascending order, their values in normal form.
 pub(crate) fn sorted(alloc: Global, fields: &Sequence<Field>) -> Result<Vec<Field>, Reason>
-    ensures { MatchResult result (λ rows. AreNormalOf rows.items fields.now) (λ e. e ≡ reasons.Memory) }
+    ensures { MatchResult result (λ rows. AreNormalOf rows.items fields.now)
+        (λ e. e ≡ reasons.Memory) }
 {
     let mut rows = copy_fields(alloc, fields)?.into_vec();
     match tidy_fields(alloc, &mut rows) {

@@ -11,7 +11,8 @@ use crate::compare::is_full;
 use crate::value::{Field, Payload, Value};
 use std::hash::{Hash, Hasher};
 
-/// Values that are `==` feed a hasher alike. Equivalent ones may not, where fields stand in another order: `normalise` them first.
+/// Values that are `==` feed a hasher alike. Equivalent ones may not, where fields stand in another
+/// order: `normalise` them first.
 // Calls itself once for each level (`Value`).
 impl Hash for Value {
     ghost hash_input = { hashed };

@@ -9,8 +9,8 @@ use crate::value::{Field, Payload, Value};
 use ion_atoms::{Decimal, Reason, Timestamp, Whole};
 use std::alloc::Global;
 
-/// What a value holds. Each call answers `None` where the value is of another kind, or a null; none takes
-/// memory but `fields_named` (Ion 1.0, "The Ion Data Model").
+/// What a value holds. Each call answers `None` where the value is of another kind, or a null; none
+/// takes memory but `fields_named` (Ion 1.0, "The Ion Data Model").
 impl Value {
     /// The bool.
     pub fn as_bool(&self) -> Option<bool>
@@ -115,7 +115,8 @@ impl Value {
 
     /// The value of the first field of this name; a struct may have several (`fields_named`).
     pub fn field(&self, name: &str) -> Option<&Value>
-        ensures { option_map (λ v. v.now) result ≡ slice_get (named_in name.now (out-Payload self.now.payload)) 0 }
+        ensures { option_map (λ v. v.now) result
+            ≡ slice_get (named_in name.now (out-Payload self.now.payload)) 0 }
     {
         first_named(self.fields()?, name)
     }
@@ -123,7 +124,8 @@ impl Value {
     /// The values of all fields of this name, in the order read. The only refusal is `Memory`.
     pub fn fields_named(&self, alloc: Global, name: &str) -> Result<Vec<&Value>, Reason>
         ensures { MatchResult result
-            (λ values. map (λ v. v.now) values.items ≡ named_in name.now (out-Payload self.now.payload))
+            (λ values. map (λ v. v.now) values.items
+            ≡ named_in name.now (out-Payload self.now.payload))
             (λ r. r ≡ reasons.Memory) }
     {
         match &self.payload {

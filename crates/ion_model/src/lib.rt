@@ -1,5 +1,5 @@
-//! Values of Amazon Ion 1.0: what they are, how deep and how large, and when two are equivalent; and the
-//! reasons for which octets are refused.
+//! Values of Amazon Ion 1.0: what they are, how deep and how large, and when two are equivalent;
+//! and the reasons for which octets are refused.
 #![tactic(auto)]
 
 mod compare;

@@ -10,8 +10,8 @@ use crate::value::{Field, Payload, Value};
 use ion_atoms::{Bytes, Decimal, Kind, Reason, Text, Timestamp, Whole};
 use std::alloc::Global;
 
-/// Values without annotations, made from their parts. Where a call answers a `Result`, its only refusal is
-/// `Memory`; the others take no memory (Ion 1.0, "The Ion Data Model").
+/// Values without annotations, made from their parts. Where a call answers a `Result`, its only
+/// refusal is `Memory`; the others take no memory (Ion 1.0, "The Ion Data Model").
 impl Value {
     /// The null of a kind.
     pub fn null(alloc: Global, kind: Kind) -> Value

@@ -5,9 +5,9 @@ ghost use Rattle.ion_model.specs.Measures.{depth, nodes, greatest};
 use crate::value::{Field, Payload, Value};
 
 impl Value {
-    /// How deep the value goes: 0 for a null or a scalar, for a list, s-expression or struct one more
-    /// than for its deepest member, 1 for an empty one. Stops at 2^64-1. Takes no memory. Calls itself
-    /// once for each level.
+    /// How deep the value goes: 0 for a null or a scalar, for a list, s-expression or struct one
+    /// more than for its deepest member, 1 for an empty one. Stops at 2^64-1. Takes no memory.
+    /// Calls itself once for each level.
     pub fn depth(&self) -> u64
         ensures { result ≡ min (depth self.now) (2 ^ 64 - 1) }
     {
@@ -15,7 +15,8 @@ impl Value {
     }
 
     /// How many nodes the value is made of: one for itself, one for each annotation and field name,
-    /// and those of each member. Stops at 2^64-1. Takes no memory. Calls itself once for each level.
+    /// and those of each member. Stops at 2^64-1. Takes no memory. Calls itself once for each
+    /// level.
     pub fn nodes(&self) -> u64
         ensures { result ≡ min (nodes self.now) (2 ^ 64 - 1) }
     {

@@ -11,10 +11,10 @@ use crate::value::{Field, Payload, Value};
 use ion_atoms::Reason;
 use std::alloc::{AllocError, Global};
 
-/// The normal form of a value: the fields of every struct in ascending order, inner levels first. It is
-/// equivalent to the value, and of two normal forms `order` is `Equal` just where the values are
-/// equivalent. The only refusal is `Memory`; the value handed back with it is equivalent to the one given.
-/// Calls itself once for each level.
+/// The normal form of a value: the fields of every struct in ascending order, inner levels first.
+/// It is equivalent to the value, and of two normal forms `order` is `Equal` just where the values
+/// are equivalent. The only refusal is `Memory`; the value handed back with it is equivalent to the
+/// one given. Calls itself once for each level.
 pub fn normalise(alloc: Global, value: Value) -> Result<Value, (Value, Reason)>
     ensures same { MatchResult result (λ v. IsTrue (same v value)) (λ e. IsTrue (same e.0 value)) }
     ensures normal { IfOk result (λ v. IsNormal v) }

@@ -1,6 +1,6 @@
-//! Orders and hashes of symbols and values as std's traits have them, so that sorts and maps take them. `==` compares
-//! part by part, fields as they stand; whether two values are equivalent `equivalent` says. What values
-//! themselves feed a hasher stands in `hashed.rt`.
+//! Orders and hashes of symbols and values as std's traits have them, so that sorts and maps take
+//! them. `==` compares part by part, fields as they stand; whether two values are equivalent
+//! `equivalent` says. What values themselves feed a hasher stands in `hashed.rt`.
 ghost use Rattle.std.specs.Prelude.{refl};
 ghost use Rattle.std.specs.Cmp.{eq_by_cmp_equiv, on_equiv, partial_equiv_from_equiv, partial_order_from_own_ties, partial_order_from_total};
 ghost use Rattle.std.specs.Cmp.Rules.{comparing, hashing};
@@ -73,8 +73,8 @@ impl Hash for Symbol {
     }
 }
 
-/// `==` is stricter than equivalence: fields have to stand in one order. `equivalent` answers by the data model, and
-/// two values that `normalise` gave are equal just where they are equivalent.
+/// `==` is stricter than equivalence: fields have to stand in one order. `equivalent` answers by
+/// the data model, and two values that `normalise` gave are equal just where they are equivalent.
 impl PartialEq for Value {
     ghost eq = { eq_by_cmp order };
 
@@ -89,7 +89,8 @@ impl Eq for Value {
     ghost laws = { eq_by_cmp_equiv order-total };
 }
 
-/// `<` orders values as they stand, fields included: `normalise` them first where they are to be sorted by the data model.
+/// `<` orders values as they stand, fields included: `normalise` them first where they are to be
+/// sorted by the data model.
 impl PartialOrd for Value {
     ghost partial_cmp = { as_partial_cmp order };
 
@@ -118,7 +119,8 @@ impl Ord for Value {
 impl PartialEq for Payload {
     ghost eq = { on out-Payload (eq_by_cmp (layer_cmp order)) };
 
-    ghost laws = { partial_equiv_from_equiv (on_equiv out-Payload (eq_by_cmp_equiv (layer_cmp-total order order-total))) };
+    ghost laws = { partial_equiv_from_equiv
+        (on_equiv out-Payload (eq_by_cmp_equiv (layer_cmp-total order order-total))) };
 
     fn eq(&self, other: &Payload) -> bool {
         order_payload(self, other).is_eq()

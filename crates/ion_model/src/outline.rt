@@ -16,8 +16,8 @@ pub struct Outline {
 }
 
 impl Value {
-    /// The value's kind, its depth and its number of nodes. Takes no memory. Calls itself once for each
-    /// level.
+    /// The value's kind, its depth and its number of nodes. Takes no memory. Calls itself once for
+    /// each level.
     pub fn outline(&self) -> Outline
         ensures { result ≡ outline_of self.now }
     {

@@ -96,15 +96,17 @@ impl Eq for Path {
     ghost laws = { path_same-equiv };
 }
 
-/// The path to where two values part, `None` where they are equivalent (`same_slow`). It leads down to two
-/// values that differ in annotations, kind, nullness or scalar; or by `Part::Item` to the first item that
-/// one of two lists or s-expressions lacks; or by `Part::Name` to the least name, in the order of symbols,
-/// with which some value stands in different numbers in two structs (Ion 1.0, "The Ion Data Model": a
-/// struct is unordered, and a name may repeat). It goes on behind a name only if the name stands once in
-/// both. The only refusal is `Memory`. Values that agree part by part, fields as they stand, take no memory.
-/// Each step down costs what `equivalent` does. Calls itself once for each level.
+/// The path to where two values part, `None` where they are equivalent (`same_slow`). It leads down
+/// to two values that differ in annotations, kind, nullness or scalar; or by `Part::Item` to the
+/// first item that one of two lists or s-expressions lacks; or by `Part::Name` to the least name,
+/// in the order of symbols, with which some value stands in different numbers in two structs (Ion
+/// 1.0, "The Ion Data Model": a struct is unordered, and a name may repeat). It goes on behind a
+/// name only if the name stands once in both. The only refusal is `Memory`. Values that agree part
+/// by part, fields as they stand, take no memory. Each step down costs what `equivalent` does.
+/// Calls itself once for each level.
 pub fn parting(alloc: Global, a: &Value, b: &Value) -> Result<Option<Path>, Reason>
-    ensures path { MatchResult result (λ path. IsParting path a.now b.now) (λ e. e ≡ reasons.Memory) }
+    ensures path { MatchResult result (λ path. IsParting path a.now b.now)
+        (λ e. e ≡ reasons.Memory) }
     ensures free { order a.now b.now ≡ Equal → result ≡ Ok None }
 {
     if equivalent(alloc, a, b)? {
@@ -119,7 +121,8 @@ pub fn parting(alloc: Global, a: &Value, b: &Value) -> Result<Option<Path>, Reas
 #[cycle(part)]
 fn part_values(alloc: Global, a: &Value, b: &Value, parts: &mut Vec<Part>) -> Result<(), Reason>
     requires { same a.now b.now ≡ false }
-    ensures path { OnOk result (Extends (λ p. IsPath p a.now b.now) parts.old.items parts.new.items) }
+    ensures path { OnOk result (Extends (λ p. IsPath p a.now b.now) parts.old.items
+        parts.new.items) }
     ensures memory { IfErr result (λ e. e ≡ reasons.Memory) }
 {
     if !same_symbols(a.annotations.as_slice(), b.annotations.as_slice()) {
@@ -176,7 +179,8 @@ fn part_fields(
     parts: &mut Vec<Part>,
 ) -> Result<(), Reason>
     requires { fields_same same fs.now gs.now ≡ false }
-    ensures path { OnOk result (Extends (FieldsPath fs.now gs.now) parts.old.items parts.new.items) }
+    ensures path { OnOk result (Extends (FieldsPath fs.now gs.now) parts.old.items
+        parts.new.items) }
     ensures memory { IfErr result (λ e. e ≡ reasons.Memory) }
 {
     let name = match least_name(alloc, fs, gs)? {
@@ -199,7 +203,8 @@ fn least_name(
     gs: &Sequence<Field>,
 ) -> Result<Option<Symbol>, Reason>
     ensures { MatchResult result
-        (λ name. MatchOption name (fields_same same fs.now gs.now ≡ true) (λ s. LeastParting fs.now gs.now s))
+        (λ name. MatchOption name (fields_same same fs.now gs.now ≡ true)
+        (λ s. LeastParting fs.now gs.now s))
         (λ e. e ≡ reasons.Memory) }
 {
     let left = sorted(alloc, fs)?;

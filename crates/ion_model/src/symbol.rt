@@ -73,8 +73,8 @@ impl Symbol {
         }
     }
 
-    /// Whether the symbol is the name of local symbol tables, `$ion_symbol_table` (Ion 1.0, "Symbols",
-    /// "Local Symbol Tables"). Takes no memory.
+    /// Whether the symbol is the name of local symbol tables, `$ion_symbol_table` (Ion 1.0,
+    /// "Symbols", "Local Symbol Tables"). Takes no memory.
     pub fn names_table(&self) -> bool
         ensures { result ≡ names_table self.now }
     {
@@ -108,7 +108,8 @@ impl Symbol {
         }
     }
 
-    /// The order of symbols: the unknown one first, then by the octets of the texts. Takes no memory.
+    /// The order of symbols: the unknown one first, then by the octets of the texts. Takes no
+    /// memory.
     pub fn order(&self, other: &Symbol) -> Ordering
         ensures { result ≡ symbol_cmp self.now other.now }
     {

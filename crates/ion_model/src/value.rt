@@ -11,9 +11,9 @@ use std::alloc::Global;
 
 /// A value (Ion 1.0, "The Ion Data Model").
 ///
-/// What goes through a value, or lets it go, calls itself once for each level of containers. The values
-/// that readers give are 128 levels deep at most (`Limits` of `ion_symtab`); on a stack of 8 MiB those of
-/// 10,000 levels went through every call.
+/// What goes through a value, or lets it go, calls itself once for each level of containers. The
+/// values that readers give are 128 levels deep at most (`Limits` of `ion_symtab`); on a stack of 8
+/// MiB those of 10,000 levels went through every call.
 #[cycle(value)]
 #[derive(Debug, Drop)]
 pub struct Value {
@@ -92,7 +92,8 @@ impl Value {
 }
 
 impl Payload {
-    /// The kind of the values that hold it; that of a null is the kind that it is the null of. Takes no memory.
+    /// The kind of the values that hold it; that of a null is the kind that it is the null of.
+    /// Takes no memory.
     pub fn kind(&self) -> Kind
         ensures { result ≡ layer_kind (out-Payload self.now) }
     {

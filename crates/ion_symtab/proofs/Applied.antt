@@ -10,7 +10,8 @@ use Rattle.ion_symtab.specs.Tables.{Table}
 use Rattle.ion_symtab.specs.Next.{next, next_layer, extended, base, appends}
 
 -- the fields of a table decide by its `imports` and `symbols`
-next_is : (slots : List Slot) (table : Value) (tables : List Table) (fields : List Field) (imports symbols : Option Value) → table.payload ≡ payloads.Fields fields →
+next_is : (slots : List Slot) (table : Value) (tables : List Table) (fields : List Field) (imports symbols : Option Value)
+    → table.payload ≡ payloads.Fields fields →
     only (codes "imports") fields ≡ Ok imports → only (codes "symbols") fields ≡ Ok symbols →
     next slots table tables ≡ extended tables (base slots imports) imports symbols
 unfolding next
@@ -18,7 +19,8 @@ next_is slots table tables fields imports symbols p i s =
     ap (λ w. next_layer slots w tables) (ap out-Payload p ∙ outs-Fields fields) ∙ rw (i, s)
 
 module _ (slots : List Slot) (table : Value) (tables : List Table) {fields given : List Field} {imports symbols : Option Value}
-    (p : table.payload ≡ payloads.Fields fields) (g : fields ≡ given) (i : only (codes "imports") given ≡ Ok imports) (s : only (codes "symbols") given ≡ Ok symbols) where
+    (p : table.payload ≡ payloads.Fields fields) (g : fields ≡ given) (i : only (codes "imports") given ≡ Ok imports)
+    (s : only (codes "symbols") given ≡ Ok symbols) where
   pub next_appends : appends imports ≡ true → next slots table tables ≡ extended tables slots imports symbols
   next_appends e =
       next_is slots table tables given imports symbols (p ∙ ap payloads.Fields g) i s

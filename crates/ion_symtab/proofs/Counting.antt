@@ -26,7 +26,8 @@ slots_in-more segments k s h e =
     rw (add-one, take-suc segments k s h, ← e)
     (slots_in-append (take k segments) (s ∷ []) ∙ ap (λ n. slots_of_all (take k segments) + n) (length-append (segment_slots s) [] ∙ omega arith))
 
-slots_in-whole : (segments : List Segment) (k : ℕ) → k < length segments → length segments ≤ k + 1 → slots_of_all (take (k + 1) segments) ≡ slots_of_all segments
+slots_in-whole : (segments : List Segment) (k : ℕ) → k < length segments → length segments ≤ k + 1 → slots_of_all (take (k + 1) segments)
+    ≡ slots_of_all segments
 slots_in-whole segments k h w = let e : k + 1 ≡ length segments = omega arith in rw (e, take-length segments)
 
 -- a place is before the end of the last segment that begins at it or before it
@@ -38,7 +39,8 @@ before_end first end segments k place d counts h last within (inl more) =
 before_end first end segments k place d counts h last within (inr none) =
     omega (arith, slots_in-whole segments k h none)
 
-pub place_within : (first end : ℕ) (segments : List Segment) (k place : ℕ) (s : Segment) → Counts first segments end → k < length segments → s ≡ get_or segments k s →
+pub place_within : (first end : ℕ) (segments : List Segment) (k place : ℕ) (s : Segment) → Counts first segments end → k < length segments
+    → s ≡ get_or segments k s →
     StartsBy place segments k → (k + 1 < length segments → StartsBehind place segments (k + 1)) → place < first + length (flat_map segment_slots segments) →
     place - s.before < length (segment_slots s)
 place_within first end segments k place s counts h e starts last within =
@@ -46,7 +48,8 @@ place_within first end segments k place s counts h e starts last within =
     let p : s.before ≤ place = omega (arith, starts s, ap (λ (x : Segment). x.before) e) in
     omega (arith, before_end first end segments k place s counts h last within (cases_lt (k + 1) (length segments)), slots_in-more segments k s h e)
 
-pub slot_there : (first end : ℕ) (segments : List Segment) (k place : ℕ) (s : Segment) → Counts first segments end → k < length segments → s ≡ get_or segments k s →
+pub slot_there : (first end : ℕ) (segments : List Segment) (k place : ℕ) (s : Segment) → Counts first segments end → k < length segments
+    → s ≡ get_or segments k s →
     StartsBy place segments k → place - s.before < length (segment_slots s) →
     slice_get (flat_map segment_slots segments) (place - first) ≡ slice_get (segment_slots s) (place - s.before)
 slot_there first end segments k place s counts h e starts within =

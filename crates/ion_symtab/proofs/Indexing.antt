@@ -18,7 +18,8 @@ newer_associates : (t : Table) (o : Option Table) (u : Table) → newer (Some t)
 newer_associates t None u = refl
 newer_associates t (Some v) u = grind arith
 
-newest_either : (b : Bool) (u : Table) (o : Option Table) (t : Table) → (if b then newer (Some u) (newer o (Some t)) else newer o (Some t)) ≡ newer (if b then newer (Some u) o else o) (Some t)
+newest_either : (b : Bool) (u : Table) (o : Option Table) (t : Table) → (if b then newer (Some u) (newer o (Some t)) else newer o (Some t))
+    ≡ newer (if b then newer (Some u) o else o) (Some t)
 newest_either true u o t = newer_associates u o t
 newest_either false u o t = refl
 
@@ -70,22 +71,26 @@ module _ (ts : List Table) (t : Table) (old new : Places) (indexes : Indexes ts 
       let w : t.version ≡ v = eqb-true _ _ p.1 in
       let none : find ts q v ≡ None = ap (λ x. find ts x v) (sym n) ∙ ap (find ts t.name) (sym w) ∙ absent in
       rw none (shows_last ts t)
-  exact_at q v false e = subst (IsPlaceOf (ts ++ t ∷ []) (place_of old q v)) (same (find ts q v)) (shows_more ts (t ∷ []) (place_of old q v) (find ts q v) (indexes.exact q v))
+  exact_at q v false e = subst (IsPlaceOf (ts ++ t ∷ []) (place_of old q v)) (same (find ts q v))
+      (shows_more ts (t ∷ []) (place_of old q v) (find ts q v) (indexes.exact q v))
     where
       same : (o : Option Table) → o ≡ otherwise o None
       same None = refl
       same (Some u) = refl
 
   newest_by : (q : List ℕ) (b : Bool) → bytes_eq t.name q ≡ b →
-      IsPlaceOf (ts ++ t ∷ []) (cond b (Some (newest_place (newest_of old t.name) (newest ts t.name) t (length ts))) (newest_of old q)) (newest (ts ++ t ∷ []) q)
+      IsPlaceOf (ts ++ t ∷ []) (cond b (Some (newest_place (newest_of old t.name) (newest ts t.name) t (length ts))) (newest_of old q))
+      (newest (ts ++ t ∷ []) q)
   newest_by q true e =
       let n : t.name ≡ q = (bytes_eq-Decides t.name q).0 e in
-      rw (newest_more ts t q e) (subst (λ x. IsPlaceOf (ts ++ t ∷ []) (Some (newest_place (newest_of old t.name) (newest ts t.name) t (length ts))) (newer (newest ts x) (Some t))) n
+      rw (newest_more ts t q e) (subst (λ x. IsPlaceOf (ts ++ t ∷ []) (Some (newest_place (newest_of old t.name) (newest ts t.name) t (length ts)))
+      (newer (newest ts x) (Some t))) n
       (shows_newest ts t (newest_of old t.name) (newest ts t.name) (indexes.newest t.name)))
   newest_by q false e = rw (newest_same ts t q e) (shows_more ts (t ∷ []) (newest_of old q) (newest ts q) (indexes.newest q))
 
   pub indexes_more : ((q : List ℕ) (v : ℕ) → place_of new q v ≡ cond (bytes_eq t.name q && (t.version == v)) (Some (length ts)) (place_of old q v)) →
-      ((q : List ℕ) → newest_of new q ≡ cond (bytes_eq t.name q) (Some (newest_place (newest_of old t.name) (newest ts t.name) t (length ts))) (newest_of old q)) →
+      ((q : List ℕ) → newest_of new q ≡ cond (bytes_eq t.name q) (Some (newest_place (newest_of old t.name) (newest ts t.name) t (length ts)))
+      (newest_of old q)) →
       Indexes (ts ++ t ∷ []) new
   indexes_more place noted = record {
     exact = λ q v. rw (place q v, find_more ts t q v) (exact_at q v (bytes_eq t.name q && (t.version == v)) refl);
@@ -93,7 +98,8 @@ module _ (ts : List Table) (t : Table) (old new : Places) (indexes : Indexes ts 
   }
 
 -- what shows the same tables is as good
-pub indexes_as : (ts : List Table) (old new : Places) → Indexes ts old → ((q : List ℕ) (v : ℕ) → place_of new q v ≡ place_of old q v) → ((q : List ℕ) → newest_of new q ≡ newest_of old q) → Indexes ts new
+pub indexes_as : (ts : List Table) (old new : Places) → Indexes ts old → ((q : List ℕ) (v : ℕ) → place_of new q v ≡ place_of old q v)
+    → ((q : List ℕ) → newest_of new q ≡ newest_of old q) → Indexes ts new
 indexes_as ts old new h place noted = record {
   exact = λ q v. rw (place q v) (h.exact q v);
   newest = λ q. rw (noted q) (h.newest q);

@@ -12,12 +12,14 @@ use Rattle.ion_symtab.specs.declared.catalog_index.Versions.{Versions}
 abbrev HasOneMore : Option Versions → Versions → ℕ → ℕ → Type 0
 HasOneMore before after version place = (v : ℕ) → get nat_cmp after.places v ≡ cond (version == v) (Some place) (version_kept before v)
 
-placed_at : (before other : Option Versions) (after : Versions) (version place v : ℕ) (same : Bool) → HasOneMore before after version place → (same ≡ true → other ≡ before) →
+placed_at : (before other : Option Versions) (after : Versions) (version place v : ℕ) (same : Bool) → HasOneMore before after version place
+    → (same ≡ true → other ≡ before) →
     version_kept (cond same (Some after) other) v ≡ cond (same && (version == v)) (Some place) (version_kept other v)
 placed_at before other after version place v true h s = h v ∙ ap (λ o. cond (version == v) (Some place) (version_kept o v)) (sym (s refl))
 placed_at before other after version place v false h s = refl
 
-placed_as : (before other : Option Versions) (after : Versions) (v : ℕ) (same : Bool) → get nat_cmp after.places v ≡ version_kept before v → (same ≡ true → other ≡ before) →
+placed_as : (before other : Option Versions) (after : Versions) (v : ℕ) (same : Bool) → get nat_cmp after.places v ≡ version_kept before v
+    → (same ≡ true → other ≡ before) →
     version_kept (cond same (Some after) other) v ≡ version_kept other v
 placed_as before other after v true h s = h ∙ ap (λ o. version_kept o v) (sym (s refl))
 placed_as before other after v false h s = refl
@@ -27,7 +29,8 @@ newest_as : (before other : Option Versions) (after : Versions) (same : Bool) �
 newest_as before other after true h s = h ∙ ap newest_among (sym (s refl))
 newest_as before other after false h s = refl
 
-newest_at : (other : Option Versions) (after : Versions) (newest : ℕ) (same : Bool) → after.newest ≡ newest → newest_among (cond same (Some after) other) ≡ cond same (Some newest) (newest_among other)
+newest_at : (other : Option Versions) (after : Versions) (newest : ℕ) (same : Bool) → after.newest ≡ newest → newest_among (cond same (Some after) other)
+    ≡ cond same (Some newest) (newest_among other)
 newest_at other after newest true e = ap Some e
 newest_at other after newest false e = refl
 
@@ -44,12 +47,15 @@ module _ {Y : Type 0} (old new : BTreeMap (String Y) Versions) (name : List ℕ)
 
   pub places_stay : ((v : ℕ) → get nat_cmp after.places v ≡ version_kept (get_by_text old name) v) → (q : List ℕ) (v : ℕ) →
       version_kept (get_by_text new q) v ≡ version_kept (get_by_text old q) v
-  places_stay h q v = ap (λ o. version_kept o v) (updates q) ∙ placed_as (get_by_text old name) (get_by_text old q) after v (bytes_eq name q) (h v) (same_name q)
+  places_stay h q v = ap (λ o. version_kept o v) (updates q) ∙ placed_as (get_by_text old name) (get_by_text old q) after v (bytes_eq name q) (h v)
+      (same_name q)
 
-  pub newest_stays : Some after.newest ≡ newest_among (get_by_text old name) → (q : List ℕ) → newest_among (get_by_text new q) ≡ newest_among (get_by_text old q)
+  pub newest_stays : Some after.newest ≡ newest_among (get_by_text old name) → (q : List ℕ) → newest_among (get_by_text new q)
+      ≡ newest_among (get_by_text old q)
   newest_stays h q = ap newest_among (updates q) ∙ newest_as (get_by_text old name) (get_by_text old q) after (bytes_eq name q) h (same_name q)
 
-  pub noted : (newest : ℕ) → after.newest ≡ newest → (q : List ℕ) → newest_among (get_by_text new q) ≡ cond (bytes_eq name q) (Some newest) (newest_among (get_by_text old q))
+  pub noted : (newest : ℕ) → after.newest ≡ newest → (q : List ℕ) → newest_among (get_by_text new q)
+      ≡ cond (bytes_eq name q) (Some newest) (newest_among (get_by_text old q))
   noted newest e q = ap newest_among (updates q) ∙ newest_at (get_by_text old q) after newest (bytes_eq name q) e
 
 -- what holds anyway holds on a refusal

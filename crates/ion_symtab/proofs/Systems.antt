@@ -40,7 +40,8 @@ pub resolve_system : (symbols : List (Option (List ℕ))) (slots context : List 
 resolve_system symbols slots context id s e v h l r =
     let n : length symbols ≡ 9 = nine_symbols symbols e in
     let g : slice_get (system_slots ++ slots) (id - 1) ≡ Some (local_slot s) =
-    slice_get-append_left system_slots slots (id - 1) (omega (arith, nine_system_slots)) ∙ ap (λ xs. slice_get xs (id - 1)) (sym e) ∙ slice_get-map local_slot symbols (id - 1)
+    slice_get-append_left system_slots slots (id - 1) (omega (arith, nine_system_slots)) ∙ ap (λ xs. slice_get xs (id - 1)) (sym e)
+    ∙ slice_get-map local_slot symbols (id - 1)
     ∙ ap (λ o. option_map local_slot o) (slice_get_read symbols (length symbols) (id - 1) s refl (omega arith) r) in
     resolve_place context id h ∙ ap (λ xs. symbol_at (slice_get xs (id - 1))) (sym v) ∙ ap symbol_at g ∙ slot_symbol-local s
 
@@ -52,7 +53,8 @@ resolve_behind slots context id v h l =
     ∙ ap symbol_at (slice_get-append_right system_slots slots (id - 1) (id - 1 - 9) (omega (arith, nine_system_slots)))
 
 -- a place behind the earlier slots, among the symbols of local tables that stand there
-pub resolve_last : (first end place : ℕ) (slots : List Slot) (symbols : List (Option (List ℕ))) (s : Option (List ℕ)) → end ≡ first + length slots → end ≤ place →
+pub resolve_last : (first end place : ℕ) (slots : List Slot) (symbols : List (Option (List ℕ))) (s : Option (List ℕ)) → end ≡ first + length slots → end ≤ place
+    →
     place - end < length symbols → s ≡ get_or symbols (place - end) s → symbol_at (slice_get (slots ++ map local_slot symbols) (place - first)) ≡ Ok s
 resolve_last first end place slots symbols s e l h r =
     ap symbol_at

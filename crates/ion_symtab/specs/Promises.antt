@@ -33,7 +33,8 @@ pub record Shows (pieces : List ℕ → List ℕ → List Value → Type 0) (ope
 -- A step refused: its offset is among these octets.
 -- No document begins with the octets before the offset, what was given is what they show, and the end repeats the refusal.
 -- It is for the octets' sake, and not for want of memory or of more octets.
-pub record Refuses (denotes : List ℕ → List Value → Type 0) (pieces : List ℕ → List ℕ → List Value → Type 0) (u : List ℕ) (t : Trace) (r : Refusal) : Type 0 where
+pub record Refuses (denotes : List ℕ → List Value → Type 0) (pieces : List ℕ → List ℕ → List Value → Type 0) (u : List ℕ) (t : Trace) (r : Refusal) : Type
+    0 where
   pub within : r.offset ≤ length u
   pub none : BeginsNone denotes (take r.offset u)
   pub shown : Shown pieces (take r.offset u) (plain t.given)

@@ -16,8 +16,8 @@ use std::mem;
 /// Slots that follow one another, behind a first few that stand elsewhere; contracts see how many
 /// those are, and the slots.
 ///
-/// The symbols behind the last import stand in one list, however many tables appended them, so that an
-/// id is mostly an index and a table of one symbol takes no more than its symbol.
+/// The symbols behind the last import stand in one list, however many tables appended them, so that
+/// an id is mostly an index and a table of one symbol takes no more than its symbol.
 #[derive(Drop)]
 pub(crate) struct Added {
     earlier: Segments,
@@ -32,9 +32,14 @@ impl Model for Added {
 
     ghost Value = { Row };
 
-    ghost view = { λ a. record { first = a.earlier.first; slots = a.earlier.slots ++ map local_slot a.last.items } };
+    ghost view = { λ a. record {
+      first = a.earlier.first;
+      slots =
+          a.earlier.slots ++ map local_slot a.last.items;
+    } };
 
-    ghost invariant = { λ a. a.earlier.first + length a.earlier.slots + length a.last.items ≤ greatest_id };
+    ghost invariant = { λ a. a.earlier.first + length a.earlier.slots + length a.last.items ≤
+        greatest_id };
 }
 
 impl Added {
@@ -52,7 +57,8 @@ impl Added {
 
     /// These slots, and behind them those of the elements of `symbols`, in order.
     pub(crate) fn behind(earlier: Segments, elements: &[Value]) -> Result<Added, Reason>
-        ensures { Builds (λ slots. joined slots (map local_slot (map symbol_of elements.now))) earlier result }
+        ensures { Builds (λ slots. joined slots (map local_slot (map symbol_of elements.now)))
+            earlier result }
     {
         let last = earlier.symbols(elements)?;
         Ok(Added { earlier, last })

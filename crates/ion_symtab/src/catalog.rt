@@ -12,8 +12,8 @@ use std::alloc::Global;
 use std::fmt::{self, Debug, Formatter};
 use std::marker::Model;
 
-/// Shared symbol tables, of which no two have the same name and version. Contracts see the tables in
-/// the order in which they were added.
+/// Shared symbol tables, of which no two have the same name and version. Contracts see the tables
+/// in the order in which they were added.
 #[derive(Drop)]
 pub struct Catalog {
     tables: Vec<SharedTable>,
@@ -57,10 +57,12 @@ impl Catalog {
     /// Adds a table. `DuplicateTable` where one of its name and version is there already. A refusal
     /// hands the table back and changes nothing.
     pub fn add(&mut self, table: SharedTable) -> Result<(), (SharedTable, Reason)>
-        ensures ok { OnOk result ((find self.old table.name table.version ≡ Option.None) × (self.new ≡ self.old ++ table ∷ [])) }
+        ensures ok { OnOk result ((find self.old table.name table.version ≡ Option.None)
+            × (self.new ≡ self.old ++ table ∷ [])) }
         ensures err { OnErr result (self.new ≡ self.old) }
         ensures handed_back { IfErr result (λ e. e.0 ≡ table) }
-        ensures refused { IfErr result (λ e. (e.1 ≡ reasons.Memory) × (find self.old table.name table.version ≡ Option.None)
+        ensures refused { IfErr result (λ e. (e.1 ≡ reasons.Memory)
+            × (find self.old table.name table.version ≡ Option.None)
             ⊎ (e.1 ≡ reasons.DuplicateTable) × IsSome (find self.old table.name table.version)) }
     {
         if self.find(table.name(), table.version()).is_some() {
@@ -83,8 +85,8 @@ impl Catalog {
         }
     }
 
-    /// What a catalog keeps about itself: its tables' texts are UTF-8, and under the name and version of
-    /// each of its tables that table is found. Does nothing.
+    /// What a catalog keeps about itself: its tables' texts are UTF-8, and under the name and
+    /// version of each of its tables that table is found. Does nothing.
     pub fn kept(&self)
         ensures texts { AreTextTables self.now }
         ensures apart { AreApart self.now }
@@ -101,8 +103,8 @@ impl Catalog {
         self.exact(name, version as u128)
     }
 
-    /// The table of this name and version, else that of the name with the greatest version. Takes no
-    /// memory.
+    /// The table of this name and version, else that of the name with the greatest version. Takes
+    /// no memory.
     pub fn find_best(&self, name: &str, version: u32) -> Option<&SharedTable>
         ensures { option_copied result ≡ find_best self.now name.now version }
     {
@@ -137,8 +139,8 @@ impl Catalog {
     }
 }
 
-// The place of the newest table of a name behind one more of that name, which stands at `place`; with
-// the newest so far and its place.
+// The place of the newest table of a name behind one more of that name, which stands at `place`;
+// with the newest so far and its place.
 fn newest_place(
     so_far: Option<usize>,
     best: Option<&SharedTable>,

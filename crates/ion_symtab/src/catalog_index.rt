@@ -1,4 +1,5 @@
-//! Where the tables of a catalog stand, by name and version, so that none is gone through to find one.
+//! Where the tables of a catalog stand, by name and version, so that none is gone through to find
+//! one.
 ghost use Rattle.std.specs.Prelude.{◌≡◌, ◌&&◌, ◌==◌, ℕ, List, None, Some, cond, OnOk, OnErr, IfOk, IfErr};
 ghost use Rattle.std.specs.BTreeMap.{get};
 ghost use Rattle.std.specs.Ordering.{nat_cmp};
@@ -54,7 +55,8 @@ impl Places {
         }
     }
 
-    /// Notes the place of a table, and that of the newest of its name. `Memory` leaves all as it was.
+    /// Notes the place of a table, and that of the newest of its name. `Memory` leaves all as it
+    /// was.
     pub(crate) fn add(
         &mut self,
         alloc: Global,
@@ -63,10 +65,14 @@ impl Places {
         place: usize,
         newest: usize,
     ) -> Result<(), Reason>
-        ensures place { OnOk result ((q : List ℕ) (v : ℕ) → place_of self.new q v ≡ cond (bytes_eq name.now q && (version == v)) (Some place) (place_of self.old q v)) }
-        ensures newest { OnOk result ((q : List ℕ) → newest_of self.new q ≡ cond (bytes_eq name.now q) (Some newest) (newest_of self.old q)) }
-        ensures places_kept { OnErr result ((q : List ℕ) (v : ℕ) → place_of self.new q v ≡ place_of self.old q v) }
-        ensures newest_kept { OnErr result ((q : List ℕ) → newest_of self.new q ≡ newest_of self.old q) }
+        ensures place { OnOk result ((q : List ℕ) (v : ℕ) → place_of self.new q v
+            ≡ cond (bytes_eq name.now q && (version == v)) (Some place) (place_of self.old q v)) }
+        ensures newest { OnOk result ((q : List ℕ) → newest_of self.new q
+            ≡ cond (bytes_eq name.now q) (Some newest) (newest_of self.old q)) }
+        ensures places_kept { OnErr result
+            ((q : List ℕ) (v : ℕ) → place_of self.new q v ≡ place_of self.old q v) }
+        ensures newest_kept { OnErr result
+            ((q : List ℕ) → newest_of self.new q ≡ newest_of self.old q) }
         ensures memory { IfErr result (λ r. r ≡ reasons.Memory) }
     {
         match self.names.get_mut(name) {
@@ -86,7 +92,8 @@ impl Places {
 impl Versions {
     // Of one table.
     fn only(alloc: Global, version: u128, place: usize, newest: usize) -> Result<Versions, Reason>
-        ensures places { IfOk result (λ versions. (v : ℕ) → get nat_cmp versions.places v ≡ cond (version == v) (Some place) None) }
+        ensures places { IfOk result (λ versions. (v : ℕ) → get nat_cmp versions.places v
+            ≡ cond (version == v) (Some place) None) }
         ensures newest { IfOk result (λ versions. versions.newest ≡ newest) }
         ensures memory { IfErr result (λ r. r ≡ reasons.Memory) }
     {
@@ -97,9 +104,11 @@ impl Versions {
 
     // Notes one table more. `Memory` leaves all as it was.
     fn add(&mut self, version: u128, place: usize, newest: usize) -> Result<(), Reason>
-        ensures places { OnOk result ((v : ℕ) → get nat_cmp self.new.places v ≡ cond (version == v) (Some place) (get nat_cmp self.old.places v)) }
+        ensures places { OnOk result ((v : ℕ) → get nat_cmp self.new.places v
+            ≡ cond (version == v) (Some place) (get nat_cmp self.old.places v)) }
         ensures newest { OnOk result (self.new.newest ≡ newest) }
-        ensures places_kept { OnErr result ((v : ℕ) → get nat_cmp self.new.places v ≡ get nat_cmp self.old.places v) }
+        ensures places_kept { OnErr result
+            ((v : ℕ) → get nat_cmp self.new.places v ≡ get nat_cmp self.old.places v) }
         ensures newest_kept { OnErr result (self.new.newest ≡ self.old.newest) }
         ensures memory { IfErr result (λ r. r ≡ reasons.Memory) }
     {

@@ -16,8 +16,8 @@ use std::alloc::Global;
 use std::fmt::{self, Debug, Formatter};
 use std::marker::Model;
 
-/// What the symbol ids stand for at a place of a document. Contracts see the list of slots, of which
-/// the first has the id 1: each is a text, unknown, or a gap.
+/// What the symbol ids stand for at a place of a document. Contracts see the list of slots, of
+/// which the first has the id 1: each is a text, unknown, or a gap.
 #[derive(Drop)]
 pub struct Context {
     unknown: Symbol,
@@ -106,8 +106,8 @@ impl Context {
         }
     }
 
-    /// The symbol of an id; 0 is the symbol of unknown text. `SymbolRange` where the id is above the
-    /// greatest, `ImportGap` where a gap stands there. Takes no memory.
+    /// The symbol of an id; 0 is the symbol of unknown text. `SymbolRange` where the id is above
+    /// the greatest, `ImportGap` where a gap stands there. Takes no memory.
     #[inline(always)]
     pub fn symbol(&self, id: u64) -> Result<&Symbol, Reason>
         ensures { MatchResult result (λ s. resolve self.now id ≡ Ok s.now)
@@ -139,26 +139,28 @@ impl Context {
         self.added.symbol_at(place)
     }
 
-    /// Makes it the context behind a local symbol table (Ion 1.0, "Symbols", "Local Symbol Tables" and
-    /// "Imports"): the system slots, or all slots that there were where `imports` is the symbol
-    /// `$ion_symbol_table`; then those of each struct in a list `imports`; then one for each element of
-    /// a list `symbols`, a string's text or unknown text. Other fields are open content.
+    /// Makes it the context behind a local symbol table (Ion 1.0, "Symbols", "Local Symbol Tables"
+    /// and "Imports"): the system slots, or all slots that there were where `imports` is the symbol
+    /// `$ion_symbol_table`; then those of each struct in a list `imports`; then one for each
+    /// element of a list `symbols`, a string's text or unknown text. Other fields are open content.
     ///
-    /// An import is ignored where its `name` is no string, empty or `$ion`. Its `version` is 1 where it
-    /// is absent, null, no int, or below 1. It means the table of that name and version or, if there
-    /// is none and `max_id` is an int that isn't negative, the one of that name with the greatest
-    /// version. Such a `max_id` is its number of slots: the table is cut, or filled up with gaps.
+    /// An import is ignored where its `name` is no string, empty or `$ion`. Its `version` is 1
+    /// where it is absent, null, no int, or below 1. It means the table of that name and version
+    /// or, if there is none and `max_id` is an int that isn't negative, the one of that name with
+    /// the greatest version. Such a `max_id` is its number of slots: the table is cut, or filled up
+    /// with gaps.
     ///
     /// The first reason in this order answers, and leaves the context as it was: `NullTable` for
-    /// `null.struct`; `RepeatedField` where `imports` or `symbols` stands twice; for each import in turn
-    /// `RepeatedField` where `name`, `version` or `max_id` stands twice, also if it is ignored,
-    /// `MissingImport` where the catalog has no table for it, `TableTooLarge` where an id would be above
-    /// 2^31-1; last `TableTooLarge` by `symbols`. `Memory` may come at any point.
+    /// `null.struct`; `RepeatedField` where `imports` or `symbols` stands twice; for each import in
+    /// turn `RepeatedField` where `name`, `version` or `max_id` stands twice, also if it is
+    /// ignored, `MissingImport` where the catalog has no table for it, `TableTooLarge` where an id
+    /// would be above 2^31-1; last `TableTooLarge` by `symbols`. `Memory` may come at any point.
     #[tactic(auto, using(crate::specs::Slots::nine_system_slots), unfolding(crate::specs::Next::next))]
     pub fn apply(&mut self, table: &Value, catalog: &Catalog) -> Result<(), Reason>
         requires { is_table table.now ≡ true }
         ensures ok { OnOk result (next self.old table.now catalog.now ≡ Ok self.new) }
-        ensures refused { IfErr result (λ r. (r ≡ reasons.Memory) ⊎ (next self.old table.now catalog.now ≡ Err r)) }
+        ensures refused { IfErr result (λ r. (r ≡ reasons.Memory)
+            ⊎ (next self.old table.now catalog.now ≡ Err r)) }
         ensures unchanged { OnErr result (self.new ≡ self.old) }
     {
         let fields = match &table.payload {
@@ -187,7 +189,8 @@ fn added(
     catalog: &Catalog,
 ) -> Result<Added, Reason>
     requires { first ≤ greatest_id }
-    ensures { Fills (λ slots. extended catalog.now slots (option_copied imports.entry) (option_copied symbols.entry)) first result }
+    ensures { Fills (λ slots. extended catalog.now slots (option_copied imports.entry)
+        (option_copied symbols.entry)) first result }
 {
     let mut earlier = Segments::new(alloc, first);
     earlier.push_imports(elements(imports), catalog)?;

@@ -102,7 +102,8 @@ fn natural(int: i128) -> Option<u128>
 /// The symbols that the elements of `symbols` give: a string its text, anything else unknown text.
 /// The only refusal is `Memory`.
 pub(crate) fn symbols_of(alloc: Global, elements: &[Value]) -> Result<Vec<Symbol>, Reason>
-    ensures { MatchResult result (λ s. s.items ≡ map symbol_of elements.now) (λ r. r ≡ reasons.Memory) }
+    ensures { MatchResult result (λ s. s.items ≡ map symbol_of elements.now)
+        (λ r. r ≡ reasons.Memory) }
 {
     let mut symbols = Vec::new(alloc);
     for element in elements {

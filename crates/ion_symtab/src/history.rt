@@ -7,8 +7,8 @@ use std::marker::Model;
 
 /// Octets that went through a device, or other numbers that are to be remembered of it, in order.
 ///
-/// In clauses it is their list. It takes no memory and its methods do nothing at run time: the list is
-/// what `new`, `add` and `add_count` were called with.
+/// In clauses it is their list. It takes no memory and its methods do nothing at run time: the list
+/// is what `new`, `add` and `add_count` were called with.
 #[derive(Drop)]
 pub struct History {
     tag: Tag,

@@ -20,8 +20,8 @@ pub(crate) struct Import<'c> {
 
 /// What the struct of these fields imports; `None` where it is ignored.
 ///
-/// `RepeatedField` where `name`, `version` or `max_id` stands twice, `MissingImport` where the catalog
-/// has no table for it.
+/// `RepeatedField` where `name`, `version` or `max_id` stands twice, `MissingImport` where the
+/// catalog has no table for it.
 pub(crate) fn import_of<'c>(
     fields: &[Field],
     catalog: &'c Catalog,
@@ -51,8 +51,10 @@ fn chosen<'c>(
     max_id: Option<u128>,
 ) -> Option<Import<'c>>
     ensures { MatchOption result
-        (chosen (find catalog.now name.now version) (newest catalog.now name.now) max_id ≡ Err reasons.MissingImport)
-        (λ i. chosen (find catalog.now name.now version) (newest catalog.now name.now) max_id ≡ Ok (Some (import_seen i))) }
+        (chosen (find catalog.now name.now version) (newest catalog.now name.now) max_id
+        ≡ Err reasons.MissingImport)
+        (λ i. chosen (find catalog.now name.now version) (newest catalog.now name.now) max_id
+        ≡ Ok (Some (import_seen i))) }
 {
     match (catalog.exact(name, version), max_id) {
         (Some(table), Some(count)) => Some(Import { table, count }),

@@ -25,8 +25,9 @@ impl std::error::Error for Failed {}
 
 /// A device that tells octets up to an end.
 ///
-/// Contracts see it in two ways. `tells` says what it may still tell: all that is known of a slice's rest,
-/// and nothing of a file's. `handed` and `ends` say what its calls of `read` have answered, of files too.
+/// Contracts see it in two ways. `tells` says what it may still tell: all that is known of a
+/// slice's rest, and nothing of a file's. `handed` and `ends` say what its calls of `read` have
+/// answered, of files too.
 pub trait Inlet {
     /// These may be the octets that are told from here to the end.
     ghost tells: { Self → List ℕ → Type 0 };
@@ -34,7 +35,8 @@ pub trait Inlet {
     /// All octets that `read` has handed over, in order.
     ghost handed: { Self → List ℕ };
 
-    /// For each time that `read` answered the end, in order: how many octets it had handed over by then.
+    /// For each time that `read` answered the end, in order: how many octets it had handed over by
+    /// then.
     ghost ends: { Self → List ℕ };
 
     /// How often `read` was called, up to 2^64-1.
@@ -56,7 +58,8 @@ pub trait Inlet {
         ensures ended { IfOk result (λ n. n ≡ 0 → 0 < length piece.new →
             ends self.new ≡ ends self.old ++ length (handed self.new) ∷ []) }
         ensures going { IfOk result (λ n. 0 < n → ends self.new ≡ ends self.old) }
-        ensures nothing_asked { IfOk result (λ n. length piece.new ≡ 0 → ends self.new ≡ ends self.old) }
+        ensures nothing_asked { IfOk result
+            (λ n. length piece.new ≡ 0 → ends self.new ≡ ends self.old) }
         ensures stays { OnErr result (ends self.new ≡ ends self.old) }
         ensures calls { calls_made self.new ≡ min (calls_made self.old + 1) (2 ^ 64 - 1) }
         ensures failed { has_failed self.new ≡ is_err result }

@@ -31,7 +31,8 @@ pub struct Passed {
 }
 
 impl Step {
-    /// What is told of the step in place of its value. Calls itself once for each level of the value.
+    /// What is told of the step in place of its value. Calls itself once for each level of the
+    /// value.
     pub fn passed(&self) -> Passed
         ensures { result ≡ record {
           used = self.now.used;
@@ -110,18 +111,19 @@ pub trait Items: Sized {
     /// Where it answers `Ok`, with a value or without, the octets used so far aren't refused: they
     /// are whole pieces of a document and an open rest (`stands`, `not_refused`, `shown`).
     ///
-    /// Where it refuses at offset n, the n-th octet of all that were handed in is one of the piece (`within`),
-    /// no document within the limits and under the catalog begins with the first n octets, and the values
-    /// given are those that these n octets show. `Memory` alone says nothing of the octets; its offset is the number of octets
-    /// that earlier steps used. `Incomplete`, `DuplicateTable` and `BadTable` are no refusals of a
-    /// step. After a refusal no octet is awaited, and each later call answers that refusal.
+    /// Where it refuses at offset n, the n-th octet of all that were handed in is one of the piece
+    /// (`within`), no document within the limits and under the catalog begins with the first n
+    /// octets, and the values given are those that these n octets show. `Memory` alone says nothing
+    /// of the octets; its offset is the number of octets that earlier steps used. `Incomplete`,
+    /// `DuplicateTable` and `BadTable` are no refusals of a step. After a refusal no octet is
+    /// awaited, and each later call answers that refusal.
     ///
     /// A value may be given before the octet that showed its end, where that octet isn't part of
     /// it: then `used` doesn't count the octet, and the next piece has to begin with it. The step
     /// over that piece uses one octet at least, or refuses.
     ///
-    /// The octets of all pieces together have to be fewer than 2^63. After a refusal any piece may be
-    /// handed in.
+    /// The octets of all pieces together have to be fewer than 2^63. After a refusal any piece may
+    /// be handed in.
     fn step(&mut self, piece: &[u8]) -> Result<Step, Refusal>
         requires room { IsNone (failed self.old) → taken self.old + length piece.now < 2 ^ 63 }
         requires begins { IfSome (awaits self.old) (λ octet.
@@ -261,18 +263,18 @@ pub trait Items: Sized {
         (trace g l u).refused ≡ Option.Some r →
         Refuses (denotes g l) (pieces g l) u (trace g l u) r };
 
-    /// A refusal names the octet that decides: the octets up to it are refused so by themselves, and
-    /// no step refuses a shorter front of them.
+    /// A refusal names the octet that decides: the octets up to it are refused so by themselves,
+    /// and no step refuses a shorter front of them.
     ghost decided: { (g : Catalog) (l : Limits) (u : List ℕ) (r : Refusal) →
         (trace g l u).refused ≡ Option.Some r → IsFirst (trace g l) u r };
 
-    /// A document is whole pieces with its values, and behind them at most what may stand open there:
-    /// in text a comment that the end of the octets ends.
+    /// A document is whole pieces with its values, and behind them at most what may stand open
+    /// there: in text a comment that the end of the octets ends.
     ghost documents_are_pieces: { (g : Catalog) (l : Limits) (u : List ℕ) (s : List Value) →
         denotes g l u s → HasPieces (pieces g l) (open_after l) u s };
 
-    /// Whole pieces, if they have an octet, are a document by themselves, whatever follows them where
-    /// they stand.
+    /// Whole pieces, if they have an octet, are a document by themselves, whatever follows them
+    /// where they stand.
     ghost pieces_are_documents: { (g : Catalog) (l : Limits) (u following : List ℕ)
         (s : List Value) → pieces g l u following s → 0 < length u → denotes g l u s };
 
@@ -309,8 +311,8 @@ pub trait Items: Sized {
     /// A local symbol table where one may stand is no value: it changes what symbol ids stand for.
     ghost no_tables: { (g : Catalog) (l : Limits) (u : List ℕ) → GivesNoTable (trace g l u) };
 
-    /// A value comes with its last octet, or before the one that shows its end: where the end of the
-    /// octets would give a value, the first that the next octet gives is that value, and came before
-    /// that octet.
+    /// A value comes with its last octet, or before the one that shows its end: where the end of
+    /// the octets would give a value, the first that the next octet gives is that value, and came
+    /// before that octet.
     ghost ends_values: { (g : Catalog) (l : Limits) (u : List ℕ) → EndsValues (trace g l) u };
 }

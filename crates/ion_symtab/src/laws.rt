@@ -14,24 +14,25 @@ ghost use Rattle.ion_symtab.specs.laws.Contexts.{Begins};
 ghost use Rattle.ion_symtab.specs.Decided.{Decides};
 ghost use Rattle.ion_symtab.specs.laws.ContextTexts.{AreTextSlots, AreTextTables};
 
-/// A table that is found by name and version is one of the catalog, under both; and where there is one,
-/// one is found.
+/// A table that is found by name and version is one of the catalog, under both; and where there is
+/// one, one is found.
 pub fn exact()
     ensures found { (g : List Table) (name : List ℕ) (version : ℕ) (t : Table) →
         find g name version ≡ Some t → Contains g t × (t.name ≡ name) × (t.version ≡ version) }
     ensures there { (g : List Table) (t : Table) → Contains g t → IsSome (find g t.name t.version) }
 {}
 
-/// The newest table of a name is one of the catalog, under that name, and no table of the name has a
-/// greater version.
+/// The newest table of a name is one of the catalog, under that name, and no table of the name has
+/// a greater version.
 pub fn greatest()
     ensures found { (g : List Table) (name : List ℕ) (t : Table) →
         newest g name ≡ Some t → Contains g t × (t.name ≡ name) }
-    ensures there { (g : List Table) (t : Table) → Contains g t → IsAtLeast t.version (newest g t.name) }
+    ensures there { (g : List Table) (t : Table) → Contains g t
+        → IsAtLeast t.version (newest g t.name) }
 {}
 
-/// A table that is added to a catalog, which has none of its name and version, is found under these; and
-/// under any other name and version what was found before.
+/// A table that is added to a catalog, which has none of its name and version, is found under
+/// these; and under any other name and version what was found before.
 pub fn added()
     ensures itself { (g : List Table) (t : Table) → find g t.name t.version ≡ Option.None →
         find (g ++ t ∷ []) t.name t.version ≡ Some t }
@@ -53,15 +54,16 @@ pub fn behind_a_table()
         next c v g ≡ Ok d → length d ≤ greatest_id }
 {}
 
-/// What is behind a local symbol table is what the symbols chapter says, and nothing else (Ion 1.0, "Symbols"): the base, then for each element
-/// of `imports` its table's slots, cut or filled, then one slot for each element of `symbols`.
+/// What is behind a local symbol table is what the symbols chapter says, and nothing else (Ion 1.0,
+/// "Symbols"): the base, then for each element of `imports` its table's slots, cut or filled, then
+/// one slot for each element of `symbols`.
 pub fn local_tables()
     ensures { (c d : List Slot) (v : Value) (g : List Table) →
         (next c v g ≡ Ok d) ↔ MakesContext g c v d }
 {}
 
-/// Worked local symbol tables: slots that are cut off, filled up, or gaps; a version that isn't there; no name; two imports; a table that
-/// appends a text and an unknown one.
+/// Worked local symbol tables: slots that are cut off, filled up, or gaps; a version that isn't
+/// there; no name; two imports; a table that appends a text and an unknown one.
 pub fn worked_tables()
     ensures { map (λ row. next worked_context row.0 worked_catalog) worked_tables
         ≡ map (λ row. Ok (system_slots ++ row.1)) worked_tables }
@@ -69,12 +71,13 @@ pub fn worked_tables()
 
 /// An id keeps its symbol where slots are added.
 pub fn ids_stay()
-    ensures { (c d : List Slot) (id : ℕ) → Begins c d → id ≤ length c → resolve d id ≡ resolve c id }
+    ensures { (c d : List Slot) (id : ℕ) → Begins c d → id ≤ length c
+        → resolve d id ≡ resolve c id }
 {}
 
-/// Want of memory aside, an id is refused as above the greatest or as a gap; a local symbol table as null,
-/// for a repeated field, for a missing import, or as too large; and a value that is to describe a shared
-/// one for a repeated field or as none.
+/// Want of memory aside, an id is refused as above the greatest or as a gap; a local symbol table
+/// as null, for a repeated field, for a missing import, or as too large; and a value that is to
+/// describe a shared one for a repeated field or as none.
 pub fn reasons()
     ensures ids { (c : List Slot) (id : ℕ) → IfErr (resolve c id) IsIdReason }
     ensures tables { (c : List Slot) (v : Value) (g : List Table) →
@@ -89,8 +92,8 @@ pub fn decided()
 {}
 
 /// The texts of the system slots are UTF-8, and so are those behind a local symbol table where they
-/// were before it, those of the catalog are, and the table is a value that the types keep. The symbols
-/// of such a context have UTF-8 texts.
+/// were before it, those of the catalog are, and the table is a value that the types keep. The
+/// symbols of such a context have UTF-8 texts.
 pub fn texts_stay()
     ensures system { AreTextSlots system_slots }
     ensures behind { (c d : List Slot) (v : Value) (g : List Table) → AreTextTables g →

@@ -1,9 +1,10 @@
-//! What every reader of Ion documents promises, the limits and the catalog under which it reads, and
-//! the devices that octets come from and go to.
+//! What every reader of Ion documents promises, the limits and the catalog under which it reads,
+//! and the devices that octets come from and go to.
 #![tactic(auto)]
 
 mod added_slots;
 mod catalog;
+mod catalog_index;
 mod context;
 mod fault;
 mod fields;
@@ -14,7 +15,6 @@ mod items;
 pub mod laws;
 mod limits;
 mod outlet;
-mod catalog_index;
 mod segments;
 mod shared_table;
 mod symbols;

@@ -56,8 +56,8 @@ impl Limits {
         Limits::new(depth, self.item, self.reads)
     }
 
-    /// These limits with another greatest number of octets of an item. `None` exactly where it isn't in 1
-    /// to 2^30.
+    /// These limits with another greatest number of octets of an item. `None` exactly where it
+    /// isn't in 1 to 2^30.
     pub fn with_item(self, item: u64) -> Option<Limits>
         ensures some { IfSome result (λ limits.
             (limits.depth ≡ self.depth) × (limits.item ≡ item) × (limits.reads ≡ self.reads)) }
@@ -66,7 +66,8 @@ impl Limits {
         Limits::new(self.depth, item, self.reads)
     }
 
-    /// These limits with another greatest number of reads. `None` exactly where it isn't in 1 to 2^32.
+    /// These limits with another greatest number of reads. `None` exactly where it isn't in 1 to
+    /// 2^32.
     pub fn with_reads(self, reads: u64) -> Option<Limits>
         ensures some { IfSome result (λ limits.
             (limits.depth ≡ self.depth) × (limits.item ≡ self.item) × (limits.reads ≡ reads)) }

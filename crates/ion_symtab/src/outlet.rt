@@ -9,8 +9,9 @@ use std::io::Write;
 
 /// A device that takes octets.
 ///
-/// Contracts see it in two ways. `took` is what it holds, where that is known: all of a vector, nothing of
-/// a file. `written` and `passed` say what its calls of `write` and `flush` have answered, of files too.
+/// Contracts see it in two ways. `took` is what it holds, where that is known: all of a vector,
+/// nothing of a file. `written` and `passed` say what its calls of `write` and `flush` have
+/// answered, of files too.
 pub trait Outlet {
     /// The octets that were taken so far, where they are known.
     ghost took: { Self → Option (List ℕ) };
@@ -24,8 +25,8 @@ pub trait Outlet {
     /// Whether a write or a flush has failed.
     ghost has_failed: { Self → Bool };
 
-    /// Takes a front of `octets`, and answers how many: at most their number, and at least one where
-    /// there is one.
+    /// Takes a front of `octets`, and answers how many: at most their number, and at least one
+    /// where there is one.
     ///
     /// `Failed` where the device failed, an interrupted call included, and then in each later call.
     /// Nothing was taken by a call that failed.

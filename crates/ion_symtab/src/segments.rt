@@ -93,7 +93,8 @@ fn segment_of(segments: &[Segment], place: u32) -> usize
     requires starts { StartsBy place segments.now 0 }
     ensures within { result < length segments.now }
     ensures starts { StartsBy place segments.now result }
-    ensures last { (result + 1 < length segments.now) → StartsBehind place segments.now (result + 1) }
+    ensures last { (result + 1 < length segments.now)
+        → StartsBehind place segments.now (result + 1) }
 {
     let mut low = 0;
     let mut high = segments.len();
@@ -187,7 +188,8 @@ impl Segments {
     fn room_for(&self, count: u128) -> Result<u32, Reason>
         ensures { MatchResult result
             (λ n. (n ≡ count) × (self.now.first + length self.now.slots + n ≤ greatest_id))
-            (λ r. (r ≡ reasons.TableTooLarge) × (greatest_id < self.now.first + length self.now.slots + count)) }
+            (λ r. (r ≡ reasons.TableTooLarge)
+            × (greatest_id < self.now.first + length self.now.slots + count)) }
     {
         if count > (GREATEST_ID - self.end) as u128 {
             return Err(Reason::TableTooLarge);
@@ -197,7 +199,8 @@ impl Segments {
 
     // Adds the slots of a shared table, cut or filled up.
     fn push_import(&mut self, table: &SharedTable, count: u128) -> Result<(), Reason>
-        ensures { Adds (λ slots. joined slots (cut_or_filled count (map shared_slot table.now.symbols))) self.old self.new result }
+        ensures { Adds (λ slots. joined slots
+            (cut_or_filled count (map shared_slot table.now.symbols))) self.old self.new result }
     {
         let count = self.room_for(count)?;
         let symbols = table.symbols().share()?;
@@ -206,7 +209,8 @@ impl Segments {
 
     // Adds the slots of one element of `imports`.
     fn push_element(&mut self, element: &Value, catalog: &Catalog) -> Result<(), Reason>
-        ensures { Adds (λ slots. element_added catalog.now slots element.now) self.old self.new result }
+        ensures { Adds (λ slots. element_added catalog.now slots element.now) self.old self.new
+            result }
     {
         match &element.payload {
             Payload::Fields(fields) => match import_of(fields.as_slice(), catalog)? {
@@ -231,11 +235,14 @@ impl Segments {
         Ok(())
     }
 
-    /// The symbols of the elements of `symbols`, in order, if there are ids for them behind these slots.
+    /// The symbols of the elements of `symbols`, in order, if there are ids for them behind these
+    /// slots.
     pub(crate) fn symbols(&self, elements: &[Value]) -> Result<Vec<Symbol>, Reason>
         ensures { MatchResult result
-            (λ s. (s.items ≡ map symbol_of elements.now) × (self.now.first + length self.now.slots + length s.items ≤ greatest_id))
-            (λ r. (r ≡ reasons.Memory) ⊎ (r ≡ reasons.TableTooLarge) × (greatest_id < self.now.first + length self.now.slots + length elements.now)) }
+            (λ s. (s.items ≡ map symbol_of elements.now)
+            × (self.now.first + length self.now.slots + length s.items ≤ greatest_id))
+            (λ r. (r ≡ reasons.Memory) ⊎ (r ≡ reasons.TableTooLarge)
+            × (greatest_id < self.now.first + length self.now.slots + length elements.now)) }
     {
         self.room_for(elements.len() as u128)?;
         symbols_of(self.alloc(), elements)
@@ -243,7 +250,8 @@ impl Segments {
 
     /// Adds the symbols of local tables. A refusal hands them back and changes nothing.
     pub(crate) fn push_symbols(&mut self, symbols: Vec<Symbol>) -> Result<(), Vec<Symbol>>
-        requires room { self.old.first + length self.old.slots + length symbols.items ≤ greatest_id }
+        requires room { self.old.first + length self.old.slots + length symbols.items ≤
+            greatest_id }
         ensures first { self.new.first ≡ self.old.first }
         ensures ok { OnOk result (self.new.slots ≡ self.old.slots ++ map local_slot symbols.items) }
         ensures err { OnErr result (self.new ≡ self.old) }

@@ -17,8 +17,8 @@ use std::marker::Model;
 // The most symbols that have ids behind those of the nine system symbols.
 const MOST_SYMBOLS: usize = GREATEST_ID as usize - 9;
 
-/// A shared symbol table: a name, a version, and symbols, some of which may be empty slots (Ion 1.0,
-/// "Symbols", "Shared Symbol Tables").
+/// A shared symbol table: a name, a version, and symbols, some of which may be empty slots (Ion
+/// 1.0, "Symbols", "Shared Symbol Tables").
 #[derive(Drop, Debug)]
 pub struct SharedTable {
     name: Text,
@@ -50,7 +50,8 @@ impl SharedTable {
         version: u32,
         symbols: Vec<Option<String>>,
     ) -> Result<SharedTable, Reason>
-        ensures { Gives (table_of (string_bytes name) version (map (option_map string_bytes) symbols.items)) result }
+        ensures { Gives (table_of (string_bytes name) version
+            (map (option_map string_bytes) symbols.items)) result }
     {
         let symbols = known(alloc, &symbols)?;
         usable(alloc, Text::from_string(name), version as u128, symbols)
@@ -60,10 +61,11 @@ impl SharedTable {
     /// `$ion_shared_symbol_table` (Ion 1.0, "Symbols", "Shared Symbol Tables").
     ///
     /// `version` is 1 where it is absent, null, no int, or below 1. `symbols` gives a slot for each
-    /// element of a list, empty where it is no string; other fields are open content. `RepeatedField`
-    /// where `name`, `version`, `symbols` or `imports` stands twice. `BadTable` where the value is no
-    /// such struct, `name` is no string or one that `new` refuses, `new` refuses the version or the
-    /// number of symbols, or `imports` is neither absent, null nor an empty list.
+    /// element of a list, empty where it is no string; other fields are open content.
+    /// `RepeatedField` where `name`, `version`, `symbols` or `imports` stands twice. `BadTable`
+    /// where the value is no such struct, `name` is no string or one that `new` refuses, `new`
+    /// refuses the version or the number of symbols, or `imports` is neither absent, null nor an
+    /// empty list.
     pub fn from_value(alloc: Global, value: &Value) -> Result<SharedTable, Reason>
         ensures { Gives (shared_table value.now) result }
     {
@@ -73,8 +75,8 @@ impl SharedTable {
         }
     }
 
-    /// What a table keeps about itself: its symbols' texts are UTF-8; its name is neither empty nor `$ion`,
-    /// its version in 1 to 2^31-1, and its symbols are at most 2^31-10. Does nothing.
+    /// What a table keeps about itself: its symbols' texts are UTF-8; its name is neither empty nor
+    /// `$ion`, its version in 1 to 2^31-1, and its symbols are at most 2^31-10. Does nothing.
     pub fn kept(&self)
         ensures texts { AreTexts self.now.symbols }
         ensures usable { is_usable self.now.name self.now.version self.now.symbols ≡ true }

@@ -7,15 +7,16 @@ use crate::outlet::Outlet;
 
 /// Writes all of `octets`, in as many writes as the device wants; none where there are no octets.
 ///
-/// `Write`, and no other fault, where a write failed. The device has then taken some first octets of
-/// them, and nothing else.
+/// `Write`, and no other fault, where a write failed. The device has then taken some first octets
+/// of them, and nothing else.
 pub fn write_whole<W: Outlet>(writer: &mut W, octets: &[u8]) -> Result<(), Fault>
     ensures whole { OnOk result (Took W.took W.written writer.old writer.new octets.now) }
     ensures no_write_failed { OnOk result (W.has_failed writer.old ≡ false →
         W.has_failed writer.new ≡ false) }
     ensures front { OnErr result (TookFront W.took W.written writer.old writer.new octets.now) }
     ensures not_passed { W.passed writer.new ≡ W.passed writer.old }
-    ensures cause { IfErr result (λ fault. (fault ≡ Fault.Write) × (W.has_failed writer.new ≡ true)) }
+    ensures cause { IfErr result (λ fault. (fault ≡ Fault.Write)
+        × (W.has_failed writer.new ≡ true)) }
 {
     let mut at = 0;
     while at < octets.len() {
@@ -35,7 +36,8 @@ pub fn flushed<W: Outlet>(writer: &mut W) -> Result<(), Fault>
     ensures no_write_failed { OnOk result (W.has_failed writer.new ≡ false) }
     ensures kept { Took W.took W.written writer.old writer.new [] }
     ensures not_passed { OnErr result (W.passed writer.new ≡ W.passed writer.old) }
-    ensures cause { IfErr result (λ fault. (fault ≡ Fault.Write) × (W.has_failed writer.new ≡ true)) }
+    ensures cause { IfErr result (λ fault. (fault ≡ Fault.Write)
+        × (W.has_failed writer.new ≡ true)) }
 {
     writer.flush().map_err(|_| Fault::Write)
 }

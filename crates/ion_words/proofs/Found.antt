@@ -18,7 +18,8 @@ fst-map f g (Some x) = refl
 names-same : (m : ArgMatches) → option_map (λ p. p.0) (subcommand_rows_of m) ≡ subcommand_name_of m
 names-same m = fst-map _ _ _
 
-joined : {A B X : Type 0} (f : X → A) (g : X → B) (r : Option X) (x : Option (A × B)) → option_map f r ≡ option_map (λ p. p.0) x → option_map g r ≡ option_map (λ p. p.1) x
+joined : {A B X : Type 0} (f : X → A) (g : X → B) (r : Option X) (x : Option (A × B)) → option_map f r ≡ option_map (λ p. p.0) x
+    → option_map g r ≡ option_map (λ p. p.1) x
     → option_map (λ y. (f y, g y)) r ≡ x
 joined f g None None d e = refl
 joined f g None (Some p) d e = absurd (true≢false (sym (ap is_some d)))
@@ -56,14 +57,16 @@ not_memory e = true≢false (ap is_usage e)
 -- an error that isn't of memory comes only where nothing is asked for
 pub refused : (words : List Text) → (words ≡ [] → ⊥) → (a : App) → a ≡ program → (e : Error) → (is_simple_and_free a ≡ true → HasKind (fault_of a words) e)
     → (err : WordsError) → (err ≡ Memory) ↔ (kind_of e ≡ OutOfMemory) → err ≡ Usage → asked words ≡ None
-refused words some a is e has err same usage = asked-none words some (λ none. by_kind (subst (λ k. HasKind k e) (ap (λ (x : App). fault_of x words) is ∙ none) (has (ap is_simple_and_free is))))
+refused words some a is e has err same usage = asked-none words some
+    (λ none. by_kind (subst (λ k. HasKind k e) (ap (λ (x : App). fault_of x words) is ∙ none) (has (ap is_simple_and_free is))))
   where
     by_kind : HasKind [] e → ⊥
     by_kind (inl out) = not_memory (sym usage ∙ same.1 out)
     by_kind (inr among) = among
 
 -- what was found is what is asked for
-pub found : (words : List Text) → (words ≡ [] → ⊥) → (a : App) → a ≡ program → (m : ArgMatches) → (is_simple_and_free a ≡ true → fault_of a words ≡ []) → HasMatchesOf a words m
+pub found : (words : List Text) → (words ≡ [] → ⊥) → (a : App) → a ≡ program → (m : ArgMatches) → (is_simple_and_free a ≡ true → fault_of a words ≡ [])
+    → HasMatchesOf a words m
     → asked words ≡ by (subcommand_rows_of m)
 found words some a is m free has = asked-by words some (sym (ap (λ (x : App). fault_of x words) is) ∙ free (ap is_simple_and_free is))
     ∙ ap by (sym ((has (ap is_simple is)).1 ∙ ap (λ (x : App). subcommand_of x words) is))

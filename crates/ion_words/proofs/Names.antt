@@ -40,7 +40,8 @@ none_met idle word = refl
 none_met (option id) word = refl
 none_met positional word = refl
 
-plain_met : (c : List Rule) (waiting : Waiting) (position : ℕ) (name : Text) (held : Held) → IsPlain name → word_met c [] false waiting position name held ≡ plain_word c waiting name held
+plain_met : (c : List Rule) (waiting : Waiting) (position : ℕ) (name : Text) (held : Held) → IsPlain name → word_met c [] false waiting position name held
+    ≡ plain_word c waiting name held
 plain_met c waiting position name held plain = rw (none_met waiting name, no_hyphen (45 ∷ []) name plain, no_long name plain, no_short name plain) refl
 
 no_fault : (s : Shape) (waiting : Waiting) (name : Text) (held : Held) → IsPlain name → word_fault s [] false waiting name held ≡ []
@@ -51,7 +52,9 @@ no_fault s waiting name held plain = rw (none_met waiting name, no_hyphen (45 �
 abbrev asked_at : Text → Shape → Kinds → Walk → List Text → Option Asked
 asked_at command s faults w words =
     let end = (fold (walked s.rules []) w words).held in
-    if is_empty (or_else (or_else (or_else faults (walk_fault s [] w words)) (or_else (settle_fault s.rules s.args_override_self end) (or_else (defaults_fault (settled s.rules end).rows s.rules) (check_fault s (finished s.rules end) false)))) [])
+    if is_empty (or_else (or_else (or_else faults (walk_fault s [] w words))
+    (or_else (settle_fault s.rules s.args_override_self end)
+    (or_else (defaults_fault (settled s.rules end).rows s.rules) (check_fault s (finished s.rules end) false)))) [])
     then asked_by command (finished s.rules end) else None
 
 abbrev place : Held → Waiting → ℕ → Walk
@@ -60,10 +63,12 @@ place held waiting position = record { held = held; waiting = waiting; position 
 -- a plain name is no flag, so it goes to what waits for it
 plain_step : (command : Text) (s : Shape) (held : Held) (waiting : Waiting) (position : ℕ) (name : Text) (words : List Text) → IsPlain name
     → asked_at command s [] (place held waiting position) (name ∷ words)
-    ≡ (let met = plain_word s.rules waiting name held in asked_at command s (step_fault s position met.0 met.1) (after_step s.rules name (place held waiting position) met.0 met.1) words)
+    ≡ (let met = plain_word s.rules waiting name held in asked_at command s (step_fault s position met.0 met.1)
+    (after_step s.rules name (place held waiting position) met.0 met.1) words)
 unfolding walked walk_fault
 plain_step command s held waiting position name words plain =
-    ap₂ (λ (fault : Kinds) (met : Held × Step). asked_at command s (or_else fault (step_fault s position met.0 met.1)) (after_step s.rules name (place held waiting position) met.0 met.1) words)
+    ap₂ (λ (fault : Kinds) (met : Held × Step). asked_at command s (or_else fault (step_fault s position met.0 met.1))
+    (after_step s.rules name (place held waiting position) met.0 met.1) words)
     (no_fault s waiting name held plain) (plain_met s.rules waiting position name held plain)
 
 -- ---- the walk over the words of a command
@@ -89,7 +94,8 @@ stopped_at command words = record (walk_from nothing_held) { stopped = Some (com
 
 -- the words behind a command's name are left to it
 left_to : (command : Text) (words : List Text)
-    → asked_above (walk_fault (built program).top (names_of (built program)) (stopped_at command []) words) (fold (walked (built program).top.rules (names_of (built program))) (stopped_at command []) words)
+    → asked_above (walk_fault (built program).top (names_of (built program)) (stopped_at command []) words)
+    (fold (walked (built program).top.rules (names_of (built program))) (stopped_at command []) words)
     ≡ asked_above [] (stopped_at command words)
 left_to command words =
     ap₂ asked_above (stopped_fault (built program).top (names_of (built program)) (walk_from nothing_held) (command, []) words)
@@ -123,11 +129,14 @@ show_plain name plain = in_show (name ∷ []) ∙ plain_step (codes "show") (com
 
 pub to_text_plain : (name : Text) → IsPlain name → asked (codes "convert" ∷ name ∷ codes "--to" ∷ codes "text" ∷ []) ≡ Some (usual (convert name target.Text))
 unfolding clap_on_literals
-to_text_plain name plain = in_convert (name ∷ codes "--to" ∷ codes "text" ∷ []) ∙ plain_step (codes "convert") (command_of (codes "convert")) nothing_held idle 1 name (codes "--to" ∷ codes "text" ∷ []) plain
+to_text_plain name plain = in_convert (name ∷ codes "--to" ∷ codes "text" ∷ [])
+    ∙ plain_step (codes "convert") (command_of (codes "convert")) nothing_held idle 1 name (codes "--to" ∷ codes "text" ∷ []) plain
 
-pub to_binary_plain : (name : Text) → IsPlain name → asked (codes "convert" ∷ name ∷ codes "--to" ∷ codes "binary" ∷ []) ≡ Some (usual (convert name target.Binary))
+pub to_binary_plain : (name : Text) → IsPlain name → asked (codes "convert" ∷ name ∷ codes "--to" ∷ codes "binary" ∷ [])
+    ≡ Some (usual (convert name target.Binary))
 unfolding clap_on_literals
-to_binary_plain name plain = in_convert (name ∷ codes "--to" ∷ codes "binary" ∷ []) ∙ plain_step (codes "convert") (command_of (codes "convert")) nothing_held idle 1 name (codes "--to" ∷ codes "binary" ∷ []) plain
+to_binary_plain name plain = in_convert (name ∷ codes "--to" ∷ codes "binary" ∷ [])
+    ∙ plain_step (codes "convert") (command_of (codes "convert")) nothing_held idle 1 name (codes "--to" ∷ codes "binary" ∷ []) plain
 
 -- what is held where a name was read for a place
 abbrev placed : Text → Text → Held
@@ -139,7 +148,8 @@ compare_once left right e = ap (λ b. if (not ((b || false) && is_input left) &&
 
 pub compare_plain : (left right : Text) → IsPlain left → IsPlain right → asked (codes "compare" ∷ left ∷ right ∷ []) ≡ Some (usual (compare left right))
 unfolding clap_on_literals
-compare_plain left right plain right_plain = in_compare (left ∷ right ∷ []) ∙ plain_step (codes "compare") (command_of (codes "compare")) nothing_held idle 1 left (right ∷ []) plain
+compare_plain left right plain right_plain = in_compare (left ∷ right ∷ []) ∙ plain_step (codes "compare") (command_of (codes "compare")) nothing_held idle 1
+    left (right ∷ []) plain
     ∙ plain_step (codes "compare") (command_of (codes "compare")) (placed (codes "LEFT") left) idle 2 right [] right_plain
     ∙ compare_once left right (no_hyphen [] right right_plain)
 
@@ -149,10 +159,14 @@ with_catalog name catalog = record (usual (check name)) { catalog = Some catalog
 catalog_once : (name catalog : Text) → is_input name ≡ false → input_once (with_catalog name catalog) ≡ Some (with_catalog name catalog)
 catalog_once name catalog e = ap (λ b. if (not ((b || false) && is_input catalog) && true) then Some (with_catalog name catalog) else None) e
 
-pub catalog_plain : (name catalog : Text) → IsPlain name → IsPlain catalog → asked (codes "check" ∷ name ∷ codes "--catalog" ∷ catalog ∷ []) ≡ Some (with_catalog name catalog)
+pub catalog_plain : (name catalog : Text) → IsPlain name → IsPlain catalog → asked (codes "check" ∷ name ∷ codes "--catalog" ∷ catalog ∷ [])
+    ≡ Some (with_catalog name catalog)
 unfolding clap_on_literals
-catalog_plain name catalog plain other_plain = in_check (name ∷ codes "--catalog" ∷ catalog ∷ []) ∙ plain_step (codes "check") (command_of (codes "check")) nothing_held idle 1 name (codes "--catalog" ∷ catalog ∷ []) plain
-    ∙ plain_step (codes "check") (command_of (codes "check")) (record (settled (command_of (codes "check")).rules (placed (codes "FILE") name)) { pending = Some (codes "catalog", []) }) (option (codes "catalog")) 2 catalog [] other_plain
+catalog_plain name catalog plain other_plain = in_check (name ∷ codes "--catalog" ∷ catalog ∷ [])
+    ∙ plain_step (codes "check") (command_of (codes "check")) nothing_held idle 1 name (codes "--catalog" ∷ catalog ∷ []) plain
+    ∙ plain_step (codes "check") (command_of (codes "check"))
+    (record (settled (command_of (codes "check")).rules (placed (codes "FILE") name)) { pending = Some (codes "catalog", []) }) (option (codes "catalog")) 2
+    catalog [] other_plain
     ∙ catalog_once name catalog (no_hyphen [] name plain)
 
 -- behind `--` any word is a name
@@ -187,10 +201,12 @@ item_given : (fits : Bool) (n : ℕ) → judged fits (option_map (λ item. (64, 
 item_given true n = refl
 item_given false n = refl
 
-pub depth_is : (text : Text) → asked (codes "check" ∷ codes "a" ∷ (codes "--depth=" ++ text) ∷ []) ≡ option_map (λ depth. record (usual (check (codes "a"))) { depth = depth }) (number_in 128 text)
+pub depth_is : (text : Text) → asked (codes "check" ∷ codes "a" ∷ (codes "--depth=" ++ text) ∷ [])
+    ≡ option_map (λ depth. record (usual (check (codes "a"))) { depth = depth }) (number_in 128 text)
 unfolding clap_on_literals
 depth_is text = depth_given (is_unsigned_in 1 128 text) (digits_value 10 (without_leading_plus text))
 
-pub item_is : (text : Text) → asked (codes "check" ∷ codes "a" ∷ (codes "--item=" ++ text) ∷ []) ≡ option_map (λ item. record (usual (check (codes "a"))) { item = item }) (number_in (2 ^ 30) text)
+pub item_is : (text : Text) → asked (codes "check" ∷ codes "a" ∷ (codes "--item=" ++ text) ∷ [])
+    ≡ option_map (λ item. record (usual (check (codes "a"))) { item = item }) (number_in (2 ^ 30) text)
 unfolding clap_on_literals
 item_is text = item_given (is_unsigned_in 1 (2 ^ 30) text) (digits_value 10 (without_leading_plus text))

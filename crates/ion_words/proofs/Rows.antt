@@ -29,7 +29,8 @@ pub sides : asked (words_in (codes "compare a b")) ≡ Some (usual (compare (cod
 unfolding clap_on_literals
 sides = refl
 
-pub options : asked (words_in (codes "check --catalog c a --depth=3 --item 9")) ≡ Some (record { job = check (codes "a"); catalog = Some (codes "c"); depth = 3; item = 9 })
+pub options : asked (words_in (codes "check --catalog c a --depth=3 --item 9"))
+    ≡ Some (record { job = check (codes "a"); catalog = Some (codes "c"); depth = 3; item = 9 })
 unfolding clap_on_literals
 options = refl
 

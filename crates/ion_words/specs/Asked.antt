@@ -41,8 +41,10 @@ target_named name = if bytes_eq name (codes "text") then Some target.Text
 abbrev pub job_of : Text → List Row → Option Job
 job_of command rows = if bytes_eq command (codes "check") then option_map check (first_of (codes "FILE") rows)
     else if bytes_eq command (codes "show") then option_map show (first_of (codes "FILE") rows)
-    else if bytes_eq command (codes "convert") then option_and_then (λ file. option_map (convert file) (option_and_then target_named (first_of (codes "to") rows))) (first_of (codes "FILE") rows)
-    else if bytes_eq command (codes "compare") then option_and_then (λ left. option_map (compare left) (first_of (codes "RIGHT") rows)) (first_of (codes "LEFT") rows)
+    else if bytes_eq command (codes "convert") then option_and_then
+    (λ file. option_map (convert file) (option_and_then target_named (first_of (codes "to") rows))) (first_of (codes "FILE") rows)
+    else if bytes_eq command (codes "compare") then option_and_then (λ left. option_map (compare left) (first_of (codes "RIGHT") rows))
+    (first_of (codes "LEFT") rows)
     else None
 
 -- the number from 1 to `most` that the text writes in base 10
@@ -115,7 +117,13 @@ limits_told limits = (limits.depth, limits.item)
 
 -- a request, without the places that its names stand in
 abbrev pub told : Request → Asked
-told request = record { job = job request.task; catalog = option_map (λ name. name.now) request.catalog; depth = request.limits.depth; item = request.limits.item }
+told request = record {
+  job = job request.task;
+  catalog = option_map (λ name. name.now) request.catalog;
+  depth =
+      request.limits.depth;
+  item = request.limits.item;
+}
 
 -- none of the names is the standard input's
 abbrev pub NamesNoInput : List Text → Type 0

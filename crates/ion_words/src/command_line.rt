@@ -114,7 +114,8 @@ fn with_needed_option<'a>(
     command: Command<'a>,
     id: &'a str,
 ) -> Result<Command<'a>, AllocError>
-    ensures { IfOk result (λ r. app_of r ≡ with_rule (app_of command.entry) (needed_option id.now)) }
+    ensures { IfOk result (λ r. app_of r ≡ with_rule (app_of command.entry)
+        (needed_option id.now)) }
 {
     command.arg(Arg::new(alloc, id).long(id).required(true))
 }

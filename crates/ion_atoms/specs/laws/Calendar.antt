@@ -51,7 +51,14 @@ days_from_civil-day_number d h = omega (arith, signed_arith, counted d h)
 
 -- the same day in jiff
 unfoldable pub civil_date : (d : Date) → IsDate d → CivilDate
-civil_date d h = record { year = pos d.year; month = d.month; day = d.day; year_in = (omega (arith, signed_arith, h.year), omega (arith, signed_arith, h.year)); month_in = h.month; day_in = h.day }
+civil_date d h = record {
+  year = pos d.year;
+  month = d.month;
+  day = d.day;
+  year_in = (omega (arith, signed_arith, h.year), omega (arith, signed_arith, h.year));
+  month_in = h.month;
+  day_in = h.day;
+}
 
 pub civil_day_number : (d : Date) (h : IsDate d) → epoch_day (civil_date d h) ≡ pos (day_number d) +ℤ start
 unfolding civil_date
@@ -108,10 +115,18 @@ module _ (d : Date) (h : IsDate d) where
       omega (arith, years-le 1 (d.year - 1), no_month 1)
 
   pub le-last : day_number d ≤ last_day
-  le-last = omega (arith, signed_arith, civil_day_number d h, epoch_day_range (civil_date d h), days_from_civil-max, days_from_civil-day_number (record { year = 9999; month = 12; day = 31 }) (omega arith))
+  le-last = omega (
+    arith,
+    signed_arith,
+    civil_day_number d h,
+    epoch_day_range (civil_date d h),
+    days_from_civil-max,
+    days_from_civil-day_number (record { year = 9999; month = 12; day = 31 }) (omega arith),
+  )
 
   -- a day of jiff's that follows one before the year 1 is the first
-  pub is_first : (c₀ c : CivilDate) → IsYmd (pos d.year) (pos d.month) (pos d.day) c₀ → epoch_day c ≡ epoch_day c₀ -ℤ pos 1 → c.year <ℤ pos 1 → day_number d ≡ first_day
+  pub is_first : (c₀ c : CivilDate) → IsYmd (pos d.year) (pos d.month) (pos d.day) c₀ → epoch_day c ≡ epoch_day c₀ -ℤ pos 1 → c.year <ℤ pos 1
+      → day_number d ≡ first_day
   is_first c₀ c i e low = omega (arith, signed_arith, first-le, civil_number c₀ i, before_all c low)
 
   pub has_before : (c : CivilDate) → IsYmd (pos d.year) (pos d.month) (pos d.day) c → neg_ℤ (pos 4_371_587) <ℤ epoch_day c
@@ -120,13 +135,21 @@ module _ (d : Date) (h : IsDate d) where
   pub is_last : (c : CivilDate) → IsYmd (pos d.year) (pos d.month) (pos d.day) c → (epoch_day c <ℤ pos 2_932_896 → ⊥) → day_number d ≡ last_day
   is_last c i n =
       by_lt_z (epoch_day c) (pos 2_932_896) (λ lt. absurd (n lt))
-      (λ ge. omega (arith, signed_arith, le-last, civil_number c i, days_from_civil-max, days_from_civil-day_number (record { year = 9999; month = 12; day = 31 }) (omega arith)))
+      (λ ge. omega (
+        arith,
+        signed_arith,
+        le-last,
+        civil_number c i,
+        days_from_civil-max,
+        days_from_civil-day_number (record { year = 9999; month = 12; day = 31 }) (omega arith),
+      ))
 
   pub stays : (c₀ c : CivilDate) → IsYmd (pos d.year) (pos d.month) (pos d.day) c₀ → epoch_day c ≡ epoch_day c₀ +ℤ pos 1 → c.year <ℤ pos 1 → ⊥
   stays c₀ c i e low = omega (arith, signed_arith, first-le, civil_number c₀ i, before_all c low)
 
 -- and days whose jiff numbers differ by one
-module _ (d e : Date) (h : IsDate d) (k : IsDate e) (c b : CivilDate) (i : IsYmd (pos d.year) (pos d.month) (pos d.day) c) (j : IsYmd (pos e.year) (pos e.month) (pos e.day) b) where
+module _ (d e : Date) (h : IsDate d) (k : IsDate e) (c b : CivilDate) (i : IsYmd (pos d.year) (pos d.month) (pos d.day) c)
+    (j : IsYmd (pos e.year) (pos e.month) (pos e.day) b) where
   pub one_less : epoch_day b ≡ epoch_day c -ℤ pos 1 → day_number e + 1 ≡ day_number d
   one_less n = omega (arith, signed_arith, civil_number d h c i, civil_number e k b j)
 

@@ -6,13 +6,17 @@ use Rattle.ion_atoms.specs.Decimals.{decimal_same}
 use Rattle.ion_atoms.specs.Timestamps.{local_same, precision_rank, timestamp_same}
 
 pub decimal_same-equiv : IsEquivalence decimal_same
-decimal_same-equiv = and_equiv (and_equiv (on_equiv (λ d. d.negative) bool_eq_equiv) (on_equiv (λ d. d.magnitude) nat_eq_equiv)) (on_equiv (λ d. d.exponent) int_eq_equiv)
+decimal_same-equiv = and_equiv (and_equiv (on_equiv (λ d. d.negative) bool_eq_equiv) (on_equiv (λ d. d.magnitude) nat_eq_equiv))
+    (on_equiv (λ d. d.exponent) int_eq_equiv)
 
 local_same-equiv : IsEquivalence local_same
 local_same-equiv =
-    and_equiv (and_equiv (and_equiv (and_equiv (and_equiv (and_equiv (on_equiv (λ l. l.year) nat_eq_equiv) (on_equiv (λ l. l.month) nat_eq_equiv)) (on_equiv (λ l. l.day) nat_eq_equiv))
-    (on_equiv (λ l. l.hour) nat_eq_equiv)) (on_equiv (λ l. l.minute) nat_eq_equiv)) (on_equiv (λ l. l.second) nat_eq_equiv)) (on_equiv (λ l. l.fraction) nat_eq_equiv)
+    and_equiv (and_equiv (and_equiv (and_equiv (and_equiv (and_equiv (on_equiv (λ l. l.year) nat_eq_equiv) (on_equiv (λ l. l.month) nat_eq_equiv))
+    (on_equiv (λ l. l.day) nat_eq_equiv))
+    (on_equiv (λ l. l.hour) nat_eq_equiv)) (on_equiv (λ l. l.minute) nat_eq_equiv)) (on_equiv (λ l. l.second) nat_eq_equiv))
+    (on_equiv (λ l. l.fraction) nat_eq_equiv)
 
 pub timestamp_same-equiv : IsEquivalence timestamp_same
 timestamp_same-equiv =
-    and_equiv (and_equiv (on_equiv (λ t. precision_rank t.precision) nat_eq_equiv) (on_equiv (λ t. t.offset) (options_equiv int_eq_equiv))) (on_equiv (λ t. t.local) local_same-equiv)
+    and_equiv (and_equiv (on_equiv (λ t. precision_rank t.precision) nat_eq_equiv) (on_equiv (λ t. t.offset) (options_equiv int_eq_equiv)))
+    (on_equiv (λ t. t.local) local_same-equiv)

@@ -52,7 +52,8 @@ module _ (d : Date) (h : IsDate d) where
               let next : d.year + 1 ≡ suc d.year = omega arith in
               let long : d.day ≡ 31 = omega (arith, h.day, ap (month_length d.year) twelfth) in
               let months : days_of_months d.year (d.month - 1) ≡ days_of_months d.year 11 = ap (λ m. days_of_months d.year (m - 1)) twelfth in
-              rw (le-ltb d.day (month_length d.year d.month) last, le-ltb d.month 12 december, next) (omega (arith, year_more d.year, year_months d.year, no_month (suc d.year), months, long))
+              rw (le-ltb d.day (month_length d.year d.month) last, le-ltb d.month 12 december, next)
+              (omega (arith, year_more d.year, year_months d.year, no_month (suc d.year), months, long))
         ]
       ]
 
@@ -61,10 +62,12 @@ module _ (d : Date) (h : IsDate d) where
       elim (cases_lt d.day (month_length d.year d.month)) [
         | inl within ↦ rw (lt-ltb d.day (month_length d.year d.month) within) (record { year = h.year; month = h.month; day = (omega arith, omega arith) })
         | inr last ↦ elim (cases_lt d.month 12) [
-          | inl month ↦ rw (le-ltb d.day (month_length d.year d.month) last, lt-ltb d.month 12 month) (record { year = h.year; month = (omega arith, omega arith); day = (omega arith, omega (arith, month_least d.year (d.month + 1))) })
+          | inl month ↦ rw (le-ltb d.day (month_length d.year d.month) last, lt-ltb d.month 12 month)
+              (record { year = h.year; month = (omega arith, omega arith); day = (omega arith, omega (arith, month_least d.year (d.month + 1))) })
           | inr december ↦
               let small = rw (le-ltb d.day (month_length d.year d.month) last, le-ltb d.month 12 december) at bound in
-              rw (le-ltb d.day (month_length d.year d.month) last, le-ltb d.month 12 december) (record { year = (omega arith, small); month = (omega arith, omega arith); day = (omega arith, omega arith) })
+              rw (le-ltb d.day (month_length d.year d.month) last, le-ltb d.month 12 december)
+              (record { year = (omega arith, small); month = (omega arith, omega arith); day = (omega arith, omega arith) })
         ]
       ]
 
@@ -74,7 +77,8 @@ module _ (d : Date) (h : IsDate d) where
         | inl within ↦ rw (lt-ltb 1 d.day within) (omega arith)
         | inr first ↦ elim (cases_lt 1 d.month) [
           | inl month ↦
-              rw (le-ltb 1 d.day first, lt-ltb 1 d.month month) (omega (arith, h.day, month_least d.year (d.month - 1), month_before (d.month - 1) (omega arith)))
+              rw (le-ltb 1 d.day first, lt-ltb 1 d.month month) (omega
+              (arith, h.day, month_least d.year (d.month - 1), month_before (d.month - 1) (omega arith)))
           | inr january ↦
               let one : d.month ≡ 1 = omega (arith, h.month) in
               let next : suc (d.year - 1) ≡ d.year = omega arith in
@@ -89,10 +93,16 @@ module _ (d : Date) (h : IsDate d) where
       elim (cases_lt 1 d.day) [
         | inl within ↦ rw (lt-ltb 1 d.day within) (record { year = h.year; month = h.month; day = (omega arith, omega (arith, h.day)) })
         | inr first ↦ elim (cases_lt 1 d.month) [
-          | inl month ↦ rw (le-ltb 1 d.day first, lt-ltb 1 d.month month) (record { year = h.year; month = (omega arith, omega (arith, h.month)); day = (omega (arith, month_least d.year (d.month - 1)), omega arith) })
+          | inl month ↦ rw (le-ltb 1 d.day first, lt-ltb 1 d.month month)
+              (record { year = h.year; month = (omega arith, omega (arith, h.month)); day = (omega (arith, month_least d.year (d.month - 1)), omega arith) })
           | inr january ↦
               let small = rw (le-ltb 1 d.day first, le-ltb 1 d.month january) at bound in
-              rw (le-ltb 1 d.day first, le-ltb 1 d.month january) (record { year = (small, omega (arith, h.year)); month = (omega arith, omega arith); day = (omega arith, omega arith) })
+              rw (le-ltb 1 d.day first, le-ltb 1 d.month january) (record {
+                year = (small, omega (arith, h.year));
+                month =
+                    (omega arith, omega arith);
+                day = (omega arith, omega arith);
+              })
         ]
       ]
 

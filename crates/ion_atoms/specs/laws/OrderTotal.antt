@@ -11,7 +11,8 @@ pub decimal_cmp-total : IsTotalOrder decimal_cmp
 decimal_cmp-total = search (comparing, rules) depth 12
 
 pub timestamp_cmp-total : IsTotalOrder timestamp_cmp
-timestamp_cmp-total = then_total (then_total (then_total (on_total (λ t. precision_rank t.precision) nat_cmp_total) (on_total (λ t. t.offset) (options_total int_cmp_total)))
+timestamp_cmp-total = then_total (then_total (then_total (on_total (λ t. precision_rank t.precision) nat_cmp_total)
+    (on_total (λ t. t.offset) (options_total int_cmp_total)))
     (on_total (λ t. t.local) date_cmp-total)) (on_total (λ t. t.local) time_cmp-total) where
       date_cmp-total : IsTotalOrder date_cmp
       date_cmp-total = search (comparing, rules) depth 12

@@ -39,7 +39,8 @@ module _ {X : Type 0} (E : X → X → Bool) where
     pub counted : p item ≡ true
     pub passes : q item ≡ true
 
-  pick_at : (p q : X → Bool) (x : X) (xs : List X) (b : Bool) → p x ≡ b → q x ≡ true → (0 < count_by p xs → Picked p q) → 0 < cond b 1 0 + count_by p xs → Picked p q
+  pick_at : (p q : X → Bool) (x : X) (xs : List X) (b : Bool) → p x ≡ b → q x ≡ true → (0 < count_by p xs → Picked p q) → 0 < cond b 1 0 + count_by p xs
+      → Picked p q
   pick_at p q x xs true is pass rest h = record { item = x; counted = is; passes = pass }
   pick_at p q x xs false is pass rest h = rest (omega arith)
 
@@ -56,7 +57,8 @@ module _ {X : Type 0} (E : X → X → Bool) where
 
   find_at : (x y : X) (ys : List X) (b : Bool) → E x y ≡ b → (0 < count ys x → Found x ys) → 0 < cond b 1 0 + count ys x → Found x (y ∷ ys)
   find_at x y ys true is rest h = record { place = 0; within = omega arith; alike = λ d. is }
-  find_at x y ys false is rest h = let f = rest (omega arith) in record { place = suc f.place; within = (let w = f.within in omega (arith, w)); alike = f.alike }
+  find_at x y ys false is rest h = let f = rest (omega arith) in
+      record { place = suc f.place; within = (let w = f.within in omega (arith, w)); alike = f.alike }
 
   pub find : (x : X) (ys : List X) → 0 < count ys x → Found x ys
   find x [] h = absurd (omega arith)

@@ -19,7 +19,8 @@ symbol_same-equiv = search (comparing, rules)
 pub scalar_same-equiv : IsEquivalence scalar_same
 scalar_same-equiv =
     and_equiv (on_equiv (λ s. s.kind) nat_eq_equiv) (and_equiv (on_equiv (λ s. s.full) bool_eq_equiv) (and_equiv (on_equiv (λ s. s.truth) bool_eq_equiv)
-    (and_equiv (on_equiv (λ s. s.int) int_eq_equiv) (and_equiv (on_equiv (λ s. s.decimal) decimal_same-equiv) (and_equiv (on_equiv (λ s. s.timestamp) timestamp_same-equiv)
+    (and_equiv (on_equiv (λ s. s.int) int_eq_equiv) (and_equiv (on_equiv (λ s. s.decimal) decimal_same-equiv)
+    (and_equiv (on_equiv (λ s. s.timestamp) timestamp_same-equiv)
     (and_equiv (on_equiv (λ s. s.symbol) symbol_same-equiv) (on_equiv (λ s. s.text) nat_list_eq_equiv)))))))
 
 pub field_same-equiv : (E : Value → Value → Bool) → IsEquivalence E → IsEquivalence (field_same E)

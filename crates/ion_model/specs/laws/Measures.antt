@@ -92,7 +92,8 @@ pub nodes-out : (v : Value) → nodes v ≡ length v.annotations + layer_nodes (
 unfolding nodes
 nodes-out v =
     fold_out-Value ℕ ℕ ℕ nodes_step (λ f. suc f.value) (λ v. length v.annotations + v.payload) v
-    ∙ ap (λ n. length v.annotations + n) (fold_out-Payload ℕ ℕ ℕ nodes_step (λ f. suc f.value) (λ v. length v.annotations + v.payload) v.payload ∙ nodes_step-layer (views.out-Payload v.payload))
+    ∙ ap (λ n. length v.annotations + n) (fold_out-Payload ℕ ℕ ℕ nodes_step (λ f. suc f.value) (λ v. length v.annotations + v.payload) v.payload
+    ∙ nodes_step-layer (views.out-Payload v.payload))
 
 -- the same of any value whose payload is known
 nodes-at : (v : Value) (p : Payload) (d : Layer) → v.payload ≡ p → views.out-Payload p ≡ d → nodes v ≡ length v.annotations + layer_nodes d
@@ -104,7 +105,8 @@ nodes-at-List v vs e = nodes-at v _ _ e (views.outs-List vs)
 pub nodes-at-Sexp : (v : Value) (vs : List Value) → v.payload ≡ payloads.Sexp vs → nodes v ≡ length v.annotations + suc (sum (map nodes vs))
 nodes-at-Sexp v vs e = nodes-at v _ _ e (views.outs-Sexp vs)
 
-pub nodes-at-Fields : (v : Value) (fs : List Field) → v.payload ≡ payloads.Fields fs → nodes v ≡ length v.annotations + suc (sum (map (λ f. suc (nodes f.value)) fs))
+pub nodes-at-Fields : (v : Value) (fs : List Field) → v.payload ≡ payloads.Fields fs
+    → nodes v ≡ length v.annotations + suc (sum (map (λ f. suc (nodes f.value)) fs))
 nodes-at-Fields v fs e = nodes-at v _ _ e (views.outs-Fields fs)
 
 -- the nodes of a value without annotations

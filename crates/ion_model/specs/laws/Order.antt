@@ -15,14 +15,16 @@ use Rattle.ion_model.specs.declared.value.Field.{Field}
 use Rattle.ion_model.specs.declared.value.Payload.TheViews.{out-Payload}
 use Rattle.ion_model.specs.declared.value.Payload.TheOpen.{Payload-F}
 
-slice_cmp-agree : (n : ℕ) (R S : Value → Value → Ordering) → Agree n R S → (vs ws : List Value) → items_deep vs ≤ n → items_deep ws ≤ n → slice_cmp R vs ws ≡ slice_cmp S vs ws
+slice_cmp-agree : (n : ℕ) (R S : Value → Value → Ordering) → Agree n R S → (vs ws : List Value) → items_deep vs ≤ n → items_deep ws ≤ n
+    → slice_cmp R vs ws ≡ slice_cmp S vs ws
 slice_cmp-agree n R S h [] [] p q = refl
 slice_cmp-agree n R S h [] (w ∷ ws) p q = refl
 slice_cmp-agree n R S h (v ∷ vs) [] p q = refl
 slice_cmp-agree n R S h (v ∷ vs) (w ∷ ws) p q =
     rw (h.at v w (omega arith) (omega arith), slice_cmp-agree n R S h vs ws (omega arith) (omega arith))
 
-fields_cmp-agree : (n : ℕ) (R S : Value → Value → Ordering) → Agree n R S → (fs gs : List Field) → fields_deep fs ≤ n → fields_deep gs ≤ n → slice_cmp (field_cmp R) fs gs ≡ slice_cmp (field_cmp S) fs gs
+fields_cmp-agree : (n : ℕ) (R S : Value → Value → Ordering) → Agree n R S → (fs gs : List Field) → fields_deep fs ≤ n → fields_deep gs ≤ n
+    → slice_cmp (field_cmp R) fs gs ≡ slice_cmp (field_cmp S) fs gs
 fields_cmp-agree n R S h [] [] p q = refl
 fields_cmp-agree n R S h [] (g ∷ gs) p q = refl
 fields_cmp-agree n R S h (f ∷ fs) [] p q = refl
@@ -51,7 +53,10 @@ stable (suc m) (suc n) (suc k) p q =
 
 pub order-agrees : (n : ℕ) → Agree n (order_to n) order
 unfolding order
-order-agrees n = record { at = λ v w a b. (stable n (suc (max (depth v) (depth w))) (suc (max (depth v) (depth w))) (omega arith) (omega arith)).at v w (omega arith) (omega arith) }
+order-agrees n = record {
+  at = λ v w a b. (stable n (suc (max (depth v) (depth w))) (suc (max (depth v) (depth w))) (omega arith) (omega arith)).at v w
+      (omega arith) (omega arith);
+}
 
 -- the order of two values, by that of the values inside them
 pub order-is : (v w : Value) → order v w ≡ value_cmp order v w
@@ -59,7 +64,8 @@ unfolding order
 order-is v w = value-agree (max (depth v) (depth w)) _ order (order-agrees (max (depth v) (depth w))) v w (omega arith) (omega arith)
 
 -- a proper prefix comes first
-pub prefix_first : {A : Type 0} (R : A → A → Ordering) (xs ys : List A) (i : ℕ) → length xs ≤ i → i ≤ length xs → length xs < length ys → Less ≡ slice_cmp R (drop i xs) (drop i ys)
+pub prefix_first : {A : Type 0} (R : A → A → Ordering) (xs ys : List A) (i : ℕ) → length xs ≤ i → i ≤ length xs → length xs < length ys
+    → Less ≡ slice_cmp R (drop i xs) (drop i ys)
 prefix_first R [] [] i p q h = absurd (omega arith)
 prefix_first R (x ∷ xs) [] i p q h = absurd (omega arith)
 prefix_first R [] (y ∷ ys) zero p q h = refl

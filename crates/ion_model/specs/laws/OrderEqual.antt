@@ -21,8 +21,10 @@ use Rattle.ion_atoms.specs.laws.Ties.{then_first, then_second}
 
 kind_at : ℕ → Kind
 kind_at n =
-    cond (eqb n 0) kinds.Null (cond (eqb n 1) kinds.Bool (cond (eqb n 2) kinds.Int (cond (eqb n 3) kinds.Float (cond (eqb n 4) kinds.Decimal (cond (eqb n 5) kinds.Timestamp (cond (eqb n 6) kinds.Symbol
-    (cond (eqb n 7) kinds.Str (cond (eqb n 8) kinds.Clob (cond (eqb n 9) kinds.Blob (cond (eqb n 10) kinds.List (cond (eqb n 11) kinds.Sexp kinds.Fields)))))))))))
+    cond (eqb n 0) kinds.Null (cond (eqb n 1) kinds.Bool (cond (eqb n 2) kinds.Int
+    (cond (eqb n 3) kinds.Float (cond (eqb n 4) kinds.Decimal (cond (eqb n 5) kinds.Timestamp (cond (eqb n 6) kinds.Symbol
+    (cond (eqb n 7) kinds.Str (cond (eqb n 8) kinds.Clob (cond (eqb n 9) kinds.Blob
+    (cond (eqb n 10) kinds.List (cond (eqb n 11) kinds.Sexp kinds.Fields)))))))))))
 
 kind_at-rank : (k : Kind) → kind_at (kind_rank k) ≡ k
 unfolding kind_at
@@ -42,7 +44,12 @@ kind_at-rank kinds.Fields = refl
 
 -- the layer that has these parts
 rebuild : Scalar → List Value → List Field → Layer
-rebuild s vs fs = cond s.full (cond (eqb s.kind 1) (Payload-F.Truth s.truth) (cond (eqb s.kind 2) (Payload-F.Int s.int) (cond (eqb s.kind 4) (Payload-F.Decimal s.decimal) (cond (eqb s.kind 5) (Payload-F.Timestamp s.timestamp) (cond (eqb s.kind 6) (Payload-F.Symbol s.symbol) (cond (eqb s.kind 7) (Payload-F.Str s.text) (cond (eqb s.kind 8) (Payload-F.Clob s.text) (cond (eqb s.kind 9) (Payload-F.Blob s.text) (cond (eqb s.kind 10) (Payload-F.List vs) (cond (eqb s.kind 11) (Payload-F.Sexp vs) (Payload-F.Fields fs))))))))))) (Payload-F.Null (kind_at s.kind))
+rebuild s vs fs = cond s.full (cond (eqb s.kind 1) (Payload-F.Truth s.truth)
+    (cond (eqb s.kind 2) (Payload-F.Int s.int) (cond (eqb s.kind 4) (Payload-F.Decimal s.decimal)
+    (cond (eqb s.kind 5) (Payload-F.Timestamp s.timestamp) (cond (eqb s.kind 6) (Payload-F.Symbol s.symbol)
+    (cond (eqb s.kind 7) (Payload-F.Str s.text) (cond (eqb s.kind 8) (Payload-F.Clob s.text)
+    (cond (eqb s.kind 9) (Payload-F.Blob s.text) (cond (eqb s.kind 10) (Payload-F.List vs)
+    (cond (eqb s.kind 11) (Payload-F.Sexp vs) (Payload-F.Fields fs))))))))))) (Payload-F.Null (kind_at s.kind))
 
 rebuilt : (a : Layer) → rebuild (scalar a) (items a) (fields a) ≡ a
 unfolding rebuild
@@ -60,10 +67,12 @@ rebuilt (Payload-F.Sexp x) = refl
 rebuilt (Payload-F.Fields x) = refl
 
 layer_is : (a b : Layer) → scalar a ≡ scalar b → items a ≡ items b → fields a ≡ fields b → a ≡ b
-layer_is a b p q r = sym (rebuilt a) ∙ ap (λ s. rebuild s (items a) (fields a)) p ∙ ap (λ vs. rebuild (scalar b) vs (fields a)) q ∙ ap (λ fs. rebuild (scalar b) (items b) fs) r ∙ rebuilt b
+layer_is a b p q r = sym (rebuilt a) ∙ ap (λ s. rebuild s (items a) (fields a)) p ∙ ap (λ vs. rebuild (scalar b) vs (fields a)) q
+    ∙ ap (λ fs. rebuild (scalar b) (items b) fs) r ∙ rebuilt b
 
 -- lists that tie, whose items tie only where they are equal
-lists_are : {X : Type 0} (R : X → X → Ordering) (f : X → ℕ) (n : ℕ) → ((x y : X) → f x < n → f y < n → R x y ≡ Equal → x ≡ y) → (xs ys : List X) → greatest (map (λ x. suc (f x)) xs) ≤ n → greatest (map (λ x. suc (f x)) ys) ≤ n → slice_cmp R xs ys ≡ Equal → xs ≡ ys
+lists_are : {X : Type 0} (R : X → X → Ordering) (f : X → ℕ) (n : ℕ) → ((x y : X) → f x < n → f y < n → R x y ≡ Equal → x ≡ y) → (xs ys : List X)
+    → greatest (map (λ x. suc (f x)) xs) ≤ n → greatest (map (λ x. suc (f x)) ys) ≤ n → slice_cmp R xs ys ≡ Equal → xs ≡ ys
 lists_are R f n each [] [] p q h = refl
 lists_are R f n each [] (y ∷ ys) p q h = cc
 lists_are R f n each (x ∷ xs) [] p q h = cc
@@ -76,7 +85,8 @@ symbols_are : (xs ys : List (Option (List ℕ))) → slice_cmp symbol_cmp xs ys 
 symbols_are [] [] h = refl
 symbols_are [] (y ∷ ys) h = cc
 symbols_are (x ∷ xs) [] h = cc
-symbols_are (x ∷ xs) (y ∷ ys) h = ap (λ z. z ∷ xs) (symbol_is x y (then_first (symbol_cmp x y) _ h)) ∙ ap (λ zs. y ∷ zs) (symbols_are xs ys (then_second (symbol_cmp x y) _ h))
+symbols_are (x ∷ xs) (y ∷ ys) h = ap (λ z. z ∷ xs) (symbol_is x y (then_first (symbol_cmp x y) _ h))
+    ∙ ap (λ zs. y ∷ zs) (symbols_are xs ys (then_second (symbol_cmp x y) _ h))
 
 abbrev valued : List (Option (List ℕ)) → Payload → Value
 valued a p = record { annotations = a; payload = p }
@@ -97,9 +107,11 @@ is_to (suc n) v w p q h =
     let l = then_first (layer_cmp R a b) _ h in
     let k = then_second (scalar_cmp (scalar a) (scalar b)) _ l in
     let field_is = λ (f g : Field) (df : depth f.value < n) (dg : depth g.value < n) (e : field_cmp R f g ≡ Equal).
-    ap (λ x. named x f.value) (symbol_is f.name g.name (then_first (symbol_cmp f.name g.name) _ e)) ∙ ap (λ x. named g.name x) (is_to n f.value g.value df dg (then_second (symbol_cmp f.name g.name) _ e)) in
+    ap (λ x. named x f.value) (symbol_is f.name g.name (then_first (symbol_cmp f.name g.name) _ e))
+    ∙ ap (λ x. named g.name x) (is_to n f.value g.value df dg (then_second (symbol_cmp f.name g.name) _ e)) in
     let same_items : items a ≡ items b = lists_are R depth n (is_to n) (items a) (items b) ia ib (then_first (slice_cmp R (items a) (items b)) _ k) in
-    let same_fields : fields a ≡ fields b = lists_are (field_cmp R) (λ f. depth f.value) n field_is (fields a) (fields b) fa fb (then_second (slice_cmp R (items a) (items b)) _ k) in
+    let same_fields : fields a ≡ fields b = lists_are (field_cmp R) (λ f. depth f.value) n field_is (fields a) (fields b) fa fb
+    (then_second (slice_cmp R (items a) (items b)) _ k) in
     let layers : a ≡ b = layer_is a b (scalar_is (scalar a) (scalar b) (then_first (scalar_cmp (scalar a) (scalar b)) _ l)) same_items same_fields in
     let payloads : v.payload ≡ w.payload = sym (roll-out-Payload v.payload) ∙ ap roll-Payload layers ∙ roll-out-Payload w.payload in
     ap (λ x. valued x v.payload) (symbols_are v.annotations w.annotations (then_second (layer_cmp R a b) _ h)) ∙ ap (λ x. valued w.annotations x) payloads

@@ -28,14 +28,16 @@ symbol_cmp-total = search (comparing, rules)
 pub scalar_cmp-total : IsTotalOrder scalar_cmp
 scalar_cmp-total =
     then_total (on_total (λ s. s.kind) nat_cmp_total) (then_total (on_total (λ s. s.full) bool_cmp_total) (then_total (on_total (λ s. s.truth) bool_cmp_total)
-    (then_total (on_total (λ s. s.int) int_cmp_total) (then_total (on_total (λ s. s.decimal) decimal_cmp-total) (then_total (on_total (λ s. s.timestamp) timestamp_cmp-total)
+    (then_total (on_total (λ s. s.int) int_cmp_total) (then_total (on_total (λ s. s.decimal) decimal_cmp-total)
+    (then_total (on_total (λ s. s.timestamp) timestamp_cmp-total)
     (then_total (on_total (λ s. s.symbol) symbol_cmp-total) (on_total (λ s. s.text) nat_list_cmp_total)))))))
 
 pub field_cmp-total : (R : Value → Value → Ordering) → IsTotalOrder R → IsTotalOrder (field_cmp R)
 field_cmp-total R o = then_total (on_total (λ f. f.name) symbol_cmp-total) (on_total (λ f. f.value) o)
 
 pub layer_cmp-total : (R : Value → Value → Ordering) → IsTotalOrder R → IsTotalOrder (layer_cmp R)
-layer_cmp-total R o = then_total (on_total scalar scalar_cmp-total) (then_total (on_total items (lists_total o)) (on_total fields (lists_total (field_cmp-total R o))))
+layer_cmp-total R o = then_total (on_total scalar scalar_cmp-total)
+    (then_total (on_total items (lists_total o)) (on_total fields (lists_total (field_cmp-total R o))))
 
 value_cmp-total : (R : Value → Value → Ordering) → IsTotalOrder R → IsTotalOrder (value_cmp R)
 value_cmp-total R o = then_total (on_total (λ v. out-Payload v.payload) (layer_cmp-total R o)) (on_total (λ v. v.annotations) (lists_total symbol_cmp-total))
@@ -48,7 +50,8 @@ pub order-total : IsTotalOrder order
 order-total = record {
   antisymm = λ v w.
       let n = suc (max (depth v) (depth w)) in
-      sym ((order-agrees n).at v w (omega arith) (omega arith)) ∙ (order_to-total n).antisymm v w ∙ ap ordering_reverse ((order-agrees n).at w v (omega arith) (omega arith));
+      sym ((order-agrees n).at v w (omega arith) (omega arith)) ∙ (order_to-total n).antisymm v w
+      ∙ ap ordering_reverse ((order-agrees n).at w v (omega arith) (omega arith));
   trans = λ u v w h k.
       let n = suc (max (depth u) (max (depth v) (depth w))) in
       sym ((order-agrees n).at u w (omega arith) (omega arith))

@@ -97,9 +97,11 @@ pointwise_tie E R [] [] each h = refl
 pointwise_tie E R [] (y ∷ ys) each h = absurd (true≢false (sym h))
 pointwise_tie E R (x ∷ xs) [] each h = absurd (true≢false (sym h))
 pointwise_tie E R (x ∷ xs) (y ∷ ys) each h =
-    then_tie _ _ (each 0 x (omega arith) (omega arith) (first _ _ h)) (pointwise_tie E R xs ys (λ k d p q s. each (suc k) d (omega arith) (omega arith) s) (second (E x y) _ h))
+    then_tie _ _ (each 0 x (omega arith) (omega arith) (first _ _ h))
+    (pointwise_tie E R xs ys (λ k d p q s. each (suc k) d (omega arith) (omega arith) s) (second (E x y) _ h))
 
-pub pointwise_back : {X : Type 0} (E : X → X → Bool) (R : X → X → Ordering) → ((x y : X) → R x y ≡ Equal → E x y ≡ true) → (xs ys : List X) → slice_cmp R xs ys ≡ Equal → pointwise E xs ys ≡ true
+pub pointwise_back : {X : Type 0} (E : X → X → Bool) (R : X → X → Ordering) → ((x y : X) → R x y ≡ Equal → E x y ≡ true) → (xs ys : List X)
+    → slice_cmp R xs ys ≡ Equal → pointwise E xs ys ≡ true
 pointwise_back E R each [] [] h = refl
 pointwise_back E R each [] (y ∷ ys) h = cc
 pointwise_back E R each (x ∷ xs) [] h = cc

@@ -23,23 +23,31 @@ items_deep vs = greatest (map (λ v. suc (depth v)) vs)
 abbrev pub fields_deep : List Field → ℕ
 fields_deep fs = greatest (map (λ f. suc (depth f.value)) fs)
 
-pointwise-agree : (n : ℕ) (E F : Value → Value → Bool) → Agree n E F → (vs ws : List Value) → items_deep vs ≤ n → items_deep ws ≤ n → pointwise E vs ws ≡ pointwise F vs ws
+pointwise-agree : (n : ℕ) (E F : Value → Value → Bool) → Agree n E F → (vs ws : List Value) → items_deep vs ≤ n → items_deep ws ≤ n
+    → pointwise E vs ws ≡ pointwise F vs ws
 pointwise-agree n E F h [] [] p q = refl
 pointwise-agree n E F h [] (w ∷ ws) p q = refl
 pointwise-agree n E F h (v ∷ vs) [] p q = refl
 pointwise-agree n E F h (v ∷ vs) (w ∷ ws) p q =
     rw (h.at v w (omega arith) (omega arith), pointwise-agree n E F h vs ws (omega arith) (omega arith))
 
-field_count-agree : (n : ℕ) (E F : Value → Value → Bool) → Agree n E F → (gs : List Field) (f : Field) → fields_deep gs ≤ n → depth f.value < n → field_count E gs f ≡ field_count F gs f
+field_count-agree : (n : ℕ) (E F : Value → Value → Bool) → Agree n E F → (gs : List Field) (f : Field) → fields_deep gs ≤ n → depth f.value < n
+    → field_count E gs f ≡ field_count F gs f
 field_count-agree n E F h [] f p q = refl
 field_count-agree n E F h (g ∷ gs) f p q =
     count_by-cons (field_same E f) g gs
-    ∙ rw (h.at f.value g.value (omega arith) (omega arith), field_count-agree n E F h gs f (omega arith) (omega arith)) (sym (count_by-cons (field_same F f) g gs))
+    ∙ rw (h.at f.value g.value (omega arith) (omega arith), field_count-agree n E F h gs f (omega arith) (omega arith))
+    (sym (count_by-cons (field_same F f) g gs))
 
-counts-agree : (n : ℕ) (E F : Value → Value → Bool) → Agree n E F → (fs gs hs : List Field) → fields_deep fs ≤ n → fields_deep gs ≤ n → fields_deep hs ≤ n → counts_agree E fs gs hs ≡ counts_agree F fs gs hs
+counts-agree : (n : ℕ) (E F : Value → Value → Bool) → Agree n E F → (fs gs hs : List Field) → fields_deep fs ≤ n → fields_deep gs ≤ n → fields_deep hs ≤ n
+    → counts_agree E fs gs hs ≡ counts_agree F fs gs hs
 counts-agree n E F h fs gs [] p q r = refl
 counts-agree n E F h fs gs (x ∷ hs) p q r =
-    rw (field_count-agree n E F h fs x (omega arith) (omega arith), field_count-agree n E F h gs x (omega arith) (omega arith), counts-agree n E F h fs gs hs p q (omega arith))
+    rw (
+      field_count-agree n E F h fs x (omega arith) (omega arith),
+      field_count-agree n E F h gs x (omega arith) (omega arith),
+      counts-agree n E F h fs gs hs p q (omega arith),
+    )
 
 above_all : {A : Type 0} (f : A → ℕ) (xs : List A) → greatest (map (λ x. suc (f x)) xs) ≤ suc (greatest (map f xs))
 above_all f [] = omega arith
@@ -60,12 +68,17 @@ layer-agree n E F h a b p q =
     let ib : items_deep (items b) ≤ n = omega (arith, items-deep b) in
     let fa : fields_deep (fields a) ≤ n = omega (arith, fields-deep a) in
     let fb : fields_deep (fields b) ≤ n = omega (arith, fields-deep b) in
-    rw (pointwise-agree n E F h (items a) (items b) ia ib, counts-agree n E F h (fields a) (fields b) (fields a) fa fb fa, counts-agree n E F h (fields a) (fields b) (fields b) fa fb fb)
+    rw (
+      pointwise-agree n E F h (items a) (items b) ia ib,
+      counts-agree n E F h (fields a) (fields b) (fields a) fa fb fa,
+      counts-agree n E F h (fields a) (fields b) (fields b) fa fb fb,
+    )
 
 -- and one level above
 value-agree : (n : ℕ) (E F : Value → Value → Bool) → Agree n E F → (v w : Value) → depth v ≤ n → depth w ≤ n → value_same E v w ≡ value_same F v w
 value-agree n E F h v w p q =
-    ap (λ b. pointwise symbol_same v.annotations w.annotations && b) (layer-agree n E F h (out-Payload v.payload) (out-Payload w.payload) (omega (arith, depth-out v)) (omega (arith, depth-out w)))
+    ap (λ b. pointwise symbol_same v.annotations w.annotations && b)
+    (layer-agree n E F h (out-Payload v.payload) (out-Payload w.payload) (omega (arith, depth-out v)) (omega (arith, depth-out w)))
 
 -- levels below the deepest value change nothing
 stable : (m n k : ℕ) → k ≤ m → k ≤ n → Agree k (same_to m) (same_to n)
@@ -78,7 +91,10 @@ stable (suc m) (suc n) (suc k) p q =
 -- equivalence to n levels is equivalence, of values less than n deep
 pub same-agrees : (n : ℕ) → Agree n (same_to n) same
 unfolding same
-same-agrees n = record { at = λ v w a b. (stable n (suc (max (depth v) (depth w))) (suc (max (depth v) (depth w))) (omega arith) (omega arith)).at v w (omega arith) (omega arith) }
+same-agrees n = record {
+  at = λ v w a b. (stable n (suc (max (depth v) (depth w))) (suc (max (depth v) (depth w))) (omega arith) (omega arith)).at v w
+      (omega arith) (omega arith);
+}
 
 -- two values are equivalent where one level says so, with equivalence as the test of the values inside
 pub same-is : (v w : Value) → same v w ≡ value_same same v w
@@ -97,5 +113,6 @@ counts_agree_more E fs gs hs i x h is agree so_far =
     list_all_more (λ h. eqb (field_count E fs h) (field_count E gs h)) hs i x h ∙ rw (so_far, ← is) (eq-eqb _ _ agree)
 
 -- where the annotations agree, the payloads decide
-pub same-payload : (v w : Value) → pointwise symbol_same v.annotations w.annotations ≡ true → layer_same same (out-Payload v.payload) (out-Payload w.payload) ≡ same v w
+pub same-payload : (v w : Value) → pointwise symbol_same v.annotations w.annotations ≡ true → layer_same same (out-Payload v.payload) (out-Payload w.payload)
+    ≡ same v w
 same-payload v w h = sym (same-is v w ∙ ap (λ b. b && layer_same same (out-Payload v.payload) (out-Payload w.payload)) h)

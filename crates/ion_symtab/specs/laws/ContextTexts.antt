@@ -1,4 +1,5 @@
--- The texts of a context are UTF-8 behind a local symbol table where they were before it, where those of the catalog's tables are, and where the table is a value that is kept.
+-- The texts of a context are UTF-8 behind a local symbol table where they were before it, where those of the catalog's tables are, and where the table is a
+-- value that is kept.
 use Rattle.std.proofs.Common.{if◌then◌else◌, ◌≡◌, ℕ, zero, suc, ◌+◌, ◌-◌, ◌==◌, Bool, true, false, List, [], ◌∷◌, ◌++◌, length, map, take, replicate, Option, None, Some, Result, Ok, Err, codes, slice_get, refl, sym, subst}
 use Rattle.std.specs.Prelude.{nat_le}
 use Rattle.std.specs.Str.{IsUtf8, bytes_eq}
@@ -166,7 +167,13 @@ system_are_texts = (
         (codes "name", (refl, refl)),
         (
           (codes "version", (refl, refl)),
-          ((codes "imports", (refl, refl)), ((codes "symbols", (refl, refl)), ((codes "max_id", (refl, refl)), ((codes "$ion_shared_symbol_table", (refl, refl)), tt)))),
+          (
+            (codes "imports", (refl, refl)),
+            (
+              (codes "symbols", (refl, refl)),
+              ((codes "max_id", (refl, refl)), ((codes "$ion_shared_symbol_table", (refl, refl)), tt)),
+            ),
+          ),
         ),
       ),
     ),
@@ -240,35 +247,43 @@ added_texts : (c : List Slot) (r : Result (Option Import) Reason) → AreTextSlo
 added_texts c (Ok None) h k = h
 added_texts c (Ok (Some i)) h k =
     let slots = map shared_slot i.table.symbols in
-    joined_texts c (import_slots i) h (slots_both (take i.count slots) (replicate (i.count - length slots) gap) (slots_taken i.count slots (shared_texts i.table.symbols k)) (gaps_texts (i.count - length slots)))
+    joined_texts c (import_slots i) h (slots_both (take i.count slots) (replicate (i.count - length slots) gap)
+    (slots_taken i.count slots (shared_texts i.table.symbols k)) (gaps_texts (i.count - length slots)))
 added_texts c (Err reason) h k = tt
 
-then_slots : (r : Result (List Slot) Reason) (f : List Slot → Result (List Slot) Reason) → TextAnswer r → ((c : List Slot) → AreTextSlots c → TextAnswer (f c)) → TextAnswer (and_then r f)
+then_slots : (r : Result (List Slot) Reason) (f : List Slot → Result (List Slot) Reason) → TextAnswer r → ((c : List Slot) → AreTextSlots c → TextAnswer (f c))
+    → TextAnswer (and_then r f)
 then_slots (Ok c) f h k = k c h
 then_slots (Err reason) f h k = tt
 
 imported_texts : (ts : List Table) (vs : List Value) (c : List Slot) → AreTextTables ts → AreTextSlots c → TextAnswer (imported ts c vs)
 imported_texts ts [] c h k = k
 imported_texts ts (v ∷ vs) c h k =
-    then_slots (element_added ts c v) _ (added_texts c (element_import ts (views.out-Payload v.payload)) k (element_texts ts (views.out-Payload v.payload) h)) (λ d m. imported_texts ts vs d h m)
+    then_slots (element_added ts c v) _ (added_texts c (element_import ts (views.out-Payload v.payload)) k (element_texts ts (views.out-Payload v.payload) h))
+    (λ d m. imported_texts ts vs d h m)
 
 -- 5. The context behind a table.
 
-extended_texts : (ts : List Table) (c : List Slot) (imports symbols : Option Value) → AreTextTables ts → AreTextSlots c → KeptOption symbols → TextAnswer (extended ts c imports symbols)
+extended_texts : (ts : List Table) (c : List Slot) (imports symbols : Option Value) → AreTextTables ts → AreTextSlots c → KeptOption symbols
+    → TextAnswer (extended ts c imports symbols)
 extended_texts ts c imports symbols h k m =
-    then_slots (imported ts c (elements imports)) _ (imported_texts ts (elements imports) c h k) (λ d n. joined_texts d (local_slots symbols) n (local_texts (map symbol_of (elements symbols)) (symbols_texts (elements symbols) (elements_kept symbols m))))
+    then_slots (imported ts c (elements imports)) _ (imported_texts ts (elements imports) c h k)
+    (λ d n. joined_texts d (local_slots symbols) n (local_texts (map symbol_of (elements symbols))
+    (symbols_texts (elements symbols) (elements_kept symbols m))))
 
 base_if : (b : Bool) (c : List Slot) → AreTextSlots c → AreTextSlots (if b then c else system_slots)
 base_if true c h = h
 base_if false c h = system_are_texts
 
-then_value : (r : Result (Option Value) Reason) (f : Option Value → Result (List Slot) Reason) → KeptAnswer r → ((o : Option Value) → KeptOption o → TextAnswer (f o)) → TextAnswer (and_then r f)
+then_value : (r : Result (Option Value) Reason) (f : Option Value → Result (List Slot) Reason) → KeptAnswer r
+    → ((o : Option Value) → KeptOption o → TextAnswer (f o)) → TextAnswer (and_then r f)
 then_value (Ok o) f h k = k o h
 then_value (Err reason) f h k = tt
 
 fields_texts : (c : List Slot) (ms : List Field) (ts : List Table) → AreTextTables ts → AreTextSlots c → KeptFields ms → TextAnswer (next_fields c ms ts)
 fields_texts c ms ts h k m =
-    then_value (only (codes "imports") ms) _ (only_kept (codes "imports") ms m) (λ imports i. then_value (only (codes "symbols") ms) _ (only_kept (codes "symbols") ms m) (λ symbols n.
+    then_value (only (codes "imports") ms) _ (only_kept (codes "imports") ms m)
+    (λ imports i. then_value (only (codes "symbols") ms) _ (only_kept (codes "symbols") ms m) (λ symbols n.
     extended_texts ts (base c imports) imports symbols h (base_if (appends imports) c k) n))
 
 layer_texts : (c : List Slot) (d : Layer) (ts : List Table) → AreTextTables ts → AreTextSlots c → KeptLayer d → TextAnswer (next_layer c d ts)

@@ -28,7 +28,8 @@ pub and_then_ok : {A B : Type 0} (r : Result A Reason) (f : A → Result B Reaso
 and_then_ok (Ok x) f y e = (x, refl, e)
 and_then_ok (Err reason) f y e = absurd (cc)
 
-joined_if : (c more d : List Slot) (b : Bool) → nat_le (length c + length more) greatest_id ≡ b → (if b then Ok (c ++ more) else Err reasons.TableTooLarge) ≡ Ok d → Begins c d × (length d ≤ greatest_id)
+joined_if : (c more d : List Slot) (b : Bool) → nat_le (length c + length more) greatest_id ≡ b → (if b then Ok (c ++ more) else Err reasons.TableTooLarge)
+    ≡ Ok d → Begins c d × (length d ≤ greatest_id)
 joined_if c more d true n e =
     let s : c ++ more ≡ d = cc in
     ((more, sym s), omega (arith, ap length s, length-append c more, leb-true _ _ n))
@@ -48,7 +49,8 @@ imported_is g c (v ∷ vs) d e =
     let q = and_then_ok (element_import g (out-Payload v.payload)) (import_added c) p.0 p.1 in
     begins_trans c p.0 d (import_added_is c q.0 p.0 q.2) (imported_is g p.0 vs d p.2)
 
-extended_is : (g : List Table) (c : List Slot) (imports symbols : Option Value) (d : List Slot) → extended g c imports symbols ≡ Ok d → Begins c d × (length d ≤ greatest_id)
+extended_is : (g : List Table) (c : List Slot) (imports symbols : Option Value) (d : List Slot) → extended g c imports symbols ≡ Ok d → Begins c d
+    × (length d ≤ greatest_id)
 extended_is g c imports symbols d e =
     let p = and_then_ok (imported g c (elements imports)) (λ more. joined more (local_slots symbols)) d e in
     let q = joined_is p.0 (local_slots symbols) d p.2 in
@@ -58,13 +60,15 @@ extended_is g c imports symbols d e =
 abbrev pub Follows : List Slot → List Slot → Type 0
 Follows c d = (Begins c d ⊎ Begins system_slots d) × (length d ≤ greatest_id)
 
-base_if : (g : List Table) (c : List Slot) (imports symbols : Option Value) (d : List Slot) (b : Bool) → extended g (if b then c else system_slots) imports symbols ≡ Ok d → Follows c d
+base_if : (g : List Table) (c : List Slot) (imports symbols : Option Value) (d : List Slot) (b : Bool)
+    → extended g (if b then c else system_slots) imports symbols ≡ Ok d → Follows c d
 base_if g c imports symbols d true e = let p = extended_is g c imports symbols d e in (inl p.0, p.1)
 base_if g c imports symbols d false e = let p = extended_is g system_slots imports symbols d e in (inr p.0, p.1)
 
 fields_follow : (c : List Slot) (fields : List Field) (g : List Table) (d : List Slot) → next_fields c fields g ≡ Ok d → Follows c d
 fields_follow c fields g d e =
-    let p = and_then_ok (only (codes "imports") fields) (λ imports. and_then (only (codes "symbols") fields) (λ symbols. extended g (base c imports) imports symbols)) d e in
+    let p = and_then_ok (only (codes "imports") fields) (λ imports. and_then (only (codes "symbols") fields)
+    (λ symbols. extended g (base c imports) imports symbols)) d e in
     let q = and_then_ok (only (codes "symbols") fields) (λ symbols. extended g (base c p.0) p.0 symbols) d p.2 in
     base_if g c p.0 q.0 d (appends p.0) q.2
 

@@ -141,7 +141,8 @@ shared_each (Some t ∷ ts) (slot ∷ slots) h = λ i. sym h.0 i ∷ shared_each
 shared_each (None ∷ ts) (slot ∷ slots) h = λ i. sym h.0 i ∷ shared_each ts slots h.1 i
 
 cut_off : (count : ℕ) (own : List Slot) → count ≤ length own → cut_or_filled count own ≡ take count own
-cut_off count own few = ap (λ (k : ℕ). take count own ++ replicate k gap) (let none : count - length own ≡ 0 = omega arith in none) ∙ append-nil (take count own)
+cut_off count own few = ap (λ (k : ℕ). take count own ++ replicate k gap) (let none : count - length own ≡ 0 = omega arith in none)
+    ∙ append-nil (take count own)
 
 filled_up : (count : ℕ) (own : List Slot) → length own ≤ count → cut_or_filled count own ≡ own ++ replicate (count - length own) gap
 filled_up count own many = ap (λ w. w ++ replicate (count - length own) gap) (take_all count own many)
@@ -158,7 +159,8 @@ slots_only : (t : Table) (count : ℕ) (slots : List Slot) → HasSlots t count 
 slots_only t count slots h = ap (λ w. cut_or_filled count w) (shared_each t.symbols h.own h.each) ∙ by (nat_le count (length h.own)) refl where
   by : (b : Bool) → nat_le count (length h.own) ≡ b → cut_or_filled count h.own ≡ slots
   by true e = let few = leb-true count (length h.own) e in cut_off count h.own few ∙ sym (h.cut few)
-  by false e = let many : length h.own ≤ count = (let n = leb-false count (length h.own) e in omega (arith, n)) in filled_up count h.own many ∙ sym (h.filled many)
+  by false e = let many : length h.own ≤ count = (let n = leb-false count (length h.own) e in omega (arith, n)) in
+      filled_up count h.own many ∙ sym (h.filled many)
 
 -- what an import gives
 
@@ -170,17 +172,23 @@ abbrev import_in : Result (Option Import) Reason → Option Import → Option Im
 import_in (Ok x) o = x
 import_in (Err e) o = o
 
-found_gives : (tables : List Table) (name : List ℕ) (version : ℕ) (f n : Option Table) (max_id : Option ℕ) (i : Option Import) → find tables name version ≡ f → newest tables name ≡ n → chosen f n max_id ≡ Ok i
+found_gives : (tables : List Table) (name : List ℕ) (version : ℕ) (f n : Option Table) (max_id : Option ℕ) (i : Option Import) → find tables name version ≡ f
+    → newest tables name ≡ n → chosen f n max_id ≡ Ok i
     → NamedGives tables (Some name) version max_id (given i)
-found_gives tables name version (Some t) n None i f m e = subst (λ x. NamedGives tables (Some name) version None (given x)) (ap (λ r. import_in r i) e) (t, length t.symbols, (f, refl), slots_are t (length t.symbols))
+found_gives tables name version (Some t) n None i f m e =
+    subst (λ x. NamedGives tables (Some name) version None (given x)) (ap (λ r. import_in r i) e)
+    (t, length t.symbols, (f, refl), slots_are t (length t.symbols))
 found_gives tables name version (Some t) n (Some count) i f m e =
-    subst (λ x. NamedGives tables (Some name) version (Some count) (given x)) (ap (λ r. import_in r i) e) (t, count, (ap (λ o. otherwise o (newest tables name)) f, refl), slots_are t count)
+    subst (λ x. NamedGives tables (Some name) version (Some count) (given x)) (ap (λ r. import_in r i) e)
+    (t, count, (ap (λ o. otherwise o (newest tables name)) f, refl), slots_are t count)
 found_gives tables name version None (Some t) (Some count) i f m e =
-    subst (λ x. NamedGives tables (Some name) version (Some count) (given x)) (ap (λ r. import_in r i) e) (t, count, (ap (λ o. otherwise o (newest tables name)) f ∙ m, refl), slots_are t count)
+    subst (λ x. NamedGives tables (Some name) version (Some count) (given x)) (ap (λ r. import_in r i) e)
+    (t, count, (ap (λ o. otherwise o (newest tables name)) f ∙ m, refl), slots_are t count)
 found_gives tables name version None (Some t) None i f m e = absurd cc
 found_gives tables name version None None max_id i f m e = absurd cc
 
-named_gives : (tables : List Table) (name : Option (List ℕ)) (version : ℕ) (max_id : Option ℕ) (i : Option Import) → import_named tables name version max_id ≡ Ok i → NamedGives tables name version max_id (given i)
+named_gives : (tables : List Table) (name : Option (List ℕ)) (version : ℕ) (max_id : Option ℕ) (i : Option Import) → import_named tables name version max_id
+    ≡ Ok i → NamedGives tables name version max_id (given i)
 named_gives tables None version max_id i e = subst (λ x. given x ≡ []) (ap (λ r. import_in r i) e) refl
 named_gives tables (Some name) version max_id i e = found_gives tables name version (find tables name version) (newest tables name) max_id i refl refl e
 
@@ -192,27 +200,40 @@ abbrev table_in : Option Table → Table → Table
 table_in None t = t
 table_in (Some t) u = t
 
-gives_chosen : (tables : List Table) (name : List ℕ) (version : ℕ) (f n : Option Table) (max_id : Option ℕ) (slots : List Slot) → find tables name version ≡ f → newest tables name ≡ n → NamedGives tables (Some name) version max_id slots
+gives_chosen : (tables : List Table) (name : List ℕ) (version : ℕ) (f n : Option Table) (max_id : Option ℕ) (slots : List Slot) → find tables name version ≡ f
+    → newest tables name ≡ n → NamedGives tables (Some name) version max_id slots
     → GivesSo (chosen f n max_id) slots
 gives_chosen tables name version (Some u) n None slots f m (t, count, (is, size), h) =
     let same : u ≡ t = ap (λ o. table_in o u) (sym f ∙ is) in (
       Some (record { table = u; count = length u.symbols }),
       refl,
-      ap (λ (x : Table). import_slots (record { table = x; count = length x.symbols })) same ∙ ap (λ (k : ℕ). import_slots (record { table = t; count = k })) (sym size) ∙ slots_only t count slots h,
+      ap (λ (x : Table). import_slots (record { table = x; count = length x.symbols })) same
+          ∙ ap (λ (k : ℕ). import_slots (record { table = t; count = k })) (sym size) ∙ slots_only t count slots h,
     )
 gives_chosen tables name version (Some u) n (Some k) slots f m (t, count, (is, size), h) =
-    let same : u ≡ t = ap (λ o. table_in o u) (sym (ap (λ o. otherwise o (newest tables name)) f) ∙ is) in
-    (Some (record { table = u; count = k }), refl, ap (λ (x : Table). import_slots (record { table = x; count = k })) same ∙ ap (λ (j : ℕ). import_slots (record { table = t; count = j })) (sym size) ∙ slots_only t count slots h)
+    let same : u ≡ t = ap (λ o. table_in o u) (sym (ap (λ o. otherwise o (newest tables name)) f) ∙ is) in (
+      Some (record { table = u; count = k }),
+      refl,
+      ap (λ (x : Table). import_slots (record { table = x; count = k })) same
+          ∙ ap (λ (j : ℕ). import_slots (record { table = t; count = j })) (sym size) ∙ slots_only t count slots h,
+    )
 gives_chosen tables name version None (Some u) (Some k) slots f m (t, count, (is, size), h) =
-    let same : u ≡ t = ap (λ o. table_in o u) (sym (ap (λ o. otherwise o (newest tables name)) f ∙ m) ∙ is) in
-    (Some (record { table = u; count = k }), refl, ap (λ (x : Table). import_slots (record { table = x; count = k })) same ∙ ap (λ (j : ℕ). import_slots (record { table = t; count = j })) (sym size) ∙ slots_only t count slots h)
+    let same : u ≡ t = ap (λ o. table_in o u) (sym (ap (λ o. otherwise o (newest tables name)) f ∙ m) ∙ is) in (
+      Some (record { table = u; count = k }),
+      refl,
+      ap (λ (x : Table). import_slots (record { table = x; count = k })) same
+          ∙ ap (λ (j : ℕ). import_slots (record { table = t; count = j })) (sym size) ∙ slots_only t count slots h,
+    )
 gives_chosen tables name version None (Some u) None slots f m (t, count, (is, size), h) = absurd (let x = sym f ∙ is in cc)
 gives_chosen tables name version None None None slots f m (t, count, (is, size), h) = absurd (let x = sym f ∙ is in cc)
-gives_chosen tables name version None None (Some k) slots f m (t, count, (is, size), h) = absurd (let x = sym (ap (λ o. otherwise o (newest tables name)) f ∙ m) ∙ is in cc)
+gives_chosen tables name version None None (Some k) slots f m (t, count, (is, size), h) =
+    absurd (let x = sym (ap (λ o. otherwise o (newest tables name)) f ∙ m) ∙ is in cc)
 
-gives_named : (tables : List Table) (name : Option (List ℕ)) (version : ℕ) (max_id : Option ℕ) (slots : List Slot) → NamedGives tables name version max_id slots → GivesSo (import_named tables name version max_id) slots
+gives_named : (tables : List Table) (name : Option (List ℕ)) (version : ℕ) (max_id : Option ℕ) (slots : List Slot) → NamedGives tables name version max_id slots
+    → GivesSo (import_named tables name version max_id) slots
 gives_named tables None version max_id slots h = (None, refl, sym h)
-gives_named tables (Some name) version max_id slots h = gives_chosen tables name version (find tables name version) (newest tables name) max_id slots refl refl h
+gives_named tables (Some name) version max_id slots h = gives_chosen tables name version (find tables name version) (newest tables name) max_id slots refl refl
+    h
 
 struct_gives : (tables : List Table) (fields : List Field) (i : Option Import) → import_of tables fields ≡ Ok i → StructGives tables fields (given i)
 struct_gives tables fields i e =
@@ -245,9 +266,11 @@ gives_struct tables fields slots h =
 -- what an element gives
 
 abbrev GivesIn : List Table → Layer → List Slot → Type 0
-GivesIn tables w slots = ((fields : List Field) × (w ≡ Payload-F.Fields fields) × StructGives tables fields slots) ⊎ (((fields : List Field) → w ≡ Payload-F.Fields fields → ⊥) × (slots ≡ []))
+GivesIn tables w slots = ((fields : List Field) × (w ≡ Payload-F.Fields fields) × StructGives tables fields slots)
+    ⊎ (((fields : List Field) → w ≡ Payload-F.Fields fields → ⊥) × (slots ≡ []))
 
-nothing_given : (tables : List Table) (w : Layer) (i : Option Import) → ((fields : List Field) → w ≡ Payload-F.Fields fields → ⊥) → ◌≡◌ {A = Result (Option Import) Reason} (Ok None) (Ok i) → GivesIn tables w (given i)
+nothing_given : (tables : List Table) (w : Layer) (i : Option Import) → ((fields : List Field) → w ≡ Payload-F.Fields fields → ⊥)
+    → ◌≡◌ {A = Result (Option Import) Reason} (Ok None) (Ok i) → GivesIn tables w (given i)
 nothing_given tables w i other e = inr (other, ap given (sym (ap (λ r. import_in r i) e)))
 
 layer_gives : (tables : List Table) (w : Layer) (i : Option Import) → element_import tables w ≡ Ok i → GivesIn tables w (given i)
@@ -277,7 +300,8 @@ slots_in (Err e) o = o
 
 joined_from : (c more d : List Slot) → joined c more ≡ Ok d → (d ≡ c ++ more) × (length d ≤ greatest_id)
 joined_from c more d e = by (nat_le (length c + length more) greatest_id) refl e where
-  by : (b : Bool) → nat_le (length c + length more) greatest_id ≡ b → (if b then Ok (c ++ more) else Err reasons.TableTooLarge) ≡ Ok d → (d ≡ c ++ more) × (length d ≤ greatest_id)
+  by : (b : Bool) → nat_le (length c + length more) greatest_id ≡ b → (if b then Ok (c ++ more) else Err reasons.TableTooLarge) ≡ Ok d → (d ≡ c ++ more)
+      × (length d ≤ greatest_id)
   by true n f =
       let s : c ++ more ≡ d = ap (λ r. slots_in r d) f in
       let few = leb-true (length c + length more) greatest_id n in
@@ -285,7 +309,8 @@ joined_from c more d e = by (nat_le (length c + length more) greatest_id) refl e
   by false n f = absurd cc
 
 joined_of : (c more : List Slot) → length (c ++ more) ≤ greatest_id → joined c more ≡ Ok (c ++ more)
-joined_of c more few = ap (λ (b : Bool). if b then Ok (c ++ more) else Err reasons.TableTooLarge) (le-leb (length c + length more) greatest_id (omega (arith, few, length-append c more)))
+joined_of c more few = ap (λ (b : Bool). if b then Ok (c ++ more) else Err reasons.TableTooLarge)
+    (le-leb (length c + length more) greatest_id (omega (arith, few, length-append c more)))
 
 added_from : (c : List Slot) (i : Option Import) (d : List Slot) → import_added c i ≡ Ok d → d ≡ c ++ given i
 added_from c None d e = sym (ap (λ r. slots_in r d) e) ∙ sym (append-nil c)
@@ -298,7 +323,8 @@ added_of c (Some i) few = joined_of c (import_slots i) few
 abbrev flat : List (List Slot) → List Slot
 flat parts = flat_map (λ part. part) parts
 
-imported_from : (tables : List Table) (c : List Slot) (vs : List Value) (d : List Slot) → imported tables c vs ≡ Ok d → (parts : List (List Slot)) × EachGives tables vs parts × (d ≡ c ++ flat parts)
+imported_from : (tables : List Table) (c : List Slot) (vs : List Value) (d : List Slot) → imported tables c vs ≡ Ok d → (parts : List (List Slot))
+    × EachGives tables vs parts × (d ≡ c ++ flat parts)
 imported_from tables c [] d e = ([], tt, sym (ap (λ r. slots_in r d) e) ∙ sym (append-nil c))
 imported_from tables c (v ∷ vs) d e =
     let p = and_then_ok (element_added tables c v) (λ more. imported tables more vs) d e in
@@ -306,16 +332,19 @@ imported_from tables c (v ∷ vs) d e =
     let rest = imported_from tables p.0 vs d p.2 in (
       given q.0 ∷ rest.0,
       (layer_gives tables (out-Payload v.payload) q.0 q.1, rest.1),
-      rest.2 ∙ ap (λ w. w ++ flat rest.0) (added_from c q.0 p.0 q.2) ∙ append_assoc c (given q.0) (flat rest.0) ∙ ap (λ w. c ++ w) (sym (flat_map-cons (λ part. part) (given q.0) rest.0)),
+      rest.2 ∙ ap (λ w. w ++ flat rest.0) (added_from c q.0 p.0 q.2) ∙ append_assoc c (given q.0) (flat rest.0)
+          ∙ ap (λ w. c ++ w) (sym (flat_map-cons (λ part. part) (given q.0) rest.0)),
     )
 
-imported_of : (tables : List Table) (c : List Slot) (vs : List Value) (parts : List (List Slot)) → EachGives tables vs parts → length (c ++ flat parts) ≤ greatest_id → imported tables c vs ≡ Ok (c ++ flat parts)
+imported_of : (tables : List Table) (c : List Slot) (vs : List Value) (parts : List (List Slot)) → EachGives tables vs parts
+    → length (c ++ flat parts) ≤ greatest_id → imported tables c vs ≡ Ok (c ++ flat parts)
 imported_of tables c [] [] h few = ap Ok (sym (append-nil c))
 imported_of tables c [] (part ∷ parts) h few = absurd h
 imported_of tables c (v ∷ vs) [] h few = absurd h
 imported_of tables c (v ∷ vs) (part ∷ parts) h few =
     let g = gives_layer tables (out-Payload v.payload) part h.0 in
-    let whole : c ++ flat (part ∷ parts) ≡ (c ++ part) ++ flat parts = ap (λ w. c ++ w) (flat_map-cons (λ part. part) part parts) ∙ sym (append_assoc c part (flat parts)) in
+    let whole : c ++ flat (part ∷ parts) ≡ (c ++ part) ++ flat parts = ap (λ w. c ++ w) (flat_map-cons (λ part. part) part parts)
+    ∙ sym (append_assoc c part (flat parts)) in
     let front : length (c ++ part) ≤ greatest_id = omega (arith, few, ap length whole, length-append (c ++ part) (flat parts)) in
     let one : element_added tables c v ≡ Ok (c ++ part) =
     then_ok (element_import tables (out-Payload v.payload)) (import_added c) g.0 g.1
@@ -362,9 +391,11 @@ slots_each (v ∷ vs) (slot ∷ slots) h = λ i. in_slot (out-Payload v.payload)
 all_joined : (c d more local : List Slot) (parts : List (List Slot)) → d ≡ more ++ local → more ≡ c ++ flat parts → d ≡ (c ++ flat parts) ++ local
 all_joined c d more local parts e f = e ∙ ap (λ w. w ++ local) f
 
-makes_fields : (tables : List Table) (c : List Slot) (v : Value) (fields : List Field) (d : List Slot) → out-Payload v.payload ≡ Payload-F.Fields fields → next_fields c fields tables ≡ Ok d → MakesContext tables c v d
+makes_fields : (tables : List Table) (c : List Slot) (v : Value) (fields : List Field) (d : List Slot) → out-Payload v.payload ≡ Payload-F.Fields fields
+    → next_fields c fields tables ≡ Ok d → MakesContext tables c v d
 makes_fields tables c v fields d is e =
-    let p = and_then_ok (only (codes "imports") fields) (λ imports. and_then (only (codes "symbols") fields) (λ symbols. extended tables (base c imports) imports symbols)) d e in
+    let p = and_then_ok (only (codes "imports") fields) (λ imports. and_then (only (codes "symbols") fields)
+    (λ symbols. extended tables (base c imports) imports symbols)) d e in
     let q = and_then_ok (only (codes "symbols") fields) (λ symbols. extended tables (base c p.0) p.0 symbols) d p.2 in
     let r = and_then_ok (imported tables (base c p.0) (elements p.0)) (λ more. joined more (local_slots q.0)) d q.2 in
     let parts = imported_from tables (base c p.0) (elements p.0) r.0 r.1 in
@@ -390,7 +421,8 @@ makes_fields tables c v fields d is e =
       in_range = last.1;
     }
 
-makes_layer : (tables : List Table) (c : List Slot) (v : Value) (w : Layer) (d : List Slot) → out-Payload v.payload ≡ w → next_layer c w tables ≡ Ok d → MakesContext tables c v d
+makes_layer : (tables : List Table) (c : List Slot) (v : Value) (w : Layer) (d : List Slot) → out-Payload v.payload ≡ w → next_layer c w tables ≡ Ok d
+    → MakesContext tables c v d
 makes_layer tables c v (Payload-F.Fields fields) d is e = makes_fields tables c v fields d is e
 makes_layer tables c v _ d is e = absurd cc
 
@@ -402,12 +434,15 @@ context_made : (tables : List Table) (c : List Slot) (v : Value) (d : List Slot)
 unfolding next
 context_made tables c v d h =
     let front : base c h.imports ≡ h.base = is_base c h.imports h.base h.is_base in
-    let few : length (h.base ++ flat h.parts) ≤ greatest_id = let n = h.in_range in omega (arith, n, ap length h.joined, length-append (h.base ++ flat h.parts) h.local) in
+    let few : length (h.base ++ flat h.parts) ≤ greatest_id = let n = h.in_range in
+    omega (arith, n, ap length h.joined, length-append (h.base ++ flat h.parts) h.local) in
     let more : imported tables (base c h.imports) (elements h.imports) ≡ Ok (h.base ++ flat h.parts) =
     (λ i. imported tables (front i) (elements_has h.imports h.imported h.are_imported i)) ∙ imported_of tables h.base h.imported h.parts h.each_gives few in
-    let local : local_slots h.symbols ≡ h.local = ap (λ vs. map local_slot (map symbol_of vs)) (elements_has h.symbols h.named h.are_named) ∙ slots_each h.named h.local h.each_has in
+    let local : local_slots h.symbols ≡ h.local = ap (λ vs. map local_slot (map symbol_of vs)) (elements_has h.symbols h.named h.are_named)
+    ∙ slots_each h.named h.local h.each_has in
     let last : joined (h.base ++ flat h.parts) (local_slots h.symbols) ≡ Ok d =
-    ap (λ w. joined (h.base ++ flat h.parts) w) local ∙ joined_of (h.base ++ flat h.parts) h.local (subst (λ w. length w ≤ greatest_id) h.joined h.in_range) ∙ ap Ok (sym h.joined) in
+    ap (λ w. joined (h.base ++ flat h.parts) w) local ∙ joined_of (h.base ++ flat h.parts) h.local (subst (λ w. length w ≤ greatest_id) h.joined h.in_range)
+    ∙ ap Ok (sym h.joined) in
     ap (λ w. next_layer c w tables) h.is_struct
     ∙ then_ok (only (codes "imports") h.fields) _ h.imports (only_once (codes "imports") h.fields h.imports h.one_imports)
     ∙ then_ok (only (codes "symbols") h.fields) _ h.symbols (only_once (codes "symbols") h.fields h.symbols h.one_symbols)

@@ -31,16 +31,19 @@ shown_once pieces u s t one a b =
     let c = same_cut a.front b.front a.open_rest b.open_rest (sym a.parts ∙ b.parts) (omega arith) in
     let p = a.whole [] tt in
     let q = b.whole [] tt in
-    one b.front (b.open_rest ++ []) (subst (λ (x : List ℕ). pieces x (b.open_rest ++ []) s) c.fronts (subst (λ (x : List ℕ). pieces a.front (x ++ []) s) c.rests p)) q
+    one b.front (b.open_rest ++ []) (subst (λ (x : List ℕ). pieces x (b.open_rest ++ []) s) c.fronts
+    (subst (λ (x : List ℕ). pieces a.front (x ++ []) s) c.rests p)) q
 
 -- a front of octets in front of others
 front_taken : (k : ℕ) (before rest : List ℕ) → k < length before + 1 → take k (before ++ rest) ≡ take k before
-front_taken k [] rest h = ap (λ (n : ℕ). take n rest) (let none : k ≡ 0 = omega arith in none) ∙ sym (ap (λ (n : ℕ). take n []) (let none : k ≡ 0 = omega arith in none))
+front_taken k [] rest h = ap (λ (n : ℕ). take n rest) (let none : k ≡ 0 = omega arith in none)
+    ∙ sym (ap (λ (n : ℕ). take n []) (let none : k ≡ 0 = omega arith in none))
 front_taken zero (x ∷ before) rest h = refl
 front_taken (suc k) (x ∷ before) rest h = ap (λ xs. x ∷ xs) (front_taken k before rest (omega arith))
 
 -- where the octets before one aren't refused, and with it they are, it is the octet that decides
-pub first_refused : (trace : List ℕ → Trace) → ((u w : List ℕ) → Grows (trace u) (trace (u ++ w))) → (u before rest : List ℕ) (o : ℕ) (r : Refusal) → u ≡ before ++ o ∷ rest → r.offset ≡ length before + 1 →
+pub first_refused : (trace : List ℕ → Trace) → ((u w : List ℕ) → Grows (trace u) (trace (u ++ w))) → (u before rest : List ℕ) (o : ℕ) (r : Refusal)
+    → u ≡ before ++ o ∷ rest → r.offset ≡ length before + 1 →
     (trace before).refused ≡ None → (trace (before ++ o ∷ [])).refused ≡ Some r → IsFirst trace u r
 first_refused trace grows u before rest o r parts offset fine refused = record { alone = ap (λ w. (trace w).refused) taken ∙ refused; before = none_before }
   where

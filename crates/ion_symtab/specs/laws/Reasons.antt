@@ -34,7 +34,8 @@ module _ (P : Reason → Type 0) where
   at_most_fails p (v ∷ w ∷ vs) = p
 
   -- what follows a field that may stand once
-  field_fails : {B : Type 0} → P RepeatedField → (name : List ℕ) (fields : List Field) (f : Option Value → Result B Reason) → ((o : Option Value) → IfErr (f o) P)
+  field_fails : {B : Type 0} → P RepeatedField → (name : List ℕ) (fields : List Field) (f : Option Value → Result B Reason)
+      → ((o : Option Value) → IfErr (f o) P)
       → IfErr (and_then (only name fields) f) P
   field_fails p name fields f = and_then_fails (only name fields) f (at_most_fails p (values_of name fields))
 
@@ -95,7 +96,8 @@ imported_fails tables slots (v ∷ vs) =
 
 extended_fails : (tables : List Table) (slots : List Slot) (imports symbols : Option Value) → IfErr (extended tables slots imports symbols) IsTableReason
 extended_fails tables slots imports symbols =
-    and_then_fails IsTableReason (imported tables slots (elements imports)) _ (imported_fails tables slots (elements imports)) (λ more. joined_fails more (local_slots symbols))
+    and_then_fails IsTableReason (imported tables slots (elements imports)) _ (imported_fails tables slots (elements imports))
+    (λ more. joined_fails more (local_slots symbols))
 
 fields_fail : (slots : List Slot) (fields : List Field) (tables : List Table) → IfErr (next_fields slots fields tables) IsTableReason
 fields_fail slots fields tables =
@@ -123,7 +125,8 @@ shared_fields_fail fields =
     field_fails IsSharedReason tt (codes "version") fields _ (λ version.
     field_fails IsSharedReason tt (codes "symbols") fields _ (λ symbols.
     field_fails IsSharedReason tt (codes "imports") fields _ (λ imports.
-    if_fails IsSharedReason (imports_any (payload_of imports)) _ _ tt (described_fails (table_name name) (version_of version) (map symbol_of (elements symbols)))))))
+    if_fails IsSharedReason (imports_any (payload_of imports)) _ _ tt
+    (described_fails (table_name name) (version_of version) (map symbol_of (elements symbols)))))))
 
 shared_layer_fails : (d : Layer) → IfErr (shared_layer d) IsSharedReason
 shared_layer_fails (Payload-F.Fields fields) = shared_fields_fail fields

@@ -120,9 +120,11 @@ found_else true u o more = refl
 found_else false u o more = refl
 
 -- what is found with one table more
-pub find_more : (ts : List Table) (t : Table) (name : List ℕ) (version : ℕ) → find (ts ++ t ∷ []) name version ≡ otherwise (find ts name version) (if is_named name version t then Some t else None)
+pub find_more : (ts : List Table) (t : Table) (name : List ℕ) (version : ℕ) → find (ts ++ t ∷ []) name version
+    ≡ otherwise (find ts name version) (if is_named name version t then Some t else None)
 find_more [] t name version = refl
-find_more (u ∷ ts) t name version = rw (find_more ts t name version) (found_else (is_named name version u) u (find ts name version) (if is_named name version t then Some t else None))
+find_more (u ∷ ts) t name version = rw (find_more ts t name version)
+    (found_else (is_named name version u) u (find ts name version) (if is_named name version t then Some t else None))
 
 -- a table that is added is found
 pub find_added : (ts : List Table) (t : Table) → find ts t.name t.version ≡ None → find (ts ++ t ∷ []) t.name t.version ≡ Some t
@@ -141,7 +143,8 @@ not_named true name version t is other = absurd (other (named name version t is)
 not_named false name version t is other = refl
 
 -- under another name or version nothing more is found
-pub find_others : (ts : List Table) (t : Table) (name : List ℕ) (version : ℕ) → ((t.name ≡ name) × (t.version ≡ version) → ⊥) → find (ts ++ t ∷ []) name version ≡ find ts name version
+pub find_others : (ts : List Table) (t : Table) (name : List ℕ) (version : ℕ) → ((t.name ≡ name) × (t.version ≡ version) → ⊥) → find (ts ++ t ∷ []) name version
+    ≡ find ts name version
 find_others ts t name version other =
     find_more ts t name version ∙ rw (not_named (is_named name version t) name version t refl other) (none_else (find ts name version))
 

@@ -22,7 +22,8 @@ module _ {S : Type 0} (took : S → Option (List ℕ)) (written : S → List ℕ
   Took-kept a b c octets first next = subst (λ (x : List ℕ). Took took written a c x) (append-nil octets) (Took-trans a b c octets [] first next)
 
   -- behind the first `at` octets a device took n of those that were left
-  pub Took-more : (a b c : S) (octets : List ℕ) (at n : ℕ) → Took took written a b (take at octets) → Took took written b c (take n (take (length octets - at) (drop at octets))) → Took took written a c (take (at + n) octets)
+  pub Took-more : (a b c : S) (octets : List ℕ) (at n : ℕ) → Took took written a b (take at octets)
+      → Took took written b c (take n (take (length octets - at) (drop at octets))) → Took took written a c (take (at + n) octets)
   Took-more a b c octets at n before now =
       let small : length (drop at octets) ≤ length octets - at = omega (arith, length-drop at octets) in
       let whole = take_all (length octets - at) (drop at octets) small in
@@ -35,7 +36,11 @@ module _ {S : Type 0} (took : S → Option (List ℕ)) (written : S → List ℕ
 
   -- all of them are one, and then nothing more was taken
   pub Front-all : (old mid new : S) (octets : List ℕ) → Took took written old mid octets → Took took written mid new [] → TookFront took written old new octets
-  Front-all old mid new octets all kept = record { count = length octets; front = subst (λ (x : List ℕ). Took took written old new x) (sym (take-length octets)) (Took-kept old mid new octets all kept) }
+  Front-all old mid new octets all kept = record {
+    count = length octets;
+    front =
+        subst (λ (x : List ℕ). Took took written old new x) (sym (take-length octets)) (Took-kept old mid new octets all kept);
+  }
 
   -- a front is one of more octets too
   pub Front-more : (old new : S) (octets more : List ℕ) → TookFront took written old new octets → TookFront took written old new (octets ++ more)
@@ -47,9 +52,11 @@ module _ {S : Type 0} (took : S → Option (List ℕ)) (written : S → List ℕ
       }
 
   -- all octets, and a front of those behind them
-  pub Front-behind : (old mid new : S) (octets more : List ℕ) → Took took written old mid octets → TookFront took written mid new more → TookFront took written old new (octets ++ more)
+  pub Front-behind : (old mid new : S) (octets more : List ℕ) → Took took written old mid octets → TookFront took written mid new more
+      → TookFront took written old new (octets ++ more)
   Front-behind old mid new octets more all h =
       record {
         count = length octets + h.count;
-        front = subst (λ (x : List ℕ). Took took written old new x) (sym (take-append-add octets more h.count)) (Took-trans old mid new octets (take h.count more) all h.front);
+        front = subst (λ (x : List ℕ). Took took written old new x) (sym (take-append-add octets more h.count))
+            (Took-trans old mid new octets (take h.count more) all h.front);
       }

@@ -19,7 +19,8 @@ names name payload = field_of (Some name) (bare payload)
 
 -- an import of this name and version, with these fields beside them
 abbrev import_value : List ℕ → ℕ → List Field → Value
-import_value name version others = bare (payloads.Fields (names (codes "name") (payloads.Str name) ∷ names (codes "version") (payloads.Int (pos version)) ∷ others))
+import_value name version others = bare (payloads.Fields (names (codes "name") (payloads.Str name) ∷ names (codes "version") (payloads.Int (pos version))
+    ∷ others))
 
 -- `max_id`
 abbrev slots_wanted : ℕ → List Field
@@ -44,7 +45,11 @@ worked_tables =
     ∷ (importing (import_value (codes "t") 1 (slots_wanted 5) ∷ []), text (codes "a") ∷ gap ∷ text (codes "b") ∷ gap ∷ gap ∷ [])
     ∷ (importing (import_value (codes "t") 2 (slots_wanted 2) ∷ []), text (codes "a") ∷ gap ∷ [])
     ∷ (importing (import_value (codes "") 1 [] ∷ []), [])
-    ∷ (importing (import_value (codes "t") 1 (slots_wanted 1) ∷ import_value (codes "t") 1 (slots_wanted 2) ∷ []), text (codes "a") ∷ text (codes "a") ∷ gap ∷ [])
+    ∷ (
+      importing (import_value (codes "t") 1 (slots_wanted 1) ∷ import_value (codes "t") 1 (slots_wanted 2) ∷ []),
+      text (codes "a") ∷ text (codes "a") ∷ gap
+          ∷ [],
+    )
     ∷ (appending, text (codes "z") ∷ text (codes "c") ∷ unknown ∷ [])
     ∷ []
 

@@ -24,7 +24,8 @@ position-requires-2 g c =
     omega (arith, fit, all, c.ranges.offset.fits)
 
 -- what a read gave of the octets that are left
-few : (count wanted left : ℕ) (piece behind : List ℕ) → wanted ≡ min left 4096 → length piece ≤ wanted → count ≤ length piece → length (take count (piece ++ behind)) ≤ left
+few : (count wanted left : ℕ) (piece behind : List ℕ) → wanted ≡ min left 4096 → length piece ≤ wanted → count ≤ length piece
+    → length (take count (piece ++ behind)) ≤ left
 few count wanted left piece behind is long within = omega (arith, is, long, within, length-take count (piece ++ behind))
 
 pub pass-requires-clause-lines : goal.pass-requires-clause-lines
@@ -33,7 +34,8 @@ pass-requires-clause-lines g c =
     let fit = (spot_fits c.loop-left.spot i.0 i.2).0 in
     let all = i.3 in
     let long : length c.read.new.piece ≤ c.min-wanted.result = omega (arith, c.read.auto.piece, length-take c.min-wanted.result c.loop-left.piece) in
-    let more = few c.in-Ok.count c.min-wanted.result c.loop-left.left c.read.new.piece (drop c.min-wanted.result c.loop-left.piece) c.min-wanted.ensures long c.in-Ok.ensures.within in
+    let more = few c.in-Ok.count c.min-wanted.result c.loop-left.left c.read.new.piece (drop c.min-wanted.result c.loop-left.piece) c.min-wanted.ensures long
+    c.in-Ok.ensures.within in
     omega (arith, fit, all, more, c.ranges.offset.fits)
 
 pub pass-requires-clause-octets : goal.pass-requires-clause-octets
@@ -42,7 +44,8 @@ pass-requires-clause-octets g c =
     let fit = (spot_fits c.loop-left.spot i.0 i.2).1 in
     let all = i.3 in
     let long : length c.read.new.piece ≤ c.min-wanted.result = omega (arith, c.read.auto.piece, length-take c.min-wanted.result c.loop-left.piece) in
-    let more = few c.in-Ok.count c.min-wanted.result c.loop-left.left c.read.new.piece (drop c.min-wanted.result c.loop-left.piece) c.min-wanted.ensures long c.in-Ok.ensures.within in
+    let more = few c.in-Ok.count c.min-wanted.result c.loop-left.left c.read.new.piece (drop c.min-wanted.result c.loop-left.piece) c.min-wanted.ensures long
+    c.in-Ok.ensures.within in
     omega (arith, fit, all, more, c.ranges.offset.fits)
 
 pub pass-requires-clause-characters : goal.pass-requires-clause-characters
@@ -51,7 +54,8 @@ pass-requires-clause-characters g c =
     let fit = (spot_fits c.loop-left.spot i.0 i.2).2 in
     let all = i.3 in
     let long : length c.read.new.piece ≤ c.min-wanted.result = omega (arith, c.read.auto.piece, length-take c.min-wanted.result c.loop-left.piece) in
-    let more = few c.in-Ok.count c.min-wanted.result c.loop-left.left c.read.new.piece (drop c.min-wanted.result c.loop-left.piece) c.min-wanted.ensures long c.in-Ok.ensures.within in
+    let more = few c.in-Ok.count c.min-wanted.result c.loop-left.left c.read.new.piece (drop c.min-wanted.result c.loop-left.piece) c.min-wanted.ensures long
+    c.in-Ok.ensures.within in
     omega (arith, fit, all, more, c.ranges.offset.fits)
 
 pub loop-left-preserved : goal.loop-left-preserved
@@ -74,11 +78,19 @@ loop-left-preserved g c =
       rw front at (c.pass.ensures i.0 i.2),
       omega (arith, grown, taken, all, most),
       omega (arith, grown, taken, calls, read.calls, some),
-      omega (arith, length-append piece (drop c.min-wanted.result c.loop-left.piece), length-drop c.min-wanted.result c.loop-left.piece, c.read.auto.piece, length-take c.min-wanted.result c.loop-left.piece, i.5),
+      omega (
+        arith,
+        length-append piece (drop c.min-wanted.result c.loop-left.piece),
+        length-drop c.min-wanted.result c.loop-left.piece,
+        c.read.auto.piece,
+        length-take c.min-wanted.result c.loop-left.piece,
+        i.5,
+      ),
       inr read.failed,
     )
 
-there : {S : Type 0} (R : Inlet S) (first now : S) (offset : ℕ) (p : Position) (octets : List ℕ) (ended : Bool) → Heard R first now octets ended → (ended ≡ false → offset ≤ length octets) → length octets ≤ offset → p ≡ position octets → IsPosition R first now offset p
+there : {S : Type 0} (R : Inlet S) (first now : S) (offset : ℕ) (p : Position) (octets : List ℕ) (ended : Bool) → Heard R first now octets ended
+    → (ended ≡ false → offset ≤ length octets) → length octets ≤ offset → p ≡ position octets → IsPosition R first now offset p
 there R first now offset p octets ended heard reached fits is =
     record { octets = octets; ended = ended; heard = heard; reached = reached; there = is ∙ ap position (sym (take_all offset octets fits)) }
 
@@ -89,15 +101,25 @@ returns-in-Ok-eq0-clause-position g c =
     let zero = c.in-Ok-eq0.field-0-test in
     let long = i.5 in
     let left = c.loop-left-test.true in
-    let some : 0 < length c.read.new.piece = omega (arith, c.read.auto.piece, c.min-wanted.ensures, long, left, length-take c.min-wanted.result c.loop-left.piece) in
+    let some : 0 < length c.read.new.piece = omega (
+      arith,
+      c.read.auto.piece,
+      c.min-wanted.ensures,
+      long,
+      left,
+      length-take c.min-wanted.result c.loop-left.piece,
+    ) in
     let told = rw zero at read.told in
-    let heard = Heard-trans g.R.Inlet c.args.reader.now c.loop-left.reader c.read.new.self i.0 [] true i.1 (record { told = told; answered = (read.ended zero some, read.end zero some) }) in
+    let heard = Heard-trans g.R.Inlet c.args.reader.now c.loop-left.reader c.read.new.self i.0 [] true i.1
+    (record { told = told; answered = (read.ended zero some, read.end zero some) }) in
     let all = i.3 in
-    there g.R.Inlet c.args.reader.now c.read.new.self c.args.offset c.position.result i.0 true (rw append-nil at heard) (λ no. absurd (false≢true (sym no))) (omega (arith, all)) (c.position.ensures i.0 i.2)
+    there g.R.Inlet c.args.reader.now c.read.new.self c.args.offset c.position.result i.0 true (rw append-nil at heard) (λ no. absurd (false≢true (sym no)))
+    (omega (arith, all)) (c.position.ensures i.0 i.2)
 
 pub returns-clause-position : goal.returns-clause-position
 returns-clause-position g c =
     let i = c.loop-left.invariant in
     let all = i.3 in
     let none = c.loop-left-test.false in
-    there g.R.Inlet c.args.reader.now c.loop-left.reader c.args.offset c.position-2.result i.0 false i.1 (λ _. omega (arith, all, none)) (omega (arith, all)) (c.position-2.ensures i.0 i.2)
+    there g.R.Inlet c.args.reader.now c.loop-left.reader c.args.offset c.position-2.result i.0 false i.1 (λ _. omega (arith, all, none)) (omega (arith, all))
+    (c.position-2.ensures i.0 i.2)

@@ -11,4 +11,5 @@ equivalent_value-returns-then-not-same_symbols t c = rw (same-is c.args.a.now c.
 pub equivalent_value-returns : goal.equivalent_value-returns
 equivalent_value-returns t c =
     let agree : pointwise symbol_same c.args.a.now.annotations c.args.b.now.annotations ≡ true = cc in
-    subst (λ s. MatchResult c.equivalent_payload.result (λ r. r ≡ s) (λ e. e ≡ reasons.Memory)) (same-payload c.args.a.now c.args.b.now agree) c.equivalent_payload.ensures
+    subst (λ s. MatchResult c.equivalent_payload.result (λ r. r ≡ s) (λ e. e ≡ reasons.Memory)) (same-payload c.args.a.now c.args.b.now agree)
+    c.equivalent_payload.ensures

@@ -9,4 +9,5 @@ invariant-items_nodes-loop-item l =
 
 abbrev pub invariant-fields_nodes-loop-field : goal.invariant-fields_nodes-loop-field
 invariant-fields_nodes-loop-field l =
-    (l.total < 2 ^ 64) × (min (l.total + sum (map (λ f. suc (nodes f.value)) (drop l.field-index l.fields))) (2 ^ 64 - 1) ≡ min (sum (map (λ f. suc (nodes f.value)) l.fields)) (2 ^ 64 - 1))
+    (l.total < 2 ^ 64) × (min (l.total + sum (map (λ f. suc (nodes f.value)) (drop l.field-index l.fields))) (2 ^ 64 - 1)
+    ≡ min (sum (map (λ f. suc (nodes f.value)) l.fields)) (2 ^ 64 - 1))

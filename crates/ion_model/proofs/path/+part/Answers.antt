@@ -21,16 +21,20 @@ part_fields-part_values-requires t c =
     let fs = c.args.fs.now in
     let gs = c.args.gs.now in
     let name = c.in-Some.name in
-    let least : LeastParting fs gs name = subst (λ o. MatchOption o (fields_same same fs gs ≡ true) (λ s. LeastParting fs gs s)) c.in-Some.is c.in_ok-least_name.ensures in
-    let left : once_named name fs ≡ Some c.in-Some-Some.f.now = found_is _ _ _ c.in-Some-Some.is-0 (c.once_named-left.ensures ∙ ap (once_named name) c.as_slice.ensures) in
-    let right : once_named name gs ≡ Some c.in-Some-Some.g.now = found_is _ _ _ c.in-Some-Some.is-1 (c.once_named-right.ensures ∙ ap (once_named name) c.as_slice-2.ensures) in
+    let least : LeastParting fs gs name = subst (λ o. MatchOption o (fields_same same fs gs ≡ true) (λ s. LeastParting fs gs s)) c.in-Some.is
+    c.in_ok-least_name.ensures in
+    let left : once_named name fs ≡ Some c.in-Some-Some.f.now =
+    found_is _ _ _ c.in-Some-Some.is-0 (c.once_named-left.ensures ∙ ap (once_named name) c.as_slice.ensures) in
+    let right : once_named name gs ≡ Some c.in-Some-Some.g.now =
+    found_is _ _ _ c.in-Some-Some.is-1 (c.once_named-right.ensures ∙ ap (once_named name) c.as_slice-2.ensures) in
     (omega (arith, c.decreases, once_deep name fs c.in-Some-Some.f.now left), once_parts fs gs name c.in-Some-Some.f.now c.in-Some-Some.g.now least left right)
 
 pub part_items-part_values-requires : goal.part_items-part_values-requires
 part_items-part_values-requires t c =
     let agree : AgreeTo c.args.vs.now c.args.ws.now c.in_ok-before.before = c.in_ok-before.ensures in (
       omega (arith, c.decreases, greatest-at depth _ _ _ c.if-before-vs.true c.index-vs-before.is),
-      differ_at c.args.vs.now c.args.ws.now c.in_ok-before.before c.index-vs-before.result c.index-ws-before.result c.if-before-vs.true c.if-before-ws.true c.index-vs-before.is c.index-ws-before.is agree.further,
+      differ_at c.args.vs.now c.args.ws.now c.in_ok-before.before c.index-vs-before.result c.index-ws-before.result c.if-before-vs.true c.if-before-ws.true
+          c.index-vs-before.is c.index-ws-before.is agree.further,
     )
 
 pub part_items-returns-clause-path : goal.part_items-returns-clause-path
@@ -43,7 +47,8 @@ part_items-returns-clause-path t c =
         before = c.in_ok-before.before;
         number = refl;
         agree = agree.agree;
-        there = one_ends (IsPath []) c.args.vs.now c.args.ws.now c.in_ok-before.before (λ p q. ⊎_elim (λ h. omega (arith, h)) (λ h. omega (arith, h)) c.else-before-vs.either) agree.within agree.agree c.requires;
+        there = one_ends (IsPath []) c.args.vs.now c.args.ws.now c.in_ok-before.before
+            (λ p q. ⊎_elim (λ h. omega (arith, h)) (λ h. omega (arith, h)) c.else-before-vs.either) agree.within agree.agree c.requires;
       };
     }
 
@@ -53,7 +58,8 @@ part_values-part_items-requires t c =
     let b = c.args.b.now in
     let annotations : pointwise symbol_same a.annotations b.annotations ≡ true = cc in (
       omega (arith, c.decreases, depth-at-List a _ c.in-List-List.is-0, ap (λ xs. greatest (map depth xs)) c.as_slice-in-List-List.ensures),
-      rw (c.as_slice-in-List-List.ensures, c.as_slice-in-List-List-2.ensures) (list_parts a b c.in-List-List.vs c.in-List-List.ws c.in-List-List.is-0 c.in-List-List.is-1 annotations c.requires),
+      rw (c.as_slice-in-List-List.ensures, c.as_slice-in-List-List-2.ensures)
+          (list_parts a b c.in-List-List.vs c.in-List-List.ws c.in-List-List.is-0 c.in-List-List.is-1 annotations c.requires),
     )
 
 pub part_values-part_items-requires-in-Sexp-Sexp : goal.part_values-part_items-requires-in-Sexp-Sexp
@@ -62,7 +68,8 @@ part_values-part_items-requires-in-Sexp-Sexp t c =
     let b = c.args.b.now in
     let annotations : pointwise symbol_same a.annotations b.annotations ≡ true = cc in (
       omega (arith, c.decreases, depth-at-Sexp a _ c.in-Sexp-Sexp.is-0, ap (λ xs. greatest (map depth xs)) c.as_slice-in-Sexp-Sexp.ensures),
-      rw (c.as_slice-in-Sexp-Sexp.ensures, c.as_slice-in-Sexp-Sexp-2.ensures) (sexp_parts a b c.in-Sexp-Sexp.vs c.in-Sexp-Sexp.ws c.in-Sexp-Sexp.is-0 c.in-Sexp-Sexp.is-1 annotations c.requires),
+      rw (c.as_slice-in-Sexp-Sexp.ensures, c.as_slice-in-Sexp-Sexp-2.ensures)
+          (sexp_parts a b c.in-Sexp-Sexp.vs c.in-Sexp-Sexp.ws c.in-Sexp-Sexp.is-0 c.in-Sexp-Sexp.is-1 annotations c.requires),
     )
 
 pub part_values-part_fields-requires : goal.part_values-part_fields-requires

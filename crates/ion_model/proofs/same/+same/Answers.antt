@@ -27,26 +27,36 @@ count-same_value-requires t c = (omega (arith, c.decreases, greatest-at (λ f. d
 
 pub agree-returns-then-count : goal.agree-returns-then-count
 agree-returns-then-count t c =
-    counts_agree_fails same c.args.a.now c.args.b.now c.args.of.now _ _ c.loop-field-test.true c.field-item.is (λ e. c.if-count.true (c.count.ensures ∙ e ∙ sym c.count-in-loop-field.ensures))
+    counts_agree_fails same c.args.a.now c.args.b.now c.args.of.now _ _ c.loop-field-test.true c.field-item.is
+    (λ e. c.if-count.true (c.count.ensures ∙ e ∙ sym c.count-in-loop-field.ensures))
 
 pub agree-loop-field-preserved : goal.agree-loop-field-preserved
 agree-loop-field-preserved t c =
-    counts_agree_more same c.args.a.now c.args.b.now c.args.of.now _ _ c.loop-field-test.true c.field-item.is (sym c.count.ensures ∙ c.if-count.false ∙ c.count-in-loop-field.ensures) c.loop-field.invariant
+    counts_agree_more same c.args.a.now c.args.b.now c.args.of.now _ _ c.loop-field-test.true c.field-item.is
+    (sym c.count.ensures ∙ c.if-count.false ∙ c.count-in-loop-field.ensures) c.loop-field.invariant
 
 pub same_payload-same_items-requires : goal.same_payload-same_items-requires
 same_payload-same_items-requires t c =
-    let d : depth c.args.a.now ≡ suc (greatest (map depth c.as_slice-in-List-List.result.now)) = depth-at-List c.args.a.now _ c.in-List-List.is-0 ∙ ap (λ xs. suc (greatest (map depth xs))) (sym c.as_slice-in-List-List.ensures) in
-    let e : depth c.args.b.now ≡ suc (greatest (map depth c.as_slice-in-List-List-2.result.now)) = depth-at-List c.args.b.now _ c.in-List-List.is-1 ∙ ap (λ xs. suc (greatest (map depth xs))) (sym c.as_slice-in-List-List-2.ensures) in
+    let d : depth c.args.a.now ≡ suc (greatest (map depth c.as_slice-in-List-List.result.now)) = depth-at-List c.args.a.now _ c.in-List-List.is-0
+    ∙ ap (λ xs. suc (greatest (map depth xs))) (sym c.as_slice-in-List-List.ensures) in
+    let e : depth c.args.b.now ≡ suc (greatest (map depth c.as_slice-in-List-List-2.result.now)) = depth-at-List c.args.b.now _ c.in-List-List.is-1
+    ∙ ap (λ xs. suc (greatest (map depth xs))) (sym c.as_slice-in-List-List-2.ensures) in
     (omega (arith, c.decreases, d, e), tt)
 
 pub same_payload-same_items-requires-in-Sexp-Sexp : goal.same_payload-same_items-requires-in-Sexp-Sexp
 same_payload-same_items-requires-in-Sexp-Sexp t c =
-    let d : depth c.args.a.now ≡ suc (greatest (map depth c.as_slice-in-Sexp-Sexp.result.now)) = depth-at-Sexp c.args.a.now _ c.in-Sexp-Sexp.is-0 ∙ ap (λ xs. suc (greatest (map depth xs))) (sym c.as_slice-in-Sexp-Sexp.ensures) in
-    let e : depth c.args.b.now ≡ suc (greatest (map depth c.as_slice-in-Sexp-Sexp-2.result.now)) = depth-at-Sexp c.args.b.now _ c.in-Sexp-Sexp.is-1 ∙ ap (λ xs. suc (greatest (map depth xs))) (sym c.as_slice-in-Sexp-Sexp-2.ensures) in
+    let d : depth c.args.a.now ≡ suc (greatest (map depth c.as_slice-in-Sexp-Sexp.result.now)) = depth-at-Sexp c.args.a.now _ c.in-Sexp-Sexp.is-0
+    ∙ ap (λ xs. suc (greatest (map depth xs))) (sym c.as_slice-in-Sexp-Sexp.ensures) in
+    let e : depth c.args.b.now ≡ suc (greatest (map depth c.as_slice-in-Sexp-Sexp-2.result.now)) = depth-at-Sexp c.args.b.now _ c.in-Sexp-Sexp.is-1
+    ∙ ap (λ xs. suc (greatest (map depth xs))) (sym c.as_slice-in-Sexp-Sexp-2.ensures) in
     (omega (arith, c.decreases, d, e), tt)
 
 pub same_payload-same_fields-requires : goal.same_payload-same_fields-requires
 same_payload-same_fields-requires t c =
-    let d : depth c.args.a.now ≡ suc (greatest (map (λ f. depth f.value) c.as_slice-in-Fields-Fields.result.now)) = depth-at-Fields c.args.a.now _ c.in-Fields-Fields.is-0 ∙ ap (λ xs. suc (greatest (map (λ f. depth f.value) xs))) (sym c.as_slice-in-Fields-Fields.ensures) in
-    let e : depth c.args.b.now ≡ suc (greatest (map (λ f. depth f.value) c.as_slice-in-Fields-Fields-2.result.now)) = depth-at-Fields c.args.b.now _ c.in-Fields-Fields.is-1 ∙ ap (λ xs. suc (greatest (map (λ f. depth f.value) xs))) (sym c.as_slice-in-Fields-Fields-2.ensures) in
+    let d : depth c.args.a.now ≡ suc (greatest (map (λ f. depth f.value) c.as_slice-in-Fields-Fields.result.now)) =
+    depth-at-Fields c.args.a.now _ c.in-Fields-Fields.is-0
+    ∙ ap (λ xs. suc (greatest (map (λ f. depth f.value) xs))) (sym c.as_slice-in-Fields-Fields.ensures) in
+    let e : depth c.args.b.now ≡ suc (greatest (map (λ f. depth f.value) c.as_slice-in-Fields-Fields-2.result.now)) =
+    depth-at-Fields c.args.b.now _ c.in-Fields-Fields.is-1
+    ∙ ap (λ xs. suc (greatest (map (λ f. depth f.value) xs))) (sym c.as_slice-in-Fields-Fields-2.ensures) in
     (omega (arith, c.decreases, d, e), tt)

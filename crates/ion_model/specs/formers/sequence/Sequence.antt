@@ -42,7 +42,8 @@ vector = via (vec.the_former this Global) Inside (λ X s. s.items) (λ X items. 
 module _ (R S : RattleType) (along : R.Denot → S.Denot) where
   pub the_places : Alike R S along → Alike (sequence.the_row R) (sequence.the_row S) ((the_former this).map R.Denot S.Denot along)
   the_places alike =
-      let fields = struct_places (inside.the_type R) (inside.the_type S) (vec.mapped along, tt) _ (λ s. refl) refl (laid _ _ _ (vec.the_places heap.the_row ghosts R S along alike), tt) in
+      let fields = struct_places (inside.the_type R) (inside.the_type S) (vec.mapped along, tt) _ (λ s. refl) refl
+      (laid _ _ _ (vec.the_places heap.the_row ghosts R S along alike), tt) in
       view_places vector (list this) view (λ X Y f s. refl) (λ X s. refl) R.Denot S.Denot along (sequence.the_row R).coded (sequence.the_row S).coded
       (invariant R.Denot) (invariant S.Denot) (λ s p q. refl) (λ s p q. refl) (λ s e. tt) (λ s e. tt)
       (over (inside.the_row R)) (over (inside.the_row S)) fields

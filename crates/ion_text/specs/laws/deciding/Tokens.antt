@@ -215,11 +215,11 @@ why_once g l ts t d e p came (as_colons n vs r k h) (by_itself m c s i n' h') = 
 
 -- behind others that are read the last of the tokens is refused for this reason
 pub record Stops (g : Catalog) (l : Limits) (ts : List Placed) (t : Placed) (e : Reason) : Type 0 where
-  pub read_before : List Placed
-  pub is : ts ≡ read_before ++ t ∷ []
-  pub came : Came g l read_before t.place
+  pub front : List Placed
+  pub is : ts ≡ front ++ t ∷ []
+  pub came : Came g l front t.place
   pub stops : reads g l (origin g l) ts ≡ stopped
-  pub why : Why g l read_before t e
+  pub why : Why g l front t e
 
 module _ (g : Catalog) (l : Limits) where
   -- 4. A token where a value may come.
@@ -232,13 +232,13 @@ module _ (g : Catalog) (l : Limits) where
     value_stops : (e : Reason) → JoinsNothing said → ((s : ℕ) → Refusing e (turn g l (at s c held h.symbols nows.Ready) (token_of h.token.lexeme said))) → Stops g l ts h.token e
     value_stops e a refused =
         let w = settles g l c ks said ts h takes in
-        let read_before = before g l c ks said ts h in
+        let front = before g l c ks said ts h in
         let is = cut g l c ks said ts h in
         let x = go_on g l c ks said ts h takes h.token said [] h.says a in
         record {
-          read_before = read_before;
+          front = front;
           is = is;
-          came = subst (Came g l read_before) (sym h.says.place) (came g l c ks said ts h takes);
+          came = subst (Came g l front) (sym h.says.place) (came g l c ks said ts h takes);
           stops = ap (reads g l (origin g l)) is ∙ (x.1 ∙ ap (adds_values h.values) (first_token g l (place_of ks) (at x.0 c held h.symbols nows.Ready) h.token said [] h.says (here g l c ks said ts h takes) (inr refl) ∙ refusing_stops e (turn g l (at x.0 c held h.symbols nows.Ready) (token_of h.token.lexeme said)) done (refused x.0)));
           why = by_itself (at w.0 c held h.symbols nows.Ready) said w.1 (said_ok g l (place_of ks) h.token said h.says) (not_colons (place_of ks) h.token said h.says a.colons) (refused w.0);
         }
@@ -260,13 +260,13 @@ module _ (g : Catalog) (l : Limits) where
 
     -- one that waits for `::`
     module _ (word : Held) (waits : (start end : ℕ) → on_ready (under g l) (spot_at end start c) held h.symbols said ≡ goes (at start c held h.symbols (nows.Pending word end))) (apart : JoinsNothing said) where
-      abbrev pub read_before : List Placed
-      read_before = before g l c ks said ts h
+      abbrev pub front : List Placed
+      front = before g l c ks said ts h
 
       abbrev pub pending_word : ℕ → Reading
       pending_word s = at (begun_at s h.token.lexeme.start held h.symbols) c held h.symbols (nows.Pending word h.token.lexeme.end)
 
-      pub read_to : (more : List Placed) → (s : ℕ) × (reads g l (origin g l) (read_before ++ h.token ∷ more) ≡ adds_values h.values (reads g l (pending_word s) more))
+      pub read_to : (more : List Placed) → (s : ℕ) × (reads g l (origin g l) (front ++ h.token ∷ more) ≡ adds_values h.values (reads g l (pending_word s) more))
       read_to more =
           let x = go_on g l c ks said ts h takes h.token said more h.says apart in (
             x.0,
@@ -279,7 +279,7 @@ module _ (g : Catalog) (l : Limits) where
       at_pending : (s : ℕ) → place_of ks ≡ place (pending_word s)
       at_pending s = here g l c ks said ts h takes ∙ sym (pending_at held word h.token.lexeme.end)
 
-      came_pending : Came g l (read_before ++ h.token ∷ []) (place_of ks)
+      came_pending : Came g l (front ++ h.token ∷ []) (place_of ks)
       came_pending = let x = read_to [] in record { values = h.values ++ []; now = pending_word x.0; read = x.1; here = sym (at_pending x.0) }
 
       -- an annotation that is a keyword
@@ -287,13 +287,13 @@ module _ (g : Catalog) (l : Limits) where
       note_stops colons says none =
           let x = read_to (colons ∷ []) in
           let y = read_to [] in
-          let whole : ts ++ colons ∷ [] ≡ (read_before ++ h.token ∷ []) ++ colons ∷ [] = ap (λ y. y ++ colons ∷ []) (cut g l c ks said ts h) in
+          let whole : ts ++ colons ∷ [] ≡ (front ++ h.token ∷ []) ++ colons ∷ [] = ap (λ y. y ++ colons ∷ []) (cut g l c ks said ts h) in
           record {
-            read_before = read_before ++ h.token ∷ [];
+            front = front ++ h.token ∷ [];
             is = whole;
-            came = subst (Came g l (read_before ++ h.token ∷ [])) (sym says.place) came_pending;
+            came = subst (Came g l (front ++ h.token ∷ [])) (sym says.place) came_pending;
             stops =
-                ap (reads g l (origin g l)) (whole ∙ append_assoc read_before (h.token ∷ []) (colons ∷ []))
+                ap (reads g l (origin g l)) (whole ∙ append_assoc front (h.token ∷ []) (colons ∷ []))
                 ∙ (x.1 ∙ ap (adds_values h.values)
                 (first_token g l (place_of ks) (pending_word x.0) colons (Mark' marks.Colons) [] says (at_pending x.0) (inl refl)
                 ∙ ap (λ y. on_turn (noted (begun_at x.0 h.token.lexeme.start held h.symbols) c held h.symbols y) done) none));
@@ -311,13 +311,13 @@ module _ (g : Catalog) (l : Limits) where
     name_stops : (e : Reason) → JoinsNothing said → ((s : ℕ) → Refusing e (turn g l (at s c inside [] nows.Name) (token_of h.token.lexeme said))) → Stops g l ts h.token e
     name_stops e a refused =
         let w = settles_name g l c ks said ts h in
-        let read_before = up_to g l c ks said ts h in
+        let front = up_to g l c ks said ts h in
         let is = cut_name g l c ks said ts h in
         let x = go_on_name g l c ks said ts h h.token said h.says a in
         record {
-          read_before = read_before;
+          front = front;
           is = is;
-          came = subst (Came g l read_before) (sym h.says.place) (came_name g l c ks said ts h);
+          came = subst (Came g l front) (sym h.says.place) (came_name g l c ks said ts h);
           stops = ap (reads g l (origin g l)) is ∙ (x.1 ∙ ap (adds_values h.values) (first_token g l places.Name (at x.0 c inside [] nows.Name) h.token said [] h.says refl (inr refl) ∙ refusing_stops e (turn g l (at x.0 c inside [] nows.Name) (token_of h.token.lexeme said)) done (refused x.0)));
           why = by_itself (at w.0 c inside [] nows.Name) said w.1 (said_ok g l places.Name h.token said h.says) (not_colons places.Name h.token said h.says a.colons) (refused w.0);
         }
@@ -367,30 +367,30 @@ module _ (g : Catalog) (l : Limits) where
 
       struct' : (notes body : List Placed) (rs : Symbols) (open' close : Placed) (more : Bool) → rs ≡ ss → Annotations c places.Top notes rs → Says places.Top open' (Mark' marks.FieldsOpen) → Members c body ms more → Says (close_place more) close (Mark' marks.FieldsClose)
           → h.item ≡ notes ++ open' ∷ (body ++ close ∷ []) → TableStops ts e
-      struct' notes body rs open' close more same a opens members closes cut = record { close = close; more = more; closes = closes; at_close = record { read_before = read_before; is = whole; came = subst (Came g l read_before) (sym closes.place) (came' more members closes); stops = stops; why = why } }
+      struct' notes body rs open' close more same a opens members closes cut = record { close = close; more = more; closes = closes; at_close = record { front = front; is = whole; came = subst (Came g l front) (sym closes.place) (came' more members closes); stops = stops; why = why } }
         where
           inner : List Placed
           inner = notes ++ open' ∷ body
 
-          read_before : List Placed
-          read_before = h.front ++ inner
+          front : List Placed
+          front = h.front ++ inner
 
           item_is : h.item ≡ inner ++ close ∷ []
           item_is = cut ∙ sym (append_assoc notes (open' ∷ body) (close ∷ []))
 
-          whole : ts ≡ read_before ++ close ∷ []
+          whole : ts ≡ front ++ close ∷ []
           whole = h.parts ∙ (ap (λ x. h.front ++ x) item_is ∙ sym (append_assoc h.front inner (close ∷ [])))
 
           deep : Deep l.depth (frames.Fields rs ms ∷ [])
           deep = let k = h.deep in (omega (arith, k, depth-struct ss ms), tt)
 
           opened : (more : Bool) → Members c body ms more → Opened c (frames.Fields rs ms ∷ []) inner more
-          opened more members = record { read_before = []; notes = notes; body = body; open' = open'; whole = refl; outer = refl; receives = tt; noted = a; opens = opens; items = members }
+          opened more members = record { front = []; notes = notes; body = body; open' = open'; whole = refl; outer = refl; receives = tt; noted = a; opens = opens; items = members }
 
           apart : (ends_long h.front && begins_as_long inner) ≡ false
           apart = begins_so (ends_long h.front) inner (close ∷ []) (subst (λ x. (ends_long h.front && begins_as_long x) ≡ false) item_is h.apart)
 
-          came' : (more : Bool) → Members c body ms more → Says (close_place more) close (Mark' marks.FieldsClose) → Came g l read_before (close_place more)
+          came' : (more : Bool) → Members c body ms more → Says (close_place more) close (Mark' marks.FieldsClose) → Came g l front (close_place more)
           came' true members closes = stands_read g l c h.front h.values (frames.Fields rs ms ∷ []) [] nows.Name inner h.pieces deep (opened true members, tt) apart
           came' false members closes = stands_read g l c h.front h.values (frames.Fields rs ms ∷ []) [] nows.After inner h.pieces deep (opened false members, refl, tt) apart
 
@@ -401,7 +401,7 @@ module _ (g : Catalog) (l : Limits) where
           closed true s = refusing_is e _ (refused s)
           closed false s = refusing_is e _ (refused s)
 
-          why : Why g l read_before close e
+          why : Why g l front close e
           why =
               let w = struct_settles g l c h.front h.values rs ms [] inner more h.pieces deep (opened more members) apart in
               by_itself (at w.0 c (frames.Fields rs ms ∷ []) [] (struct_now g l more)) (Mark' marks.FieldsClose) w.1 (said_ok g l (close_place more) close (Mark' marks.FieldsClose) closes) (not_colons (close_place more) close (Mark' marks.FieldsClose) closes (λ k. cc)) (closed more w.0)

@@ -9,7 +9,8 @@ returns-in-Some g c =
     let filled : (length c.args.words.now == 0) ≡ false = search rules in
     let some = mapped_some g.S.AsStr.text c.args.words.now filled in
     record {
-      asked = found (map g.S.AsStr.text c.args.words.now) some (app_of c.in_ok-program.program) c.in_ok-program.ensures c.in-Ok.matches c.in-Ok.ensures.kinds c.in-Ok.ensures.matches
+      asked = found (map g.S.AsStr.text c.args.words.now) some (app_of c.in_ok-program.program) c.in_ok-program.ensures c.in-Ok.matches c.in-Ok.ensures.kinds
+          c.in-Ok.ensures.matches
           ∙ sym c.in-Some.ensures.asked;
       reads = c.in-Some.ensures.reads;
       input_once = c.in-Some.ensures.input_once;
@@ -20,7 +21,8 @@ returns-in-Ok g c =
     let filled : (length c.args.words.now == 0) ≡ false = search rules in
     let some = mapped_some g.S.AsStr.text c.args.words.now filled in
     record {
-      asked = λ usage. found (map g.S.AsStr.text c.args.words.now) some (app_of c.in_ok-program.program) c.in_ok-program.ensures c.in-Ok.matches c.in-Ok.ensures.kinds c.in-Ok.ensures.matches
+      asked = λ usage. found (map g.S.AsStr.text c.args.words.now) some (app_of c.in_ok-program.program) c.in_ok-program.ensures c.in-Ok.matches
+          c.in-Ok.ensures.kinds c.in-Ok.ensures.matches
           ∙ sym c.in-None.ensures.asked;
       reads = tt;
       input_once = tt;
@@ -31,7 +33,8 @@ returns g c =
     let filled : (length c.args.words.now == 0) ≡ false = search rules in
     let some = mapped_some g.S.AsStr.text c.args.words.now filled in
     record {
-      asked = refused (map g.S.AsStr.text c.args.words.now) some (app_of c.in_ok-program.program) c.in_ok-program.ensures c.in-Err.error c.in-Err.ensures.kinds c.refusal.result c.refusal.ensures;
+      asked = refused (map g.S.AsStr.text c.args.words.now) some (app_of c.in_ok-program.program) c.in_ok-program.ensures c.in-Err.error c.in-Err.ensures.kinds
+          c.refusal.result c.refusal.ensures;
       reads = tt;
       input_once = tt;
     }

@@ -15,4 +15,5 @@ returns-in-Ok-clause-none c =
     (λ low. absurd (stays c.args.self c.requires c.civil_date.result c.in-Ok.day c.civil_date.ensures c.in-Ok.ensures.value low))
 
 pub returns-in-Err-clause-none : goal.returns-in-Err-clause-none
-returns-in-Err-clause-none c = let s = c.in-Err.ensures.succeeds in is_last c.args.self c.requires c.civil_date.result c.civil_date.ensures (λ lt. false≢true (s.1 lt))
+returns-in-Err-clause-none c = let s = c.in-Err.ensures.succeeds in
+    is_last c.args.self c.requires c.civil_date.result c.civil_date.ensures (λ lt. false≢true (s.1 lt))

@@ -11,7 +11,9 @@ returns-in-Ok-clause-some c =
 
 pub returns-in-Ok-clause-none : goal.returns-in-Ok-clause-none
 returns-in-Ok-clause-none c =
-    IfNone_then c.own_date.result c.own_date.ensures.none (is_first c.args.self c.requires c.civil_date.result c.in-Ok.day c.civil_date.ensures c.in-Ok.ensures.value)
+    IfNone_then c.own_date.result c.own_date.ensures.none (is_first c.args.self c.requires c.civil_date.result c.in-Ok.day c.civil_date.ensures
+    c.in-Ok.ensures.value)
 
 pub returns-in-Err-clause-none : goal.returns-in-Err-clause-none
-returns-in-Err-clause-none c = let s = c.in-Err.ensures.succeeds in absurd (false≢true (s.1 (has_before c.args.self c.requires c.civil_date.result c.civil_date.ensures)))
+returns-in-Err-clause-none c = let s = c.in-Err.ensures.succeeds in
+    absurd (false≢true (s.1 (has_before c.args.self c.requires c.civil_date.result c.civil_date.ensures)))

@@ -10,5 +10,10 @@ returns-clause-some c =
     let sum = simp to_z-of_z at (rw (c.from.ensures, c.from-2.ensures) at c.carried-days.ensures.sum) in
     let date = c.in-Some.ensures.some in
     let low = first-le c.in-Some.date date.0 in
-    let high = le-last c.in-Some.date date.0 in
-    (λ some. (omega (arith, signed_arith, sum, date.1, low, c.carried-days.ensures.minute), omega (arith, signed_arith, sum, date.1, high, c.carried-days.ensures.minute)), λ within. refl)
+    let high = le-last c.in-Some.date date.0 in (
+      λ some. (
+        omega (arith, signed_arith, sum, date.1, low, c.carried-days.ensures.minute),
+        omega (arith, signed_arith, sum, date.1, high, c.carried-days.ensures.minute),
+      ),
+      λ within. refl,
+    )

@@ -11,5 +11,6 @@ returns c =
     let within : c.args.place - c.end-end.result < length c.self.inside.last.items =
     omega (arith, rw (← c.self.view_is) at c.requires.within, slots, symbols, c.end-end.ensures.count, c.if-place-end.false) in
     rw (← c.self.view_is)
-    (resolve_last c.self.inside.earlier.first c.end-end.result c.args.place c.self.inside.earlier.slots c.self.inside.last.items c.index.result.now c.end-end.ensures.count c.if-place-end.false within
+    (resolve_last c.self.inside.earlier.first c.end-end.result c.args.place c.self.inside.earlier.slots c.self.inside.last.items c.index.result.now
+    c.end-end.ensures.count c.if-place-end.false within
     c.index.ensures)

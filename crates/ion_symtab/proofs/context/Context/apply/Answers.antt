@@ -13,7 +13,8 @@ append-requires c =
 pub returns-in_ok-append-clause-ok : goal.returns-in_ok-append-clause-ok
 returns-in_ok-append-clause-ok c =
     let a = c.in_ok-added.ensures c.args.self.now (sym c.max_id.ensures.count) in
-    next_appends c.args.self.now c.args.table.now c.args.catalog.now c.in-Fields.is (sym c.as_slice-fields.ensures) c.in_ok-imports.ensures c.in_ok-symbols.ensures (sym c.appends.ensures ∙ c.if-appends.true)
+    next_appends c.args.self.now c.args.table.now c.args.catalog.now c.in-Fields.is (sym c.as_slice-fields.ensures) c.in_ok-imports.ensures
+    c.in_ok-symbols.ensures (sym c.appends.ensures ∙ c.if-appends.true)
     ∙ a.1
     ∙ ap Ok (ap (λ xs. xs ++ c.in_ok-added.added.slots) (sym c.self.view_is) ∙ append_assoc system_slots c.self.inside.added.slots c.in_ok-added.added.slots
     ∙ ap (λ xs. system_slots ++ xs) (sym c.in_ok-append.ensures.ok))
@@ -21,12 +22,14 @@ returns-in_ok-append-clause-ok c =
 pub returns-in_err-self-inside-clause-refused : goal.returns-in_err-self-inside-clause-refused
 returns-in_err-self-inside-clause-refused c =
     let p = err_from_is_err_and c.from_residual-in_err-self-inside.result c.from_residual-in_err-self-inside.ensures.1 in
-    let n = next_replaces c.args.self.now c.args.table.now c.args.catalog.now c.in-Fields.is (sym c.as_slice-fields.ensures) c.in_ok-imports.ensures c.in_ok-symbols.ensures
+    let n = next_replaces c.args.self.now c.args.table.now c.args.catalog.now c.in-Fields.is (sym c.as_slice-fields.ensures) c.in_ok-imports.ensures
+    c.in_ok-symbols.ensures
     (sym c.appends.ensures ∙ c.if-appends.false) in
     rw (p.1, p.2, n) (c.in_err-self-inside.ensures system_slots nine_system_slots)
 
 pub returns-in_ok-self-inside-clause-ok : goal.returns-in_ok-self-inside-clause-ok
 returns-in_ok-self-inside-clause-ok c =
     let a = c.in_ok-self-inside.ensures system_slots nine_system_slots in
-    next_replaces c.args.self.now c.args.table.now c.args.catalog.now c.in-Fields.is (sym c.as_slice-fields.ensures) c.in_ok-imports.ensures c.in_ok-symbols.ensures (sym c.appends.ensures ∙ c.if-appends.false)
+    next_replaces c.args.self.now c.args.table.now c.args.catalog.now c.in-Fields.is (sym c.as_slice-fields.ensures) c.in_ok-imports.ensures
+    c.in_ok-symbols.ensures (sym c.appends.ensures ∙ c.if-appends.false)
     ∙ a.1
