@@ -1,6 +1,7 @@
 //! Numbers of Amazon Ion 1.0 as octets and as tokens.
 #![tactic(auto)]
 
+mod backward;
 mod decimal_body;
 mod decimals;
 mod descriptor;

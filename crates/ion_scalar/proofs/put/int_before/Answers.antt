@@ -1,12 +1,11 @@
-use Rattle.std.proofs.Common.{◌-◌, arith}
+use Rattle.std.proofs.Common.{◌-◌, length, arith}
 use Rattle.ion_scalar.proofs.Places.{room_for}
 use Rattle.ion_scalar.proofs.put.int_before.Goals as goal
 
-pub signed_before-requires-clause-room : goal.signed_before-requires-clause-room
-signed_before-requires-clause-room c = room_for 256 c.args.magnitude 16 (c.args.end - 1) (omega arith) (omega arith) (omega arith)
+pub push_signed-requires-clause-room : goal.push_signed-requires-clause-room
+push_signed-requires-clause-room c = room_for 256 c.args.magnitude 16 (96 - length c.args.octets.now - 1) (omega arith) (omega arith) (omega arith)
 
-pub returns-clause-start : goal.returns-clause-start
-returns-clause-start c =
-    let few = c.signed_before.ensures.few 16 (omega arith) in
-    let start = c.signed_before.ensures.start in
-    (omega arith, omega arith)
+pub returns-clause-few : goal.returns-clause-few
+returns-clause-few c =
+    let few = c.push_signed.ensures.few 16 (omega arith) in
+    omega arith

@@ -1,10 +1,9 @@
-use Rattle.std.proofs.Common.{◌≡◌, ◌+◌, ◌-◌, ◌++◌, drop, length}
+use Rattle.std.proofs.Common.{◌≡◌, ◌+◌, ◌-◌, ◌++◌, length}
 use Rattle.ion_scalar.specs.text.Texts.{padded}
 use Rattle.ion_scalar.proofs.text.padded_before.Given as goal
 
 abbrev pub invariant-loop : goal.invariant-loop
 invariant-loop l = record {
-  place : l.end ≡ l.start + l.counter;
-  size : length l.octets ≡ length l.fn.octets;
-  text : padded (l.digits - l.counter) l.rest ++ drop l.start l.octets ≡ padded l.digits l.value ++ drop l.end l.fn.octets;
+  place : length l.octets ≡ length l.fn.octets + l.counter;
+  text : padded (l.digits - l.counter) l.rest ++ l.octets ≡ padded l.digits l.value ++ l.fn.octets;
 }

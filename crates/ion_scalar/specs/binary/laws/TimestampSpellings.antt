@@ -1,8 +1,7 @@
 -- A timestamp that is written is read back.
-use Rattle.std.proofs.Common.{◌≡◌, ℕ, suc, ◌^◌, ◌<◌, ◌≤◌, ℤ, pos, negsuc, neg_ℤ, ◌+ℤ◌, Bool, true, false, List, [], ◌++◌, refl, sym, ap, subst, ◌∙◌, arith, Ok, inl, inr, Option, Some, None}
+use Rattle.std.proofs.Common.{◌≡◌, ℕ, suc, ◌^◌, ◌<◌, ◌≤◌, ℤ, pos, negsuc, neg_ℤ, ◌+ℤ◌, Bool, true, false, List, ◌++◌, refl, sym, append_assoc, ap, subst, ◌∙◌, arith, Ok, inl, inr, Option, Some, None}
 use Rattle.std.specs.Prelude.{IfSome, ◌==◌}
 use Rattle.std.proofs.Math.Nat.{pow-le-pow_right}
-use Rattle.std.proofs.lemmas.List.{append-nil}
 use Rattle.std.proofs.lemmas.Int.{ints}
 use Rattle.std.proofs.lemmas.Bool.{le-ltb, eqb-true}
 use Rattle.ion_atoms.specs.declared.calendar.Minute.{Minute}
@@ -224,8 +223,9 @@ pub fraction_small : (t : TimestampParts) → IsTimestamp t → t.local.fraction
 fraction_small t h = cut_small t.precision t.local h.cut
 
 -- the octets that are written, the last ones first
-pub octets_are : (t : TimestampParts) (utc : Utc) (offset : Option ℤ) (x y z : List ℕ) → utc ≡ utc_of t → offset ≡ t.offset → x ≡ ahead_octets offset ++ y → y ≡ fields_octets utc ++ z → z ≡ [] → x ≡ timestamp_octets t
+pub octets_are : (t : TimestampParts) (utc : Utc) (offset : Option ℤ) (x y z : List ℕ) → utc ≡ utc_of t → offset ≡ t.offset
+    → x ≡ ahead_octets offset ++ y → y ≡ fields_octets utc ++ z → x ≡ timestamp_octets t ++ z
 unfolding timestamp_octets
-octets_are t utc offset x y z same ahead first rest none =
-    let whole : fields_octets utc ++ z ≡ fields_octets utc = ap (λ (os : List ℕ). fields_octets utc ++ os) none ∙ append-nil (fields_octets utc) in
-    first ∙ (ap (λ (os : List ℕ). ahead_octets offset ++ os) (rest ∙ whole) ∙ (λ i. ahead_octets (ahead i) ++ fields_octets (same i)))
+octets_are t utc offset x y z same ahead first rest =
+    first ∙ (ap (λ (os : List ℕ). ahead_octets offset ++ os) rest ∙ ((λ i. ahead_octets (ahead i) ++ (fields_octets (same i) ++ z))
+    ∙ sym (append_assoc (ahead_octets t.offset) (fields_octets (utc_of t)) z)))

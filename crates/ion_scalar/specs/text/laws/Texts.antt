@@ -1,21 +1,17 @@
 -- What is written as text spells the number.
-use Rattle.std.proofs.Common.{◌≡◌, ◌≢◌, ℕ, suc, ◌+◌, ◌-◌, ◌/◌, ◌%◌, ◌^◌, ◌<◌, ◌≤◌, inl, inr, List, [], ◌∷◌, ◌++◌, length, drop, set, get_or, Bool, true, false, ℤ, pos, negsuc, ◌-ℤ◌, to_z, of_z, refl, sym, ap, ◌∙◌, arith, length-append, append-nil, Ok}
-use lib.Signed.{mag}
+use Rattle.std.proofs.Common.{◌≡◌, ◌≢◌, ℕ, suc, ◌+◌, ◌/◌, ◌%◌, ◌^◌, ◌<◌, ◌≤◌, inl, inr, List, [], ◌∷◌, ◌++◌, length, get_or, Bool, true, false, ℤ, pos, negsuc, ◌-ℤ◌, refl, sym, ap, ◌∙◌, arith, length-append, append-nil, Ok}
 use Rattle.std.specs.Char.{digit_value}
 use Rattle.std.specs.Fmt.{decimal, signed_decimal}
 use Rattle.std.proofs.lemmas.Int.{ints}
-use Rattle.std.proofs.Math.Facts.{to_z-of_z}
-use Rattle.std.specs.Int.{w32, w128}
 use Rattle.std.proofs.lemmas.Bool.{cases_lt}
 use Rattle.std.proofs.lemmas.Fmt.{decimal_by_steps_wide, decimal_digit}
 use Rattle.std.proofs.lemmas.Str.{digit_value_digit}
-use Rattle.std.proofs.lemmas.List.{drop-set}
 use Rattle.ion_atoms.specs.Ranges.{IsWhole}
 use Rattle.ion_atoms.specs.Decimals.{DecimalParts, IsDecimal}
 use Rattle.ion_scalar.specs.declared.number.Number.TheVariants as numbers
 use Rattle.ion_scalar.specs.binary.Fields.{positional}
 use Rattle.ion_scalar.specs.Positional.{positional_push}
-use Rattle.ion_scalar.specs.text.Ints.{IsDigits, digits_in, number, IsWholePart, minus}
+use Rattle.ion_scalar.specs.text.Ints.{IsDigits, digits_in, number, IsWholePart}
 use Rattle.ion_scalar.specs.text.Decimals.{signed, IsSigned, IsPower}
 use Rattle.ion_scalar.specs.text.Numbers.{IsNumber, ReadsNumber}
 use Rattle.ion_scalar.specs.text.Texts.{decimal_text, number_text}
@@ -115,39 +111,6 @@ decimal_is d m e =
         },
       );
     }
-
--- a decimal behind its letter
-pub letter_text : (r : ℕ) (octets text : List ℕ) → 0 < r → r ≤ length octets → drop r octets ≡ text → drop (r - 1) (set octets (r - 1) 100) ≡ 100 ∷ text
-letter_text r octets text some within e =
-    let same : r - 1 + 1 ≡ r = omega arith in
-    rw (drop-set octets (r - 1) 100 (omega arith), same) (ap (λ (x : List ℕ). 100 ∷ x) e)
-
-pub signed_end : (octets : List ℕ) (r : ℕ) (sign digits rest text : List ℕ) → drop r octets ≡ sign ++ (digits ++ rest) → rest ≡ [] → text ≡ sign ++ digits → drop r octets ≡ text
-signed_end octets r sign digits rest text e nothing t = e ∙ (ap (λ (x : List ℕ). sign ++ (digits ++ x)) nothing ∙ (ap (λ (x : List ℕ). sign ++ x) (append-nil digits) ∙ sym t))
-
--- a number that is kept comes back from its bits as it was
-pub back_kept : (z : ℤ) → IsWhole z → to_z w128 (of_z w128 z) ≡ z
-back_kept (pos n) h = to_z-of_z {w = w128} (record { sfits = h })
-back_kept (negsuc n) h = let small : n < 2 ^ 127 = omega arith in to_z-of_z {w = w128} (record { sfits = small })
-
--- so does a number of 32 bits
-pub power_back : (z : ℤ) → mag z < 2 ^ 31 → to_z w32 (of_z w32 z) ≡ z
-power_back z h = to_z-of_z {w = w32} (record { sfits = h })
-
-pub power_kept : (z : ℤ) → mag z < 2 ^ 31 → IsWhole z × IsPower z
-power_kept (pos n) h = (omega arith, grind (arith, ints))
-power_kept (negsuc n) h = (omega arith, grind (arith, ints))
-
-pub power_parts : (z y : ℤ) (sign digits : List ℕ) → mag z < 2 ^ 31 → y ≡ to_z w32 (of_z w32 z) → signed_decimal (to_z w128 (of_z w128 y)) ≡ sign ++ digits → signed_decimal z ≡ sign ++ digits
-power_parts z y sign digits h e t =
-    let same : y ≡ z = e ∙ power_back z h in
-    let wide = back_kept z (power_kept z h).0 in
-    rw (same, wide) at t
-
--- the whole text of a decimal
-pub decimal_end : (negative : Bool) (m r s : ℕ) (one two text : List ℕ) → 0 < r → r ≤ length one → drop r one ≡ text
-    → drop s two ≡ minus negative ++ (decimal m ++ drop (r - 1) (set one (r - 1) 100)) → drop s two ≡ minus negative ++ (decimal m ++ 100 ∷ text)
-decimal_end negative m r s one two text some within e t = t ∙ ap (λ (x : List ℕ). minus negative ++ (decimal m ++ x)) (letter_text r one text some within e)
 
 -- the texts of an int and of a decimal that are kept are read as them
 pub int_reads : (z : ℤ) → IsWhole z → ReadsNumber (number_text (numbers.Int z)) (Ok (numbers.Int z))

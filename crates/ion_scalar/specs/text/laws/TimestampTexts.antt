@@ -1,14 +1,10 @@
 -- What is written of a timestamp spells it.
-use Rattle.std.proofs.Common.{◌≡◌, ℕ, zero, suc, ◌+◌, ◌/◌, ◌%◌, ◌^◌, ◌<◌, ◌≤◌, inl, inr, List, [], ◌∷◌, ◌++◌, length, get_or, Bool, true, false, cond, ℤ, pos, negsuc, to_z, of_z, refl, sym, ap, subst, ◌∙◌, arith, length-append, append_assoc, Option, Some, None, IfSome, Ok}
-use lib.Signed.{lt_z}
-use lib.IntN.{nat_abs}
-use Rattle.std.specs.Int.{w16}
+use Rattle.std.proofs.Common.{◌≡◌, ℕ, zero, suc, ◌+◌, ◌/◌, ◌%◌, ◌^◌, ◌<◌, ◌≤◌, inl, inr, List, [], ◌∷◌, ◌++◌, length, get_or, Bool, true, false, cond, ℤ, pos, negsuc, refl, sym, ap, subst, ◌∙◌, arith, length-append, append_assoc, Option, Some, None, IfSome, Ok}
 use Rattle.std.specs.Char.{digit_value}
-use Rattle.std.proofs.Math.Facts.{to_z-of_z}
 use Rattle.std.proofs.Math.Nat.{pow-suc}
 use Rattle.std.proofs.lemmas.Nat.{div_below}
 use Rattle.std.proofs.lemmas.Int.{ints}
-use Rattle.std.proofs.lemmas.Bool.{false≢true, ne_eqb}
+use Rattle.std.proofs.lemmas.Bool.{ne_eqb}
 use Rattle.ion_atoms.specs.Calendar.{month_length, is_leap}
 use Rattle.ion_atoms.specs.Timestamps.{TimestampParts, IsTimestamp, IsCut, IsOffset, HasOffset}
 use Rattle.ion_atoms.specs.declared.timestamp.Local.{Local}
@@ -27,21 +23,6 @@ use Rattle.ion_scalar.specs.text.laws.Texts.{digit_of}
 
 pub padded_step : (w n : ℕ) (tail more text : List ℕ) → padded (suc w) n ++ tail ≡ text → more ≡ (48 + n % 10) ∷ tail → padded w (n / 10) ++ more ≡ text
 padded_step w n tail more text e m = ap (λ (x : List ℕ). padded w (n / 10) ++ x) m ∙ (sym (append_assoc (padded w (n / 10)) ((48 + n % 10) ∷ []) tail) ∙ e)
-
-ahead_text : (z : ℤ) (n : ℕ) → lt_z (pos 0) z ≡ true → n ≡ nat_abs z → 43 ∷ clock_text n ≡ offset_text (Some z)
-ahead_text (pos zero) n h e = absurd (false≢true h)
-ahead_text (pos (suc k)) n h e = ap (λ (x : ℕ). 43 ∷ clock_text x) e
-ahead_text (negsuc k) n h e = absurd (false≢true h)
-
-back_offset : (z : ℤ) → IsOffset z → to_z w16 (of_z w16 z) ≡ z
-back_offset (pos n) h = let small : n < 2 ^ 15 = grind (arith, ints) in to_z-of_z {w = w16} (record { sfits = small })
-back_offset (negsuc n) h = let small : n < 2 ^ 15 = grind (arith, ints) in to_z-of_z {w = w16} (record { sfits = small })
-
-pub offset_ahead : (z : ℤ) (o : Option ℤ) (n : ℕ) (text : List ℕ) → IfSome o IsOffset → o ≡ Some z → lt_z (pos 0) (to_z w16 (of_z w16 z)) ≡ true → n ≡ nat_abs (to_z w16 (of_z w16 z)) → text ≡ 43 ∷ clock_text n → text ≡ offset_text o
-offset_ahead z o n text near e h k t =
-    let P : Option ℤ → Type 0 = λ x. IfSome x IsOffset in
-    let back = back_offset z (subst P e near) in
-    t ∙ (ahead_text z n (rw back at h) (rw back at k) ∙ ap offset_text (sym e))
 
 -- fields of two and of four digits
 two_at : (os : List ℕ) (at n : ℕ) → n < 100 → at + 1 < length os → get_or os at 0 ≡ 48 + n / 10 → get_or os (at + 1) 0 ≡ 48 + n % 10 → AreTwoAt os at × (two os at ≡ n)
@@ -125,15 +106,6 @@ pads (suc w) n h =
       value = ap (positional 10) e ∙ (positional_push 10 (digits_in ds) (n % 10) ∙ omega (arith, s.value));
       size = omega (arith, length-append ds ((48 + n % 10) ∷ []), s.size);
     }
-
-pub year_end : (y : ℕ) (text end old : List ℕ) → text ≡ four_digits y ++ end → end ≡ 84 ∷ old → old ≡ [] → text ≡ four_digits y ++ (84 ∷ [])
-year_end y text end old e f g = e ∙ ap (λ (x : List ℕ). four_digits y ++ x) (f ∙ ap (λ (x : List ℕ). 84 ∷ x) g)
-
-pub month_end : (l : Local) (text end old : List ℕ) → text ≡ month_text l ++ end → end ≡ 84 ∷ old → old ≡ [] → text ≡ month_text l ++ (84 ∷ [])
-month_end l text end old e f g = e ∙ ap (λ (x : List ℕ). month_text l ++ x) (f ∙ ap (λ (x : List ℕ). 84 ∷ x) g)
-
-pub day_end : (l : Local) (text end : List ℕ) → text ≡ day_text l ++ end → end ≡ [] → text ≡ day_text l
-day_end l text end e g = e ∙ ap (λ (x : List ℕ). day_text l ++ x) g
 
 abbrev Small : Local → Type 0
 Small l = (l.year < 10000) × (l.month < 100) × (l.day < 100) × (l.hour < 100) × (l.minute < 100) × (l.second < 100)
