@@ -1,6 +1,7 @@
 -- What follows for tokens. Crates above cite these names.
 pub mod Again
 pub mod Blobs
+pub mod ByRows
 pub mod Each
 pub mod Follows
 pub mod Numerals

@@ -6,6 +6,7 @@ pub mod Foreseen
 pub mod Lent
 pub mod Machines
 pub mod Rests
+pub mod Rows
 pub mod Said
 pub mod Scanned
 pub mod Scanning

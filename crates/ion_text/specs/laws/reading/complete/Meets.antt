@@ -1,21 +1,15 @@
 -- The tokens that a scanner meets in octets, octet by octet.
-use Rattle.std.proofs.Common.{◌≡◌, ℕ, ◌+◌, ◌-◌, ◌*◌, ◌≤◌, Bool, true, false, cond, List, [], ◌∷◌, refl, sym, ap, ◌∙◌, subst, arith, Result, Ok, Option, Some, None, ◌⊎◌, inl, inr}
-use Rattle.std.specs.Prelude.{◌==◌, ◌&&◌, ◌||◌, not, nat_le, nat_lt}
-use lib.Utf8.{scalar}
+use Rattle.std.proofs.Common.{◌≡◌, ℕ, ◌+◌, ◌-◌, ◌≤◌, Bool, true, false, List, [], ◌∷◌, refl, sym, ap, ◌∙◌, subst, arith, Result, Ok, Option, Some, None, ◌⊎◌, inl, inr}
+use Rattle.std.specs.Prelude.{◌||◌, not}
 use Rattle.ion_atoms.specs.declared.refusal.Reason.{Reason}
-use Rattle.ion_atoms.specs.declared.refusal.Reason.TheVariants as reasons
 use Rattle.ion_tokens.specs.declared.mode.Place.{Place}
 use Rattle.ion_tokens.specs.declared.mode.Place.TheVariants as places
 use Rattle.ion_tokens.specs.declared.mode.Style.{Style}
 use Rattle.ion_tokens.specs.declared.mode.Style.TheVariants as styles
 use Rattle.ion_tokens.specs.declared.mode.Within.{Within}
 use Rattle.ion_tokens.specs.declared.mode.Within.TheVariants as within
-use Rattle.ion_tokens.specs.declared.mode.Digits.{Digits}
-use Rattle.ion_tokens.specs.declared.mode.Digits.TheVariants as digits
 use Rattle.ion_tokens.specs.declared.mode.Mode.{Mode}
 use Rattle.ion_tokens.specs.declared.mode.Mode.TheVariants as modes
-use Rattle.ion_tokens.specs.declared.mode.Keep.{Keep}
-use Rattle.ion_tokens.specs.declared.mode.Keep.TheVariants as keeps
 use Rattle.ion_tokens.specs.declared.mode.End.{End}
 use Rattle.ion_tokens.specs.declared.mode.End.TheVariants as ends'
 use Rattle.ion_tokens.specs.declared.mode.Mark.TheVariants as marks
@@ -23,10 +17,8 @@ use Rattle.ion_tokens.specs.declared.mode.TokenKind.{TokenKind}
 use Rattle.ion_tokens.specs.declared.mode.TokenKind.TheVariants as kinds
 use Rattle.ion_tokens.specs.declared.mode.Action.{Action}
 use Rattle.ion_tokens.specs.declared.mode.Action.TheVariants as actions
-use Rattle.ion_tokens.specs.Octets.{hexadecimal_digit, escaped, is_operator_octet}
-use Rattle.ion_tokens.specs.machine.Table.{next, run_ending, end_of, in_slash, in_text, raw, lead, in_escape, meant, with_digit, after_digits, character, grow, close, close_long, stands, is_high, is_low}
+use Rattle.ion_tokens.specs.machine.Table.{next, end_of, in_text, raw}
 use Rattle.ion_tokens.specs.Places.{is_sexp}
-use Rattle.ion_tokens.specs.Styles.{is_long, quote_of, is_clob}
 use Rattle.ion_tokens.specs.Blobs.{blob_of}
 use Rattle.ion_tokens.specs.machine.Bounds.{is_idle}
 use Rattle.ion_tokens.specs.machine.Views.{behind}
@@ -36,9 +28,9 @@ use Rattle.ion_tokens.specs.Lexed.{Placed}
 use Rattle.ion_tokens.proofs.Runs.{feed_used, given_used}
 use Rattle.ion_tokens.proofs.Reaches.{Reaches, run_reaches, begun_stays}
 use Rattle.ion_text.specs.Grammar.{is_two_quotes}
-use Rattle.ion_tokens.specs.machine.Ahead.{is_sane, is_mark, is_closing, Follows, IsUsed}
+use Rattle.ion_tokens.specs.machine.Ahead.{is_sane, is_mark, is_closing, Follows}
 use Rattle.ion_tokens.specs.laws.Follows.{feed_follows}
-use Rattle.ion_tokens.specs.laws.Again.{blank_uses}
+use Rattle.ion_tokens.specs.laws.ByRows.{by_rows_where}
 use Rattle.ion_text.specs.laws.reading.sound.Quotes.{Fine, Finely, feed_fine, given_far, left_none}
 use Rattle.ion_text.specs.laws.reading.sound.Held.{NoLongText}
 use Rattle.ion_text.specs.laws.reading.sound.Admits.{at_end_fine}
@@ -52,13 +44,7 @@ pub data Meets : Known → List ℕ → List Placed → Type 0 where
   is_given : (s : Known) (o : ℕ) (os : List ℕ) (t : Placed) (ts : List Placed) (s' : Known) → feed t.place s o ≡ Given t.lexeme s' → Meets s' os ts → Meets s (o ∷ os) (t ∷ ts)
   is_left : (s : Known) (o : ℕ) (os : List ℕ) (t : Placed) (ts : List Placed) (s' : Known) → feed t.place s o ≡ Left t.lexeme s' → Meets s' (o ∷ os) ts → Meets s (o ∷ os) (t ∷ ts)
 
--- what the table says of a token that is left
-
-abbrev used : Action → Bool
-used (actions.Go m k) = true
-used (actions.Give kind k) = true
-used (actions.Refuse e) = true
-used _ = false
+-- what the table says of a text, and of a token that is left
 
 abbrev pub is_long_text : Mode → Bool
 is_long_text (modes.Text styles.LongString w) = true
@@ -74,79 +60,23 @@ text long _ = false
 pub record Text (long : Bool) (a : Action) : Type 0 where
   pub is : text long a ≡ true
 
-yes : {long : Bool} {a : Action} → text long a ≡ true → Text long a
-yes h = record { is = h }
-
-both : {long : Bool} {x y : Action} (b : Bool) → Text long x → Text long y → Text long (cond b x y)
-both true h k = h
-both false h k = k
-
-both_when : {long : Bool} {x y : Action} (b : Bool) → (b ≡ true → Text long x) → (b ≡ false → Text long y) → Text long (cond b x y)
-both_when true h k = h refl
-both_when false h k = k refl
-
 abbrev pub is_long_string : Style → Bool
 is_long_string styles.LongString = true
 is_long_string _ = false
 
-in_style : (s : Style) (w : Within) (k : Keep) → Text (is_long_string s) (actions.Go (modes.Text s w) k)
-in_style styles.ShortString w k = yes refl
-in_style styles.QuotedSymbol w k = yes refl
-in_style styles.LongString w k = yes refl
-in_style styles.ShortClob w k = yes refl
-in_style styles.LongClob w k = yes refl
+abbrev is_text : Mode → Bool
+is_text (modes.Text s w) = true
+is_text _ = false
 
-close_text : (s : Style) → is_long s ≡ false → Text (is_long_string s) (close s)
-close_text styles.ShortString h = yes refl
-close_text styles.QuotedSymbol h = yes refl
-close_text styles.LongString h = absurd cc
-close_text styles.ShortClob h = yes refl
-close_text styles.LongClob h = yes refl
+abbrev is_long_mode : Mode → Bool
+is_long_mode (modes.Text s w) = is_long_string s
+is_long_mode _ = false
 
-close_long_text : (s : Style) → Text (is_long_string s) (close_long s)
-close_long_text styles.ShortString = yes refl
-close_long_text styles.QuotedSymbol = yes refl
-close_long_text styles.LongString = yes refl
-close_long_text styles.ShortClob = yes refl
-close_long_text styles.LongClob = yes refl
+pub text_text : (s : Style) (w : Within) (o : ℕ) → Text (is_long_string s) (in_text s w o)
+text_text s w o = record { is = by_rows_where is_text (λ sexp m. text (is_long_mode m)) (λ c t. refl) places.Top false (modes.Text s w) o refl }
 
-module _ (s : Style) where
-  lead_text : (o : ℕ) → Text (is_long_string s) (lead s o)
-  lead_text o = both (nat_lt o 0xc2 || nat_lt 0xf4 o) (yes refl) (both (nat_lt o 0xe0) (in_style s _ _) (both (nat_lt o 0xf0) (in_style s _ _) (in_style s _ _)))
-
-  pub raw_text : (o : ℕ) → Text (is_long_string s) (raw s o)
-  raw_text o = both (o == 92) (in_style s _ _) (both (o == quote_of s) (both_when (is_long s) (λ e. in_style s _ _) (close_text s)) (both (is_long s && (o == 13)) (in_style s _ _) (both (stands o || (is_long s && (o == 10))) (in_style s _ _) (both (nat_lt o 128 || is_clob s) (yes refl) (lead_text o)))))
-
-  meant_text : (m : Option ℕ) → Text (is_long_string s) (meant s m)
-  meant_text None = yes refl
-  meant_text (Some o) = in_style s _ _
-
-  escape_text : (o : ℕ) → Text (is_long_string s) (in_escape s o)
-  escape_text o = both (o == 10) (in_style s _ _) (both (o == 13) (in_style s _ _) (both (o == 120) (in_style s _ _) (both ((o == 117) && not (is_clob s)) (in_style s _ _) (both ((o == 85) && not (is_clob s)) (in_style s _ _) (meant_text (escaped o))))))
-
-  character_text : (c : ℕ) → Text (is_long_string s) (character s c)
-  character_text c = both (scalar c) (in_style s _ _) (yes refl)
-
-  after_digits_text : (x : Digits) (c : ℕ) → Text (is_long_string s) (after_digits s x c)
-  after_digits_text digits.Octet c = both (is_clob s) (in_style s _ _) (character_text c)
-  after_digits_text digits.Unit c = both (is_high c) (in_style s _ _) (character_text c)
-  after_digits_text digits.Scalar c = character_text c
-  after_digits_text (digits.LowSurrogate high) c = both (is_high high && is_low c) (character_text (0x10000 + (high - 0xd800) * 1024 + (c - 0xdc00))) (yes refl)
-
-  digits_text : (x : Digits) (left c : ℕ) (digit : Option ℕ) → Text (is_long_string s) (with_digit s x left c digit)
-  digits_text x left c None = yes refl
-  digits_text x left c (Some digit) = both (nat_le left 1) (after_digits_text x (grow c digit)) (in_style s _ _)
-
-  pub text_text : (w : Within) (o : ℕ) → Text (is_long_string s) (in_text s w o)
-  text_text within.Plain o = raw_text o
-  text_text within.AfterReturn o = both (o == 10) (in_style s _ _) (raw_text o)
-  text_text within.OneQuote o = both (o == 39) (in_style s _ _) (raw_text o)
-  text_text within.TwoQuotes o = both (o == 39) (close_long_text s) (raw_text o)
-  text_text (within.Utf8 left least' most) o = both (nat_lt o least' || nat_lt most o) (yes refl) (both (nat_le left 1) (in_style s _ _) (in_style s _ _))
-  text_text within.Escape o = escape_text o
-  text_text (within.Hexadecimal x left c) o = digits_text x left c (hexadecimal_digit o)
-  text_text (within.HighSurrogate high) o = both (o == 92) (in_style s _ _) (yes refl)
-  text_text (within.HighSurrogateEscape high) o = both (o == 117) (in_style s _ _) (yes refl)
+pub raw_text : (s : Style) (o : ℕ) → Text (is_long_string s) (raw s o)
+raw_text s o = text_text s within.Plain o
 
 -- what comes of an octet of a long text
 abbrev pub LongOn : Outcome → Type 0
@@ -165,57 +95,16 @@ long_acts p s o (actions.Split n) h = absurd cc
 long_acts p s o actions.EndBlob h = absurd cc
 
 pub long_feed : (p : Place) (s : Known) (o : ℕ) → is_long_text s.mode ≡ true → LongOn (feed p s o)
-long_feed p s o h = long_acts p s o (next p s.colon s.mode o) (go s.mode h)
-  where
-    go : (m : Mode) → is_long_text m ≡ true → text true (next p s.colon m o) ≡ true
-    go (modes.Text styles.LongString w) h = (text_text styles.LongString w o).is
-    go (modes.Text styles.ShortString w) h = absurd cc
-    go (modes.Text styles.QuotedSymbol w) h = absurd cc
-    go (modes.Text styles.ShortClob w) h = absurd cc
-    go (modes.Text styles.LongClob w) h = absurd cc
-    go modes.Blank h = absurd cc
-    go modes.Slash h = absurd cc
-    go modes.LineComment h = absurd cc
-    go modes.BlockComment h = absurd cc
-    go modes.BlockCommentStar h = absurd cc
-    go modes.Colon h = absurd cc
-    go modes.Word h = absurd cc
-    go modes.KindName h = absurd cc
-    go modes.Number h = absurd cc
-    go modes.NumberSlash h = absurd cc
-    go (modes.Operator e) h = absurd cc
-    go modes.OperatorSlash h = absurd cc
-    go (modes.Infinity n) h = absurd cc
-    go modes.Quote h = absurd cc
-    go modes.Quotes h = absurd cc
-    go modes.Brace h = absurd cc
-    go (modes.Lob l) h = absurd cc
+long_feed p s o h = long_acts p s o (next p s.colon s.mode o) (by_rows_where is_long_text (λ sexp m. text true) (λ c t. refl) p s.colon s.mode o h)
 
 -- from where no token has begun a colon may be left, or in an s-expression an operator; from where quotes are open a quoted symbol
-abbrev leaves_idle : Place → Action → Bool
-leaves_idle p (actions.Before (kinds.Mark marks.Colon) k modes.Blank) = true
-leaves_idle p (actions.Before kinds.Operator k m) = is_sexp p
-leaves_idle p (actions.Before _ k m) = false
-leaves_idle p actions.EndWord = false
-leaves_idle p (actions.Split n) = false
-leaves_idle p _ = true
-
-record Leaves (p : Place) (a : Action) : Type 0 where
-  is : leaves_idle p a ≡ true
-
-may : {p : Place} {a : Action} → leaves_idle p a ≡ true → Leaves p a
-may h = record { is = h }
-
-either : {p : Place} {x y : Action} (b : Bool) → Leaves p x → Leaves p y → Leaves p (cond b x y)
-either true h k = h
-either false h k = k
-
-slash_leaves : (p : Place) (o : ℕ) → Leaves p (in_slash p o)
-slash_leaves p o = either (o == 47) (may refl) (either (o == 42) (may refl) (sexp (is_sexp p) refl))
-  where
-    sexp : (b : Bool) → is_sexp p ≡ b → Leaves p (cond (not b) (actions.Refuse reasons.Unexpected) (cond (is_operator_octet o) (actions.Go (modes.Operator (run_ending o)) (keeps.Two 47 o)) (actions.Before kinds.Operator (keeps.One 47) modes.Blank)))
-    sexp false e = may refl
-    sexp true e = either (is_operator_octet o) (may refl) (may e)
+abbrev leaves_idle : Bool → Action → Bool
+leaves_idle sexp (actions.Before (kinds.Mark marks.Colon) k modes.Blank) = true
+leaves_idle sexp (actions.Before kinds.Operator k m) = sexp
+leaves_idle sexp (actions.Before _ k m) = false
+leaves_idle sexp actions.EndWord = false
+leaves_idle sexp (actions.Split n) = false
+leaves_idle sexp _ = true
 
 -- what is left where no token has begun
 abbrev pub IdleLeft : Place → ℕ → Outcome → Type 0
@@ -226,7 +115,7 @@ blob_leaves : (p : Place) (s : Known) (b : Option (List ℕ)) → IdleLeft p s.u
 blob_leaves p s None = tt
 blob_leaves p s (Some b) = tt
 
-idle_acts : (p : Place) (s : Known) (o : ℕ) (a : Action) → leaves_idle p a ≡ true → IdleLeft p s.used (acts p s o a)
+idle_acts : (p : Place) (s : Known) (o : ℕ) (a : Action) → leaves_idle (is_sexp p) a ≡ true → IdleLeft p s.used (acts p s o a)
 idle_acts p s o (actions.Go m k) h = tt
 idle_acts p s o (actions.Give kind k) h = tt
 idle_acts p s o (actions.Refuse e) h = tt
@@ -235,85 +124,16 @@ idle_acts p s o actions.EndWord h = absurd cc
 idle_acts p s o (actions.Split n) h = absurd cc
 idle_acts p s o (actions.Before kinds.Operator k m) h = inr (refl, h)
 idle_acts p s o (actions.Before (kinds.Mark marks.Colon) k modes.Blank) h = inl (refl, omega arith)
-idle_acts p s o (actions.Before (kinds.Mark marks.Colon) k modes.Slash) h = absurd cc
-idle_acts p s o (actions.Before (kinds.Mark marks.Colon) k modes.LineComment) h = absurd cc
-idle_acts p s o (actions.Before (kinds.Mark marks.Colon) k modes.BlockComment) h = absurd cc
-idle_acts p s o (actions.Before (kinds.Mark marks.Colon) k modes.BlockCommentStar) h = absurd cc
-idle_acts p s o (actions.Before (kinds.Mark marks.Colon) k modes.Colon) h = absurd cc
-idle_acts p s o (actions.Before (kinds.Mark marks.Colon) k modes.Word) h = absurd cc
-idle_acts p s o (actions.Before (kinds.Mark marks.Colon) k modes.KindName) h = absurd cc
-idle_acts p s o (actions.Before (kinds.Mark marks.Colon) k modes.Number) h = absurd cc
-idle_acts p s o (actions.Before (kinds.Mark marks.Colon) k modes.NumberSlash) h = absurd cc
-idle_acts p s o (actions.Before (kinds.Mark marks.Colon) k (modes.Operator e)) h = absurd cc
-idle_acts p s o (actions.Before (kinds.Mark marks.Colon) k modes.OperatorSlash) h = absurd cc
-idle_acts p s o (actions.Before (kinds.Mark marks.Colon) k (modes.Infinity n)) h = absurd cc
-idle_acts p s o (actions.Before (kinds.Mark marks.Colon) k modes.Quote) h = absurd cc
-idle_acts p s o (actions.Before (kinds.Mark marks.Colon) k modes.Quotes) h = absurd cc
-idle_acts p s o (actions.Before (kinds.Mark marks.Colon) k (modes.Text t w)) h = absurd cc
-idle_acts p s o (actions.Before (kinds.Mark marks.Colon) k modes.Brace) h = absurd cc
-idle_acts p s o (actions.Before (kinds.Mark marks.Colon) k (modes.Lob l)) h = absurd cc
-idle_acts p s o (actions.Before (kinds.Mark marks.Colons) k m) h = absurd cc
-idle_acts p s o (actions.Before (kinds.Mark marks.Comma) k m) h = absurd cc
-idle_acts p s o (actions.Before (kinds.Mark marks.FieldsOpen) k m) h = absurd cc
-idle_acts p s o (actions.Before (kinds.Mark marks.FieldsClose) k m) h = absurd cc
-idle_acts p s o (actions.Before (kinds.Mark marks.ListOpen) k m) h = absurd cc
-idle_acts p s o (actions.Before (kinds.Mark marks.ListClose) k m) h = absurd cc
-idle_acts p s o (actions.Before (kinds.Mark marks.SexpOpen) k m) h = absurd cc
-idle_acts p s o (actions.Before (kinds.Mark marks.SexpClose) k m) h = absurd cc
-idle_acts p s o (actions.Before kinds.Word k m) h = absurd cc
-idle_acts p s o (actions.Before kinds.KindName k m) h = absurd cc
-idle_acts p s o (actions.Before kinds.Number k m) h = absurd cc
-idle_acts p s o (actions.Before kinds.QuotedSymbol k m) h = absurd cc
-idle_acts p s o (actions.Before kinds.ShortString k m) h = absurd cc
-idle_acts p s o (actions.Before kinds.LongString k m) h = absurd cc
-idle_acts p s o (actions.Before kinds.Clob k m) h = absurd cc
-idle_acts p s o (actions.Before kinds.Blob k m) h = absurd cc
+idle_acts p s o (actions.Before _ k m) h = absurd cc
 
 pub idle_left : (p : Place) (s : Known) (o : ℕ) → is_idle s.mode ≡ true → IdleLeft p s.used (feed p s o)
-idle_left p s o h = go s.mode refl h
-  where
-    outcome : (x : Outcome) → IsUsed x → IdleLeft p s.used x
-    outcome (Next t) u = tt
-    outcome (Given x t) u = tt
-    outcome (Left x t) u = absurd u
-    outcome (Refused n e) u = tt
-
-    by : (m : Mode) → s.mode ≡ m → leaves_idle p (next p s.colon m o) ≡ true → IdleLeft p s.used (feed p s o)
-    by m e k = idle_acts p s o (next p s.colon s.mode o) (subst (λ n. leaves_idle p (next p s.colon n o) ≡ true) (sym e) k)
-
-    go : (m : Mode) → s.mode ≡ m → is_idle m ≡ true → IdleLeft p s.used (feed p s o)
-    go modes.Blank e h = outcome (feed p s o) (blank_uses p s o e)
-    go modes.Slash e h = by modes.Slash e (slash_leaves p o).is
-    go modes.LineComment e h = by modes.LineComment e refl
-    go modes.BlockComment e h = by modes.BlockComment e refl
-    go modes.BlockCommentStar e h = by modes.BlockCommentStar e (let x : Leaves p (next p s.colon modes.BlockCommentStar o) = either (o == 47) (may refl) (either (o == 42) (may refl) (may refl)) in x.is)
-    go modes.Colon e h = by modes.Colon e (let x : Leaves p (next p s.colon modes.Colon o) = either (o == 58) (may refl) (may refl) in x.is)
-    go modes.Word e h = absurd cc
-    go modes.KindName e h = absurd cc
-    go modes.Number e h = absurd cc
-    go modes.NumberSlash e h = absurd cc
-    go (modes.Operator x) e h = absurd cc
-    go modes.OperatorSlash e h = absurd cc
-    go (modes.Infinity n) e h = absurd cc
-    go modes.Quote e h = absurd cc
-    go modes.Quotes e h = absurd cc
-    go (modes.Text t w) e h = absurd cc
-    go modes.Brace e h = absurd cc
-    go (modes.Lob l) e h = absurd cc
+idle_left p s o h = idle_acts p s o (next p s.colon s.mode o) (by_rows_where is_idle (λ sexp m. leaves_idle sexp) (λ c t. refl) p s.colon s.mode o h)
 
 -- of the next token that is met
 
 mark_closing : (k : TokenKind) → is_mark k ≡ false → is_closing k ≡ false
 mark_closing (kinds.Mark m) h = absurd cc
-mark_closing kinds.Word h = refl
-mark_closing kinds.KindName h = refl
-mark_closing kinds.Number h = refl
-mark_closing kinds.Operator h = refl
-mark_closing kinds.QuotedSymbol h = refl
-mark_closing kinds.ShortString h = refl
-mark_closing kinds.LongString h = refl
-mark_closing kinds.Clob h = refl
-mark_closing kinds.Blob h = refl
+mark_closing _ h = refl
 
 pub follows_as : (p : Place) (s : Known) (o : ℕ) (x : Outcome) → is_sane s.mode ≡ true → feed p s o ≡ x → Follows p s.mode x
 follows_as p s o x h e = subst (Follows p s.mode) e (feed_follows p s o h)
@@ -410,23 +230,7 @@ long_segment _ _ _ _ (at_token s t e) h = absurd (go s.mode h (ap (λ m. ends_at
   where
     go : (m : Mode) → is_long_text m ≡ true → ends_at s (end_of t.place m) ≡ Ok (Some t.lexeme) → ⊥
     go (modes.Text x w) h k = cc
-    go modes.Blank h k = cc
-    go modes.Slash h k = cc
-    go modes.LineComment h k = cc
-    go modes.BlockComment h k = cc
-    go modes.BlockCommentStar h k = cc
-    go modes.Colon h k = cc
-    go modes.Word h k = cc
-    go modes.KindName h k = cc
-    go modes.Number h k = cc
-    go modes.NumberSlash h k = cc
-    go (modes.Operator x) h k = cc
-    go modes.OperatorSlash h k = cc
-    go (modes.Infinity n) h k = cc
-    go modes.Quote h k = cc
-    go modes.Quotes h k = cc
-    go modes.Brace h k = cc
-    go (modes.Lob l) h k = cc
+    go _ h k = cc
 long_segment _ _ _ _ (goes_on s o os t ts s' e m) h = long_segment s' os t ts m (subst LongOn e (long_feed t.place s o h))
 long_segment _ _ _ _ (is_given s o os t ts s' e m) h = subst LongOn e (long_feed t.place s o h)
 long_segment _ _ _ _ (is_left s o os t ts s' e m) h = absurd (subst LongOn e (long_feed t.place s o h))
