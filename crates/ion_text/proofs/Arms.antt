@@ -21,7 +21,7 @@ use Rattle.ion_tokens.specs.declared.mode.TokenKind.TheVariants as kinds
 use Rattle.ion_tokens.specs.Octets.{is_digit}
 use Rattle.ion_tokens.specs.Bodies.{Content, Word, Short, Number', Mark', id_of, number_in}
 use Rattle.ion_tokens.specs.machine.Said.{said, spelled, word_said, number_said}
-use Rattle.ion_tokens.proofs.WholeTokens.{comma_found}
+use Rattle.ion_tokens.proofs.runs.WholeTokens.{comma_found}
 use Rattle.ion_tokens.specs.machine.Views.{scanned, looks, failure}
 use Rattle.ion_tokens.specs.machine.Rests.{resting, past_blank, past_token, lexeme_at, before_end, IsPassed, IsFound}
 use Rattle.ion_tokens.specs.declared.mode.Place.TheVariants as places

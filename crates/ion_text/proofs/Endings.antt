@@ -9,7 +9,7 @@ use Rattle.ion_symtab.specs.declared.catalog.Catalog.{Catalog}
 use Rattle.ion_tokens.specs.declared.token.Token.{Token as Found}
 use Rattle.ion_tokens.specs.Lexemes.{Lexeme}
 use Rattle.ion_tokens.specs.machine.Steps.{Ends}
-use Rattle.ion_tokens.proofs.Cutting.{one_body}
+use Rattle.ion_tokens.proofs.runs.Cutting.{one_body}
 use Rattle.ion_tokens.specs.machine.Said.{said, says}
 use Rattle.ion_text.specs.machine.EachToken.{Reading, Turn, goes, gives, refuses, late, settle, turn}
 use Rattle.ion_text.specs.machine.Run.{end_settled, end_waiting, end_ready, end_turned, end_said}

@@ -19,8 +19,8 @@ use Rattle.ion_tokens.specs.Lexemes.{Each}
 use Rattle.ion_tokens.specs.machine.Scanning as scanning
 use Rattle.ion_tokens.specs.machine.Scanning.{Known, Outcome, Next, feed}
 use Rattle.ion_tokens.specs.machine.Views.{begun_in, behind, form_of}
-use Rattle.ion_tokens.proofs.Runs.{next_used, feed_used}
-use Rattle.ion_tokens.proofs.GoesOn.{one_on, through}
+use Rattle.ion_tokens.proofs.runs.Runs.{next_used, feed_used}
+use Rattle.ion_tokens.proofs.runs.GoesOn.{one_on, through}
 use Rattle.ion_text.specs.laws.reading.complete.Meets.{LongOn, is_long_text, long_feed}
 use Rattle.ion_text.specs.declared.state.Frame.{Frame}
 use Rattle.ion_text.specs.declared.state.Now.{Now}

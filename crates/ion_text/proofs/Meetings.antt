@@ -11,7 +11,7 @@ use Rattle.ion_tokens.specs.machine.Scanning.{Known, Outcome, Next, Given, Left,
 use Rattle.ion_tokens.specs.Lexemes.{Lexeme}
 use Rattle.ion_tokens.specs.machine.Steps.{Stepped, Answers, IsToken, GivesToken}
 use Rattle.ion_tokens.specs.machine.Views.{scanned}
-use Rattle.ion_tokens.proofs.Cutting.{one_body}
+use Rattle.ion_tokens.proofs.runs.Cutting.{one_body}
 use Rattle.ion_text.specs.declared.reader.TextReader.{TextReader}
 use Rattle.ion_text.specs.declared.state.Met.{Met}
 use Rattle.ion_text.specs.declared.state.Met.TheVariants as met

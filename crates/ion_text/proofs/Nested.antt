@@ -19,7 +19,7 @@ use Rattle.ion_tokens.specs.machine.Bounds.{IsSteady}
 use Rattle.ion_tokens.specs.machine.Scanning.{Known, Left, feed}
 use Rattle.ion_tokens.specs.machine.Views.{scanned, looks, failure}
 use Rattle.ion_tokens.specs.machine.Rests.{resting, past_token, lexeme_at, IsFound}
-use Rattle.ion_tokens.proofs.WholeTokens.{list_open_found, list_close_found, sexp_open_found, sexp_close_found, fields_open_found, fields_close_found}
+use Rattle.ion_tokens.proofs.runs.WholeTokens.{list_open_found, list_close_found, sexp_open_found, sexp_close_found, fields_open_found, fields_close_found}
 use Rattle.ion_text.specs.declared.state.Frame.{Frame}
 use Rattle.ion_text.specs.declared.state.Frame.TheVariants as frames
 use Rattle.ion_text.specs.declared.state.Now.{Now}

@@ -33,8 +33,8 @@ use Rattle.ion_tokens.specs.Lexemes.{takes_colon}
 use Rattle.ion_tokens.specs.machine.Table.{in_blank, begins_value}
 use Rattle.ion_tokens.specs.declared.mode.Action.{Action}
 use Rattle.ion_tokens.specs.machine.Views.{scanned}
-use Rattle.ion_tokens.proofs.Runs.{next_used}
-use Rattle.ion_tokens.proofs.WholeTokens.{colon_found, colons_found}
+use Rattle.ion_tokens.proofs.runs.Runs.{next_used}
+use Rattle.ion_tokens.proofs.runs.WholeTokens.{colon_found, colons_found}
 use Rattle.ion_text.specs.Grammar.{is_keyword}
 use Rattle.ion_text.specs.declared.state.Frame.{Frame}
 use Rattle.ion_text.specs.declared.state.Frame.TheVariants as frames

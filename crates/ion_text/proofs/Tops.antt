@@ -32,7 +32,7 @@ use Rattle.ion_tokens.specs.machine.Said.{said}
 use Rattle.ion_tokens.specs.machine.Scanning.{Known, feed}
 use Rattle.ion_tokens.specs.machine.Scanning as scanning
 use Rattle.ion_tokens.specs.machine.Views.{scanned, begun_in}
-use Rattle.ion_tokens.proofs.Runs.{next_used}
+use Rattle.ion_tokens.proofs.runs.Runs.{next_used}
 use Rattle.ion_text.specs.declared.reader.TextReader.{TextReader}
 use Rattle.ion_text.specs.declared.reader.finders.Scalar.{Scalar}
 use Rattle.ion_text.specs.declared.reader.walks.Tally.{Tally}

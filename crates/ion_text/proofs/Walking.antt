@@ -26,7 +26,7 @@ use Rattle.ion_tokens.specs.Bodies.{Content, Mark'}
 use Rattle.ion_tokens.specs.Places.{is_name}
 use Rattle.ion_tokens.specs.machine.Rests.{resting, past_blank, past_token, lexeme_at, before_end, IsPassed, IsFound}
 use Rattle.ion_tokens.specs.machine.Said.{said}
-use Rattle.ion_tokens.proofs.WholeTokens.{comma_found}
+use Rattle.ion_tokens.proofs.runs.WholeTokens.{comma_found}
 use Rattle.ion_text.specs.declared.reader.finders.Scalar.{Scalar}
 use Rattle.ion_text.specs.declared.reader.walks.Tally.{Tally}
 use Rattle.ion_text.specs.declared.state.Frame.{Frame}

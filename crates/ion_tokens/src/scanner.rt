@@ -207,7 +207,7 @@ impl Scanner {
     /// which gives no token there.
     ///
     /// `Memory` as in `step`.
-    #[tactic(auto, using(crate::proofs::GoesOn::going_led))]
+    #[tactic(auto, using(crate::proofs::runs::GoesOn::going_led))]
     pub fn go_on(&mut self, octets: &[u8]) -> Result<(), Refusal>
         requires room { (scanned self.old).used + length octets.now < 2 ^ 63 }
         requires some { 0 < length octets.now }

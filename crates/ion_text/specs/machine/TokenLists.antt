@@ -8,7 +8,7 @@ use Rattle.ion_tokens.specs.declared.mode.Mark.TheVariants as marks
 use Rattle.ion_tokens.specs.declared.mode.Place.{Place}
 use Rattle.ion_tokens.specs.Bodies.{Content, Long, Quoted, Mark'}
 use Rattle.ion_tokens.specs.Lexed.{Placed}
-use Rattle.ion_tokens.proofs.Cutting.{one_body}
+use Rattle.ion_tokens.proofs.runs.Cutting.{one_body}
 use Rattle.ion_tokens.specs.machine.Said.{said, says}
 use Rattle.ion_text.specs.declared.state.Now.{Now}
 use Rattle.ion_text.specs.declared.state.Now.TheVariants as nows

@@ -3,8 +3,8 @@ use Rattle.std.specs.Prelude.{◌&&◌, ◌==◌}
 use Rattle.std.proofs.lemmas.Simd.{zip2_splat, zip2_splat_left, zip2_of_maps}
 use lib.Bits.{bit_or}
 use lib.Lanes.{top}
-use Rattle.ion_tokens.proofs.ByOctet.{holds_below, same}
-use Rattle.ion_tokens.proofs.LaneMasks.{is, below, masked_by}
+use Rattle.ion_tokens.proofs.masks.ByOctet.{holds_below, same}
+use Rattle.ion_tokens.proofs.masks.LaneMasks.{is, below, masked_by}
 use Rattle.ion_text.specs.Output.{stands_raw}
 use Rattle.ion_text.proofs.escape.escaped_lanes.Goals as goal
 

@@ -1,5 +1,5 @@
 use Rattle.std.proofs.Common.{◌-◌, length}
-use Rattle.ion_tokens.proofs.LaneRuns.{GoesOnTo}
+use Rattle.ion_tokens.proofs.masks.LaneRuns.{GoesOnTo}
 use Rattle.ion_text.specs.laws.writing.RawRuns.{is_raw}
 use Rattle.ion_text.proofs.escape.raw_front.Given as goal
 

@@ -6,9 +6,9 @@ use Rattle.ion_symtab.specs.declared.limits.Limits.{Limits}
 use Rattle.ion_symtab.specs.declared.catalog.Catalog.{Catalog}
 use Rattle.ion_tokens.specs.Lexed.{Placed, BeginsLexed}
 use Rattle.ion_tokens.specs.machine.Scanning.{Known, Outcome, Next, Given, Left, initial, run}
-use Rattle.ion_tokens.proofs.Found.{Nothing, Last, Gives, Leaves, Unclosed}
-use Rattle.ion_tokens.proofs.Histories.{begins_completes, given_front, left_front}
-use Rattle.ion_tokens.proofs.Runs.{given_used, left_used, next_used}
+use Rattle.ion_tokens.proofs.complete.Found.{Nothing, Last, Gives, Leaves, Unclosed}
+use Rattle.ion_tokens.proofs.histories.Histories.{begins_completes, given_front, left_front}
+use Rattle.ion_tokens.proofs.runs.Runs.{given_used, left_used, next_used}
 use Rattle.ion_text.specs.machine.EachToken.{Reading, place}
 use Rattle.ion_text.specs.machine.TokenLists.{Walk, walked, stopped, then_walk, reads, reads-append}
 use Rattle.ion_text.specs.laws.reading.complete.Pieces.{walked_now}

@@ -20,11 +20,11 @@ use Rattle.ion_tokens.specs.machine.Said.{said}
 use Rattle.ion_tokens.specs.machine.Scanning.{Known, at_end}
 use Rattle.ion_tokens.specs.Lexemes.{Lexeme}
 use Rattle.ion_tokens.specs.machine.Scanned.{Scanned}
-use Rattle.ion_tokens.proofs.EndCauses.{IsEndFair, end_fair}
-use Rattle.ion_tokens.proofs.Holds.{blank_none}
-use Rattle.ion_tokens.proofs.Scans.{placed}
-use Rattle.ion_tokens.proofs.Stepped.{all_since}
-use Rattle.ion_tokens.proofs.Told.{ends_in_token}
+use Rattle.ion_tokens.proofs.histories.EndCauses.{IsEndFair, end_fair}
+use Rattle.ion_tokens.proofs.sound.Holds.{blank_none}
+use Rattle.ion_tokens.proofs.runs.Scans.{placed}
+use Rattle.ion_tokens.proofs.histories.Stepped.{all_since}
+use Rattle.ion_tokens.proofs.sound.Told.{ends_in_token}
 use Rattle.ion_text.specs.declared.state.Held.{Held}
 use Rattle.ion_text.specs.declared.state.Now.{Now}
 use Rattle.ion_text.specs.declared.state.Now.TheVariants as nows

@@ -9,9 +9,9 @@ use Rattle.ion_tokens.specs.declared.mode.TokenKind.TheVariants as kinds
 use Rattle.ion_tokens.specs.Blanks.{IsLastBlank}
 use Rattle.ion_tokens.specs.machine.Scanning.{Known, Next, initial, run, at_end}
 use Rattle.ion_tokens.specs.Lexed.{Placed, BeginsWith, Lexes, LexesTo, colon_behind}
-use Rattle.ion_tokens.proofs.Histories.{begins_completes}
-use Rattle.ion_tokens.proofs.Moves.{at}
-use Rattle.ion_tokens.proofs.TakesBlanks.{last_blank}
+use Rattle.ion_tokens.proofs.histories.Histories.{begins_completes}
+use Rattle.ion_tokens.proofs.complete.Moves.{at}
+use Rattle.ion_tokens.proofs.complete.TakesBlanks.{last_blank}
 use Rattle.ion_text.specs.Deciding.{Are, AwaitsColons}
 use Rattle.ion_text.specs.Grammar.{Document}
 use Rattle.ion_text.specs.machine.EachToken.{Reading, fresh, settle}

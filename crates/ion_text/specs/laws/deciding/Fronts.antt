@@ -15,8 +15,8 @@ use Rattle.ion_tokens.specs.Lexed.{Placed, BeginsLexed, LexesTo}
 use Rattle.ion_tokens.specs.machine.Told.{Stands, Begun, Gave, Leaved}
 use Rattle.ion_tokens.specs.machine.Scanning.{Known, Next, Given, Left, run, at_end}
 use Rattle.ion_tokens.specs.machine.Scanned.{IsAhead}
-use Rattle.ion_tokens.proofs.Found.{Last, Gives, Leaves, Unclosed}
-use Rattle.ion_tokens.proofs.Histories.{begins_completes, stands_found, given_front, left_front}
+use Rattle.ion_tokens.proofs.complete.Found.{Last, Gives, Leaves, Unclosed}
+use Rattle.ion_tokens.proofs.histories.Histories.{begins_completes, stands_found, given_front, left_front}
 use Rattle.ion_text.specs.declared.state.Frame.{Frame}
 use Rattle.ion_text.specs.declared.state.Frame.TheVariants as frames
 use Rattle.ion_text.specs.declared.state.Now.{Now}

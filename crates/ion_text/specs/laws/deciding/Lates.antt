@@ -25,8 +25,8 @@ use Rattle.ion_tokens.specs.Bodies.{Content, Word, Id, Quoted, Short, Long, Numb
 use Rattle.ion_tokens.specs.machine.Said.{said, says}
 use Rattle.ion_tokens.specs.machine.Scanning.{Known, Outcome, Next, Given, Left, Refused, feed, follow}
 use Rattle.ion_tokens.specs.Lexemes.{Lexeme}
-use Rattle.ion_tokens.proofs.Causes.{IsFair, run_fair}
-use Rattle.ion_tokens.proofs.Fits.{is_octet_reason}
+use Rattle.ion_tokens.proofs.bounds.Causes.{IsFair, run_fair}
+use Rattle.ion_tokens.proofs.bounds.Fits.{is_octet_reason}
 use Rattle.ion_text.specs.declared.state.Held.{Held}
 use Rattle.ion_text.specs.declared.state.Held.TheVariants as helds
 use Rattle.ion_text.specs.declared.state.Now.{Now}

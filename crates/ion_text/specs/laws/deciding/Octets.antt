@@ -22,7 +22,7 @@ use Rattle.ion_tokens.specs.machine.Said.{said}
 use Rattle.ion_tokens.specs.machine.Scanning.{Known, Outcome, Next, Given, Left, Refused, feed}
 use Rattle.ion_tokens.specs.Lexemes.{Lexeme}
 use Rattle.ion_tokens.specs.machine.Scanned.{Scanned, Continues}
-use Rattle.ion_tokens.proofs.Scans.{placed, scanned_left}
+use Rattle.ion_tokens.proofs.runs.Scans.{placed, scanned_left}
 use Rattle.ion_text.specs.declared.state.Held.{Held}
 use Rattle.ion_text.specs.declared.state.Held.TheVariants as helds
 use Rattle.ion_text.specs.declared.state.Now.{Now}

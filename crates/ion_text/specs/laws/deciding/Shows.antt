@@ -15,10 +15,10 @@ use Rattle.ion_tokens.specs.Lexemes.{IsLexeme, Lexeme}
 use Rattle.ion_tokens.specs.Lexed.{Placed, BeginsWith, colon_behind, LexesTo, Passes}
 use Rattle.ion_tokens.specs.machine.Scanning.{Known, Next, Given, Left, feed, run}
 use Rattle.ion_tokens.specs.machine.Scanned.{Scanned, Continues}
-use Rattle.ion_tokens.proofs.Holds.{IsTold, InMode, Sound}
-use Rattle.ion_tokens.proofs.Moves.{at}
-use Rattle.ion_tokens.proofs.Scans.{placed}
-use Rattle.ion_tokens.proofs.Sounds.{feed_sound}
+use Rattle.ion_tokens.proofs.sound.Holds.{IsTold, InMode, Sound}
+use Rattle.ion_tokens.proofs.complete.Moves.{at}
+use Rattle.ion_tokens.proofs.runs.Scans.{placed}
+use Rattle.ion_tokens.proofs.sound.Sounds.{feed_sound}
 use Rattle.ion_text.specs.Grammar.{BlankThen}
 use Rattle.ion_text.specs.Deciding.{Are, AwaitsColons, NoColons, Sight, by_octet}
 use Rattle.ion_text.specs.laws.reading.sound.Admits.{at_end_fine}

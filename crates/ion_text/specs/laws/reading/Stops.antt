@@ -14,7 +14,7 @@ use Rattle.ion_symtab.specs.laws.Promises.{first_refused}
 use Rattle.ion_tokens.specs.Bodies.{Content}
 use Rattle.ion_tokens.specs.machine.Scanning.{at_end}
 use Rattle.ion_tokens.specs.Lexemes.{Lexeme}
-use Rattle.ion_tokens.proofs.Runs.{next_used}
+use Rattle.ion_tokens.proofs.runs.Runs.{next_used}
 use Rattle.ion_tokens.specs.machine.Said.{said}
 use Rattle.ion_text.specs.declared.state.Now.{Now}
 use Rattle.ion_text.specs.declared.state.Now.TheVariants as nows
@@ -26,7 +26,7 @@ use Rattle.ion_text.specs.laws.reading.sound.Steps.{Stood, StoodBehind, run_ran,
 use Rattle.ion_text.specs.laws.reading.sound.Admits.{stood_accepted}
 use Rattle.ion_text.specs.laws.reading.complete.Accepts.{accepts}
 use Rattle.ion_text.specs.laws.reading.ValuesKept.{pieces_values}
-use Rattle.ion_tokens.proofs.Ended.{stands_used}
+use Rattle.ion_tokens.proofs.histories.Ended.{stands_used}
 
 end_offset : Result (Option Value) Refusal → ℕ → ℕ
 end_offset (Err r) d = r.offset

@@ -1,6 +1,6 @@
 use Rattle.std.proofs.Common.{◌-◌, length}
 use Rattle.ion_tokens.specs.machine.AtOnce.{is_numeric}
-use Rattle.ion_tokens.proofs.LaneRuns.{GoesOnTo}
+use Rattle.ion_tokens.proofs.masks.LaneRuns.{GoesOnTo}
 use Rattle.ion_tokens.proofs.front.of_number.Given as goal
 
 abbrev pub invariant-loop-at : goal.invariant-loop-at

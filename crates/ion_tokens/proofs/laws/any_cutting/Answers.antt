@@ -1,5 +1,5 @@
-use Rattle.ion_tokens.proofs.Cutting.{run-append}
-use Rattle.ion_tokens.proofs.Traced.{pieces_lead}
+use Rattle.ion_tokens.proofs.runs.Cutting.{run-append}
+use Rattle.ion_tokens.proofs.traces.Traced.{pieces_lead}
 use Rattle.ion_tokens.proofs.laws.any_cutting.Goals as goal
 
 pub returns-clause-whole : goal.returns-clause-whole

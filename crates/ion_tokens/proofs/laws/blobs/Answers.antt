@@ -1,4 +1,4 @@
-use Rattle.ion_tokens.proofs.Cutting.{blob_text}
+use Rattle.ion_tokens.proofs.runs.Cutting.{blob_text}
 use Rattle.ion_tokens.proofs.laws.blobs.Goals as goal
 
 pub returns : goal.returns

@@ -1,4 +1,4 @@
-use Rattle.ion_tokens.proofs.Moved.{blank_moves, token_moves}
+use Rattle.ion_tokens.proofs.runs.Moved.{blank_moves, token_moves}
 use Rattle.ion_tokens.proofs.laws.moved.Goals as goal
 
 pub returns-clause-blank : goal.returns-clause-blank

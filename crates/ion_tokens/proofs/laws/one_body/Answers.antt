@@ -1,4 +1,4 @@
-use Rattle.ion_tokens.proofs.Cutting.{one_body}
+use Rattle.ion_tokens.proofs.runs.Cutting.{one_body}
 use Rattle.ion_tokens.proofs.laws.one_body.Goals as goal
 
 pub returns : goal.returns

@@ -1,4 +1,4 @@
-use Rattle.ion_tokens.proofs.Traced.{traced_alike}
+use Rattle.ion_tokens.proofs.traces.Traced.{traced_alike}
 use Rattle.ion_tokens.proofs.laws.one_trace.Goals as goal
 
 pub returns : goal.returns

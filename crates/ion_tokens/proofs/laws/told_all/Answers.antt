@@ -1,4 +1,4 @@
-use Rattle.ion_tokens.proofs.Stepped.{all_told}
+use Rattle.ion_tokens.proofs.histories.Stepped.{all_told}
 use Rattle.ion_tokens.proofs.laws.told_all.Goals as goal
 
 pub returns : goal.returns

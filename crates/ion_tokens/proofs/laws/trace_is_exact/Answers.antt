@@ -1,5 +1,5 @@
-use Rattle.ion_tokens.proofs.TokensTraced.{tokens_traced}
-use Rattle.ion_tokens.proofs.TraceTokens.{trace_is_exact}
+use Rattle.ion_tokens.proofs.traces.TokensTraced.{tokens_traced}
+use Rattle.ion_tokens.proofs.traces.TraceTokens.{trace_is_exact}
 use Rattle.ion_tokens.proofs.laws.trace_is_exact.Goals as goal
 
 pub returns-clause-tells : goal.returns-clause-tells

@@ -1,4 +1,4 @@
-use Rattle.ion_tokens.proofs.WholeTokens.{blank_passed}
+use Rattle.ion_tokens.proofs.runs.WholeTokens.{blank_passed}
 use Rattle.ion_tokens.proofs.whole.blanks.Goals as goal
 
 pub returns-clause-passed : goal.returns-clause-passed

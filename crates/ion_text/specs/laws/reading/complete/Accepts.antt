@@ -22,7 +22,7 @@ use Rattle.ion_tokens.specs.Bodies.{Content, Word, Id, Quoted, Short, Long, Numb
 use Rattle.ion_tokens.specs.machine.Scanning.{Known, Outcome, Next, Given, Left, start_of, feed, at_end, initial, follow}
 use Rattle.ion_tokens.specs.Lexemes.{Lexeme, is_segment}
 use Rattle.ion_tokens.specs.Lexed.{Placed}
-use Rattle.ion_tokens.proofs.Runs.{feed_used, given_used}
+use Rattle.ion_tokens.proofs.runs.Runs.{feed_used, given_used}
 use Rattle.ion_text.specs.declared.state.Held.{Held}
 use Rattle.ion_text.specs.declared.state.Now.{Now}
 use Rattle.ion_text.specs.declared.state.Now.TheVariants as nows

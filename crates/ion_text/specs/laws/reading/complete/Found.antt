@@ -11,10 +11,10 @@ use Rattle.ion_tokens.specs.Bodies.{Content}
 use Rattle.ion_tokens.specs.machine.Scanning.{Known, Outcome, Next, Given, Left, Refused, feed, follow, run, at_end, initial}
 use Rattle.ion_tokens.specs.Lexed.{Placed, Lexes, LexesBefore}
 use Rattle.ion_tokens.specs.machine.Told.{Begun}
-use Rattle.ion_tokens.proofs.Found as found
-use Rattle.ion_tokens.proofs.Histories.{stands_finds, behind_front}
-use Rattle.ion_tokens.proofs.Runs.{feed_used}
-use Rattle.ion_tokens.proofs.Splits.{GivenSplit, given_split, LeftSplit, left_split}
+use Rattle.ion_tokens.proofs.complete.Found as found
+use Rattle.ion_tokens.proofs.histories.Histories.{stands_finds, behind_front}
+use Rattle.ion_tokens.proofs.runs.Runs.{feed_used}
+use Rattle.ion_tokens.proofs.runs.Splits.{GivenSplit, given_split, LeftSplit, left_split}
 use Rattle.ion_text.specs.machine.EachToken.{Reading, Turn, goes, gives, refuses, late, settle, turn}
 use Rattle.ion_text.specs.machine.Run.{is_top, token_of}
 use Rattle.ion_text.specs.machine.TokenLists.{continues}

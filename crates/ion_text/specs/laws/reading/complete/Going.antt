@@ -18,7 +18,7 @@ use Rattle.ion_tokens.specs.Bodies.{Content, Word, Id, Quoted, Short, Long, Numb
 use Rattle.ion_tokens.specs.machine.Scanning.{Known, Next, Given, Left, feed, follow}
 use Rattle.ion_tokens.specs.Lexemes.{Lexeme}
 use Rattle.ion_tokens.specs.Lexed.{Placed}
-use Rattle.ion_tokens.proofs.Runs.{feed_used, left_used}
+use Rattle.ion_tokens.proofs.runs.Runs.{feed_used, left_used}
 use Rattle.ion_text.specs.declared.state.Now.{Now}
 use Rattle.ion_text.specs.declared.state.Now.TheVariants as nows
 use Rattle.ion_text.specs.declared.state.Frame.{Frame}

@@ -25,8 +25,8 @@ use Rattle.ion_tokens.specs.machine.Views.{behind}
 use Rattle.ion_tokens.specs.machine.Scanning.{Known, Outcome, Next, Given, Left, Refused, start_of, acts, blob_ends, feed, follow, at_end, ends_at}
 use Rattle.ion_tokens.specs.Lexemes.{Lexeme, is_segment}
 use Rattle.ion_tokens.specs.Lexed.{Placed}
-use Rattle.ion_tokens.proofs.Runs.{feed_used, given_used}
-use Rattle.ion_tokens.proofs.Reaches.{Reaches, run_reaches, begun_stays}
+use Rattle.ion_tokens.proofs.runs.Runs.{feed_used, given_used}
+use Rattle.ion_tokens.proofs.foreseen.Reaches.{Reaches, run_reaches, begun_stays}
 use Rattle.ion_text.specs.Grammar.{is_two_quotes}
 use Rattle.ion_tokens.specs.machine.Ahead.{is_sane, is_mark, is_closing, Follows}
 use Rattle.ion_tokens.specs.laws.Follows.{feed_follows}

@@ -33,7 +33,7 @@ use Rattle.ion_text.specs.laws.reading.sound.Sound.{EndsAt, start_now}
 use Rattle.ion_text.specs.laws.reading.sound.Spans.{IsTopNow, IsWaiting}
 use Rattle.ion_text.specs.laws.reading.complete.Meets.{Meets, at_blank, in_blank, begun_closing, begun_span, idle_span, long_segment, is_long_text, follows_as}
 use Rattle.ion_text.specs.laws.reading.complete.Going.{Operators, Going, TurnGoes, TurnEnds, TopOk, Direct, EndsPast, going_said, going_turn, going_ends, limit, top_limit, idle_past, used_inside, mark_kind, no_operator}
-use Rattle.ion_tokens.proofs.Begins.{end_idle}
+use Rattle.ion_tokens.proofs.foreseen.Begins.{end_idle}
 
 -- while something waits at the top level, no token has begun with which it doesn't go on
 abbrev pub CalmNow : Now → Mode → Type 0

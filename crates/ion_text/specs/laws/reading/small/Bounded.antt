@@ -26,8 +26,8 @@ use Rattle.ion_tokens.specs.machine.Said.{said}
 use Rattle.ion_tokens.specs.machine.Scanning.{Known, Outcome, Next, Given, Left, Refused, feed}
 use Rattle.ion_tokens.specs.Lexemes.{Lexeme}
 use Rattle.ion_tokens.specs.machine.Views.{looks, behind, form_of, begun_in, held_in}
-use Rattle.ion_tokens.proofs.Holds.{InMode}
-use Rattle.ion_tokens.proofs.Reaches.{begun_stays}
+use Rattle.ion_tokens.proofs.sound.Holds.{InMode}
+use Rattle.ion_tokens.proofs.foreseen.Reaches.{begun_stays}
 use Rattle.ion_text.specs.declared.reader.TextReader.{TextReader}
 use Rattle.ion_text.specs.declared.state.Held.{Held}
 use Rattle.ion_text.specs.declared.state.Now.{Now}

@@ -25,8 +25,8 @@ use Rattle.ion_tokens.specs.machine.Scanning.{Known, at_end, ends_at}
 use Rattle.ion_tokens.specs.Lexemes.{Lexeme, is_segment}
 use Rattle.ion_tokens.specs.Lexed.{Placed, Lexes}
 use Rattle.ion_tokens.specs.machine.Scanned.{Scanned}
-use Rattle.ion_tokens.proofs.Stepped.{all_since}
-use Rattle.ion_tokens.proofs.Told.{ends_in_blank, ends_in_token}
+use Rattle.ion_tokens.proofs.histories.Stepped.{all_since}
+use Rattle.ion_tokens.proofs.sound.Told.{ends_in_blank, ends_in_token}
 use Rattle.ion_text.specs.declared.state.Now.{Now}
 use Rattle.ion_text.specs.declared.state.Now.TheVariants as nows
 use Rattle.ion_text.specs.declared.state.Frame.{Frame}
@@ -38,7 +38,7 @@ use Rattle.ion_tokens.specs.machine.Bounds.{is_idle}
 use Rattle.ion_tokens.specs.machine.Ahead.{is_quoting, is_closing, is_quoted}
 use Rattle.ion_tokens.specs.declared.mode.Mark.TheVariants as marks
 use Rattle.ion_text.specs.laws.reading.sound.Quotes.{is_close, left_none}
-use Rattle.ion_tokens.proofs.Scans.{placed}
+use Rattle.ion_tokens.proofs.runs.Scans.{placed}
 use Rattle.ion_text.specs.machine.Passed.{said_passes}
 use Rattle.ion_text.specs.laws.reading.sound.Sound.{NowStands}
 use Rattle.ion_text.specs.laws.reading.sound.Held.{Scans, Behind, Reads, NoLongText, token_read, settled_end, none_noted}

@@ -25,7 +25,7 @@ use Rattle.ion_text.specs.machine.Run.{waits, waits_now, token_of, is_top, is_fr
 use Rattle.ion_tokens.specs.machine.Ahead.{is_quoting, is_sane, Follows, is_quoted, long_waits}
 use Rattle.ion_tokens.specs.laws.Follows.{feed_follows}
 use Rattle.ion_text.specs.laws.reading.sound.Quotes.{Fine, Finely, feed_fine}
-use Rattle.ion_tokens.proofs.Scans.{placed}
+use Rattle.ion_tokens.proofs.runs.Scans.{placed}
 use Rattle.ion_text.specs.machine.Places.{Leading, settle_same}
 use Rattle.ion_text.specs.laws.reading.sound.Depths.{Deep, GoesDeep, turn_deep, settle_deep}
 use Rattle.ion_text.specs.machine.Passed.{said_body}

@@ -23,7 +23,7 @@ use Rattle.ion_text.specs.machine.Run.{State, Effect, uses, tells, leaves, fails
 use Rattle.ion_tokens.specs.machine.Ahead.{is_sane, Follows, is_quoted}
 use Rattle.ion_tokens.specs.laws.Follows.{feed_follows}
 use Rattle.ion_text.specs.laws.reading.sound.Quotes.{Fine, Finely, feed_fine, given_far, left_none}
-use Rattle.ion_tokens.proofs.Scans.{scanned_next, scanned_given, scanned_left}
+use Rattle.ion_tokens.proofs.runs.Scans.{scanned_next, scanned_given, scanned_left}
 use Rattle.ion_text.specs.machine.Passed.{said_passes}
 use Rattle.ion_text.specs.machine.Places.{Leading, settle_same}
 use Rattle.ion_text.specs.laws.reading.sound.Held.{Behind, Reads, NoSegment, ApartAt, NoLongText, IsLongNow, open_apart, token_read, settled_read, nothing_open, or_parts}

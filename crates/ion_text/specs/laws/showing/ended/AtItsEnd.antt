@@ -32,7 +32,7 @@ use Rattle.ion_tokens.specs.machine.Table.{next, end_of, begins_value, in_blank}
 use Rattle.ion_tokens.specs.machine.Bounds.{is_idle}
 use Rattle.ion_tokens.specs.machine.Said.{said, number_said}
 use Rattle.ion_tokens.specs.laws.Numerals.{number_without_slash}
-use Rattle.ion_tokens.proofs.TurnsWords.{slash_in}
+use Rattle.ion_tokens.proofs.sound.TurnsWords.{slash_in}
 use Rattle.ion_scalar.specs.declared.number.Number.{Number}
 use Rattle.ion_scalar.specs.text.Numbers.{ReadsNumber}
 use Rattle.ion_scalar.specs.text.Reading.{number_read, number_reads}

@@ -10,9 +10,9 @@ use Rattle.ion_tokens.specs.machine.Table.{before, go as go_on}
 use Rattle.ion_tokens.specs.machine.Bounds.{is_idle}
 use Rattle.ion_tokens.specs.machine.Ahead.{is_sane}
 use Rattle.ion_tokens.specs.machine.Scanning.{Known, Next, acts, feed, follow, run}
-use Rattle.ion_tokens.proofs.Moves.{at, blank}
-use Rattle.ion_tokens.proofs.TakesBlanks.{passes_blank}
-use Rattle.ion_tokens.proofs.Wholes.{run_behind}
+use Rattle.ion_tokens.proofs.complete.Moves.{at, blank}
+use Rattle.ion_tokens.proofs.complete.TakesBlanks.{passes_blank}
+use Rattle.ion_tokens.proofs.complete.Wholes.{run_behind}
 use Rattle.ion_text.specs.Grammar.{BlankThen}
 use Rattle.ion_text.specs.machine.Pieces.{followed}
 use Rattle.ion_text.specs.laws.reading.complete.Found.{next_is}

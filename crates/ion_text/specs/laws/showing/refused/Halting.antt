@@ -8,11 +8,11 @@ use Rattle.ion_tokens.specs.declared.mode.Mode.TheVariants as modes
 use Rattle.ion_tokens.specs.declared.mode.Place.{Place}
 use Rattle.ion_tokens.specs.machine.Scanning.{Known, Outcome, Next, Given, Left, Refused, feed, follow, run}
 use Rattle.ion_tokens.specs.Lexemes.{Lexeme}
-use Rattle.ion_tokens.proofs.Escapes.{escape}
-use Rattle.ion_tokens.proofs.Moves.{at}
-use Rattle.ion_tokens.proofs.Runs.{feed_used}
-use Rattle.ion_tokens.proofs.Sounds.{feed_sound}
-use Rattle.ion_tokens.proofs.Holds.{Sound}
+use Rattle.ion_tokens.proofs.histories.Escapes.{escape}
+use Rattle.ion_tokens.proofs.complete.Moves.{at}
+use Rattle.ion_tokens.proofs.runs.Runs.{feed_used}
+use Rattle.ion_tokens.proofs.sound.Sounds.{feed_sound}
+use Rattle.ion_tokens.proofs.sound.Holds.{Sound}
 use Rattle.ion_text.specs.machine.EachToken.{Reading, place}
 use Rattle.ion_text.specs.machine.Run.{is_top}
 use Rattle.ion_text.specs.laws.reading.sound.Held.{NoSegment, ApartAt, IsLongNow}

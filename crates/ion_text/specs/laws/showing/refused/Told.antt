@@ -19,8 +19,8 @@ use Rattle.ion_tokens.specs.Blanks.{IsBlank}
 use Rattle.ion_tokens.specs.machine.Scanning.{Known, Next, Given, Left, feed}
 use Rattle.ion_tokens.specs.Lexemes.{Lexeme, is_segment}
 use Rattle.ion_tokens.specs.Lexed.{Passes}
-use Rattle.ion_tokens.proofs.Holds.{Holds, InMode, IsTold, Sound}
-use Rattle.ion_tokens.proofs.Sounds.{feed_sound}
+use Rattle.ion_tokens.proofs.sound.Holds.{Holds, InMode, IsTold, Sound}
+use Rattle.ion_tokens.proofs.sound.Sounds.{feed_sound}
 use Rattle.ion_text.specs.declared.state.Frame.{Frame}
 use Rattle.ion_text.specs.declared.state.Now.{Now}
 use Rattle.ion_text.specs.declared.state.Now.TheVariants as nows

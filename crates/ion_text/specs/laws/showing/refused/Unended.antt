@@ -11,11 +11,11 @@ use Rattle.ion_tokens.specs.machine.Said.{said}
 use Rattle.ion_tokens.specs.machine.Scanning.{Known, Next, Left, feed, follow, run}
 use Rattle.ion_tokens.specs.Lexemes.{takes_colon}
 use Rattle.ion_tokens.specs.Lexed.{Placed, BeginsWith, LexesTo, colon_behind}
-use Rattle.ion_tokens.proofs.Histories.{begins_completes}
-use Rattle.ion_tokens.proofs.Holds.{IsTold, Sound}
-use Rattle.ion_tokens.proofs.Sounds.{feed_sound}
-use Rattle.ion_tokens.proofs.Moves.{at as scanning}
-use Rattle.ion_tokens.proofs.Runs.{left_used}
+use Rattle.ion_tokens.proofs.histories.Histories.{begins_completes}
+use Rattle.ion_tokens.proofs.sound.Holds.{IsTold, Sound}
+use Rattle.ion_tokens.proofs.sound.Sounds.{feed_sound}
+use Rattle.ion_tokens.proofs.complete.Moves.{at as scanning}
+use Rattle.ion_tokens.proofs.runs.Runs.{left_used}
 use Rattle.ion_text.specs.declared.state.Now.{Now}
 use Rattle.ion_text.specs.declared.state.Now.TheVariants as nows
 use Rattle.ion_text.specs.declared.state.Frame.{Frame}

@@ -10,7 +10,7 @@ use Rattle.ion_tokens.specs.declared.mode.TokenKind.TheVariants as kinds
 use Rattle.ion_tokens.specs.declared.mode.Place.{Place}
 use Rattle.ion_tokens.specs.machine.Scanning.{Known, Next, start_of, run}
 use Rattle.ion_tokens.specs.Lexemes.{Lexeme}
-use Rattle.ion_tokens.proofs.Moves.{blank}
+use Rattle.ion_tokens.proofs.complete.Moves.{blank}
 use Rattle.ion_tokens.specs.Lexed.{Placed, BeginsWith, LexesTo}
 use Rattle.ion_tokens.specs.machine.Scanned.{Scanned, Continues}
 use Rattle.ion_text.specs.declared.state.Now.{Now}

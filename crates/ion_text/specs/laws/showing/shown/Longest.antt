@@ -13,12 +13,12 @@ use Rattle.ion_tokens.specs.Places.{is_sexp}
 use Rattle.ion_tokens.specs.machine.Scanning.{Known, Next, start_of, run, initial}
 use Rattle.ion_tokens.specs.Lexemes.{Lexeme}
 use Rattle.ion_tokens.specs.Lexed.{Placed, LexesTo, colon_behind}
-use Rattle.ion_tokens.proofs.Escapes.{Escapes, Refuses, Goes, Grows, escape}
-use Rattle.ion_tokens.proofs.Histories.{begins_completes}
-use Rattle.ion_tokens.proofs.Moves.{at, blank}
-use Rattle.ion_tokens.proofs.Runs.{next_used}
-use Rattle.ion_tokens.proofs.TakesBlanks.{passes_blank}
-use Rattle.ion_tokens.proofs.Wholes.{run_behind}
+use Rattle.ion_tokens.proofs.histories.Escapes.{Escapes, Refuses, Goes, Grows, escape}
+use Rattle.ion_tokens.proofs.histories.Histories.{begins_completes}
+use Rattle.ion_tokens.proofs.complete.Moves.{at, blank}
+use Rattle.ion_tokens.proofs.runs.Runs.{next_used}
+use Rattle.ion_tokens.proofs.complete.TakesBlanks.{passes_blank}
+use Rattle.ion_tokens.proofs.complete.Wholes.{run_behind}
 use Rattle.ion_text.specs.Grammar.{Whole}
 use Rattle.ion_text.specs.machine.EachToken.{Reading, fresh, place}
 use Rattle.ion_text.specs.machine.Run.{State, is_top}

@@ -16,12 +16,12 @@ use Rattle.ion_tokens.specs.Blanks.{LineComment, IsBlank}
 use Rattle.ion_tokens.specs.machine.Scanning.{Known, Next, start_of, run}
 use Rattle.ion_tokens.specs.Lexed.{Placed, LexesTo, colon_behind}
 use Rattle.ion_tokens.specs.machine.Scanned.{Scanned, BegunSo, HasBegun, IsFirstColon, MayComment, ShowsBegun}
-use Rattle.ion_tokens.proofs.Begins.{begun_right}
-use Rattle.ion_tokens.proofs.Holds.{blank_none}
-use Rattle.ion_tokens.proofs.Moves.{blank}
-use Rattle.ion_tokens.proofs.Reaches.{begun_stays}
-use Rattle.ion_tokens.proofs.Sounds.{RunSound, run_sound}
-use Rattle.ion_tokens.proofs.TakesBlanks.{passes_blank}
+use Rattle.ion_tokens.proofs.foreseen.Begins.{begun_right}
+use Rattle.ion_tokens.proofs.sound.Holds.{blank_none}
+use Rattle.ion_tokens.proofs.complete.Moves.{blank}
+use Rattle.ion_tokens.proofs.foreseen.Reaches.{begun_stays}
+use Rattle.ion_tokens.proofs.sound.Sounds.{RunSound, run_sound}
+use Rattle.ion_tokens.proofs.complete.TakesBlanks.{passes_blank}
 use Rattle.ion_text.specs.declared.state.Now.{Now}
 use Rattle.ion_text.specs.declared.state.Now.TheVariants as nows
 use Rattle.ion_text.specs.declared.state.Frame.{Frame}

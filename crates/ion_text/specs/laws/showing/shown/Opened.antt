@@ -20,11 +20,11 @@ use Rattle.ion_tokens.specs.machine.Said.{said}
 use Rattle.ion_tokens.specs.machine.Scanning.{Known, initial, run}
 use Rattle.ion_tokens.specs.Lexed.{Placed, BeginsWith, LexesTo, colon_behind}
 use Rattle.ion_tokens.specs.Lexemes.{IsLexeme, takes_colon, is_segment}
-use Rattle.ion_tokens.proofs.Escapes.{Escapes, Escape, escape}
-use Rattle.ion_tokens.proofs.Histories.{begins_completes}
-use Rattle.ion_tokens.proofs.Holds.{InMode}
-use Rattle.ion_tokens.proofs.Moves.{at as scanning}
-use Rattle.ion_tokens.proofs.Wholes.{run_behind}
+use Rattle.ion_tokens.proofs.histories.Escapes.{Escapes, Escape, escape}
+use Rattle.ion_tokens.proofs.histories.Histories.{begins_completes}
+use Rattle.ion_tokens.proofs.sound.Holds.{InMode}
+use Rattle.ion_tokens.proofs.complete.Moves.{at as scanning}
+use Rattle.ion_tokens.proofs.complete.Wholes.{run_behind}
 use Rattle.ion_tokens.specs.machine.Scanned.{Scanned, Continues}
 use Rattle.ion_text.specs.declared.state.Held.{Held}
 use Rattle.ion_text.specs.declared.state.Now.{Now}

@@ -17,7 +17,7 @@ use Rattle.ion_tokens.specs.declared.mode.TokenKind.TheVariants as kinds
 use Rattle.ion_tokens.specs.Blanks.{BlankPiece, White, LineComment, BlockComment, IsBlankPiece, blank_spelling, IsBlank, IsLastBlank}
 use Rattle.ion_tokens.specs.Lexemes.{mark_spelling, begins, begins_comment, comment_within, begins_infinity, IsNumeric, IsOperator, MarkEnds, IsLexeme}
 use Rattle.ion_tokens.specs.Lexed.{Placed, Lexes, LexesTo, colon_behind}
-use Rattle.ion_tokens.proofs.Holds.{blank_none, blank_more}
+use Rattle.ion_tokens.proofs.sound.Holds.{blank_none, blank_more}
 use Rattle.ion_text.specs.Grammar.{Pieces, Document, BlankThen, Whole, OpenRest}
 use Rattle.ion_text.specs.laws.showing.tokens.Cuts.{lexed_front, parts_same}
 use Rattle.ion_text.specs.laws.showing.tokens.Once.{some_token}

@@ -9,9 +9,9 @@ use Rattle.ion_tokens.specs.machine.Bounds.{is_idle}
 use Rattle.ion_tokens.specs.machine.Ahead.{is_quoting}
 use Rattle.ion_tokens.specs.Blanks.{IsBlank, IsBlankPiece, BlankPiece, LineComment, BlockComment, blank_spelling}
 use Rattle.ion_tokens.specs.machine.Scanning.{Known}
-use Rattle.ion_tokens.proofs.Escapes.{Escapes, Grows, Goes, Escape, are_octets}
-use Rattle.ion_tokens.proofs.Holds.{InMode, blank_more}
-use Rattle.ion_tokens.proofs.Moves.{at}
+use Rattle.ion_tokens.proofs.histories.Escapes.{Escapes, Grows, Goes, Escape, are_octets}
+use Rattle.ion_tokens.proofs.sound.Holds.{InMode, blank_more}
+use Rattle.ion_tokens.proofs.complete.Moves.{at}
 use Rattle.ion_text.specs.Grammar.{BlankThen}
 
 -- octets that show that no token has ended, and behind which these stand behind a blank

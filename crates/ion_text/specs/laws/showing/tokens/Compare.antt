@@ -16,10 +16,10 @@ use Rattle.ion_tokens.specs.machine.Scanning.{Known, Outcome, Next, Given, Left,
 use Rattle.ion_tokens.specs.Lexemes.{Lexeme}
 use Rattle.ion_tokens.specs.Lexed.{Placed, BeginsWith, LexesTo, colon_behind}
 use Rattle.ion_tokens.specs.machine.Said.{said}
-use Rattle.ion_tokens.proofs.Found.{FindsUpTo, Nothing, Last, Gives, Leaves, Unclosed, in_word}
-use Rattle.ion_tokens.proofs.Moves.{at, blank}
-use Rattle.ion_tokens.proofs.TakesBlanks.{passes_blank}
-use Rattle.ion_tokens.proofs.Runs.{feed_used}
+use Rattle.ion_tokens.proofs.complete.Found.{FindsUpTo, Nothing, Last, Gives, Leaves, Unclosed, in_word}
+use Rattle.ion_tokens.proofs.complete.Moves.{at, blank}
+use Rattle.ion_tokens.proofs.complete.TakesBlanks.{passes_blank}
+use Rattle.ion_tokens.proofs.runs.Runs.{feed_used}
 use Rattle.ion_text.specs.machine.EachToken.{Reading, Turn, goes, gives, refuses, late, place, settle, turn}
 use Rattle.ion_text.specs.machine.Run.{is_top, token_of}
 use Rattle.ion_text.specs.machine.TokenLists.{continues}

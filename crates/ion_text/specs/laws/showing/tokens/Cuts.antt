@@ -18,14 +18,14 @@ use Rattle.ion_tokens.specs.machine.Scanning.{Known, Outcome, Next, Given, Left,
 use Rattle.ion_tokens.specs.Lexemes.{Lexeme, takes_colon}
 use Rattle.ion_tokens.specs.Lexed.{Placed, BeginsWith, colon_behind, LexesTo}
 use Rattle.ion_tokens.specs.machine.Scanned.{Scanned, IsAhead, Continues}
-use Rattle.ion_tokens.proofs.Found.{FindsUpTo, Last, Gives, Leaves, Unclosed}
-use Rattle.ion_tokens.proofs.Holds.{InMode, Holds, Sound, blank_behind, blank_none}
-use Rattle.ion_tokens.proofs.Moves.{at, blank}
-use Rattle.ion_tokens.proofs.Sounds.{RunSound, run_sound, feed_sound}
-use Rattle.ion_tokens.proofs.SoundHistories.{stands_tells}
-use Rattle.ion_tokens.proofs.TakesBlanks.{passes_blank}
-use Rattle.ion_tokens.proofs.Wholes.{run_behind}
-use Rattle.ion_tokens.proofs.Histories.{begins_completes}
+use Rattle.ion_tokens.proofs.complete.Found.{FindsUpTo, Last, Gives, Leaves, Unclosed}
+use Rattle.ion_tokens.proofs.sound.Holds.{InMode, Holds, Sound, blank_behind, blank_none}
+use Rattle.ion_tokens.proofs.complete.Moves.{at, blank}
+use Rattle.ion_tokens.proofs.sound.Sounds.{RunSound, run_sound, feed_sound}
+use Rattle.ion_tokens.proofs.sound.SoundHistories.{stands_tells}
+use Rattle.ion_tokens.proofs.complete.TakesBlanks.{passes_blank}
+use Rattle.ion_tokens.proofs.complete.Wholes.{run_behind}
+use Rattle.ion_tokens.proofs.histories.Histories.{begins_completes}
 use Rattle.ion_text.specs.machine.Pieces.{followed}
 use Rattle.ion_text.specs.laws.reading.complete.Found.{next_is}
 use Rattle.ion_text.specs.laws.reading.complete.Meets.{follows_as}

@@ -12,7 +12,7 @@ use Rattle.ion_tokens.specs.machine.Scanning.{Known}
 use Rattle.ion_tokens.specs.Lexemes.{takes_colon}
 use Rattle.ion_tokens.specs.machine.Scanned.{Scanned}
 use Rattle.ion_tokens.specs.Lexed.{Placed}
-use Rattle.ion_tokens.proofs.Holds.{Holds, InMode}
+use Rattle.ion_tokens.proofs.sound.Holds.{Holds, InMode}
 use Rattle.ion_text.specs.declared.state.Now.TheVariants as nows
 use Rattle.ion_text.specs.laws.reading.complete.Exact.{Exact, exact}
 use Rattle.ion_text.specs.declared.state.Frame.{Frame}

@@ -20,8 +20,8 @@ use Rattle.ion_tokens.specs.Bodies.{Content, Word, Id, Quoted, Short, Long, Numb
 use Rattle.ion_tokens.specs.machine.Scanning.{Known, Outcome, Next, Given, Left, Refused, acts, feed, follow, run, ends_at}
 use Rattle.ion_tokens.specs.Lexemes.{Lexeme, is_segment}
 use Rattle.ion_tokens.specs.Lexed.{Placed, BeginsWith}
-use Rattle.ion_tokens.proofs.Moves.{at, blank}
-use Rattle.ion_tokens.proofs.TakesBlanks.{passes_blank}
+use Rattle.ion_tokens.proofs.complete.Moves.{at, blank}
+use Rattle.ion_tokens.proofs.complete.TakesBlanks.{passes_blank}
 use Rattle.ion_text.specs.declared.state.Now.{Now}
 use Rattle.ion_text.specs.declared.state.Now.TheVariants as nows
 use Rattle.ion_text.specs.declared.state.Frame.{Frame}

@@ -8,8 +8,8 @@ use Rattle.ion_tokens.specs.declared.mode.Place.{Place}
 use Rattle.ion_tokens.specs.machine.Table.{end_of}
 use Rattle.ion_tokens.specs.machine.Scanning.{Known, Outcome, Next, Given, Left, Refused, feed, follow, run}
 use Rattle.ion_tokens.specs.Lexed.{Placed, LexesTo, colon_behind}
-use Rattle.ion_tokens.proofs.Found.{Nothing, Last, Gives, Leaves, Unclosed}
-use Rattle.ion_tokens.proofs.Runs.{next_used, given_used, left_used}
+use Rattle.ion_tokens.proofs.complete.Found.{Nothing, Last, Gives, Leaves, Unclosed}
+use Rattle.ion_tokens.proofs.runs.Runs.{next_used, given_used, left_used}
 use Rattle.ion_text.specs.machine.EachToken.{Reading}
 use Rattle.ion_text.specs.machine.Run.{is_top}
 use Rattle.ion_text.specs.machine.Passed.{said_body}

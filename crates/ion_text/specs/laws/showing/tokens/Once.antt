@@ -13,8 +13,8 @@ use Rattle.ion_tokens.specs.Places.{is_sexp}
 use Rattle.ion_tokens.specs.machine.Scanning.{initial}
 use Rattle.ion_tokens.specs.Lexed.{Placed, BeginsLexed, LexesTo, colon_behind}
 use Rattle.ion_tokens.specs.Lexemes.{IsLexeme}
-use Rattle.ion_tokens.proofs.Wholes.{some_octet}
-use Rattle.ion_tokens.proofs.Histories.{begins_completes}
+use Rattle.ion_tokens.proofs.complete.Wholes.{some_octet}
+use Rattle.ion_tokens.proofs.histories.Histories.{begins_completes}
 use Rattle.ion_text.specs.Grammar.{Whole}
 use Rattle.ion_text.specs.machine.EachToken.{Reading, fresh, settle}
 use Rattle.ion_text.specs.machine.TokenLists.{Walk, walked, stopped, done, on_turn}

@@ -11,7 +11,7 @@ use Rattle.ion_tokens.specs.Bodies.{Content}
 use Rattle.ion_tokens.specs.machine.Scanning.{Known, Outcome, Next, Given, Left, run, at_end}
 use Rattle.ion_tokens.specs.Lexed.{Placed}
 use Rattle.ion_tokens.specs.machine.Said.{said}
-use Rattle.ion_tokens.proofs.Found.{Nothing, Last, Gives, Leaves, Unclosed}
+use Rattle.ion_tokens.proofs.complete.Found.{Nothing, Last, Gives, Leaves, Unclosed}
 use Rattle.ion_text.specs.machine.EachToken.{Reading, Turn, goes, gives, refuses, late, place, settle, turn}
 use Rattle.ion_text.specs.machine.Run.{is_top, token_of}
 use Rattle.ion_text.specs.machine.TokenLists.{Walk, walked, stopped, adds_values, on_turn, on_placed, on_judged, continues, then_walk, reads, reads-append, first_token, in_place}

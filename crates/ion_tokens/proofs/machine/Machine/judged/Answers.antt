@@ -1,4 +1,4 @@
-use Rattle.ion_tokens.proofs.Lendings.{lends_there}
+use Rattle.ion_tokens.proofs.runs.Lendings.{lends_there}
 use Rattle.ion_tokens.proofs.machine.Machine.judged.Goals as goal
 
 pub returns-in-Ok-clause-lends : goal.returns-in-Ok-clause-lends

@@ -7,8 +7,8 @@ use Rattle.ion_tokens.specs.machine.Scanning.{Outcome}
 use Rattle.ion_tokens.specs.Lexemes.{Lexeme}
 use Rattle.ion_tokens.specs.machine.Machines.{known, lexeme_in}
 use Rattle.ion_tokens.specs.machine.Steps.{Answers, RefusesToken}
-use Rattle.ion_tokens.proofs.Runs.{next_used, given_used, left_used}
-use Rattle.ion_tokens.proofs.Causes.{refused_fair}
+use Rattle.ion_tokens.proofs.runs.Runs.{next_used, given_used, left_used}
+use Rattle.ion_tokens.proofs.bounds.Causes.{refused_fair}
 use Rattle.ion_tokens.proofs.machine.Machine.scan.Goals as goal
 
 pub given-requires : goal.given-requires

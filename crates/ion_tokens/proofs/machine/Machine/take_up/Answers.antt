@@ -3,7 +3,7 @@ use Rattle.std.proofs.lemmas.Result.{IfOk-weaker}
 use Rattle.ion_tokens.specs.machine.Scanning.{acts}
 use Rattle.ion_tokens.specs.machine.Bounds.{IsSteady, StaysSteady}
 use Rattle.ion_tokens.specs.machine.Machines.{known, outcome_in}
-use Rattle.ion_tokens.proofs.Steady.{take_up_steady}
+use Rattle.ion_tokens.proofs.bounds.Steady.{take_up_steady}
 use Rattle.ion_tokens.proofs.machine.Machine.take_up.Goals as goal
 
 pub returns-clause-steady : goal.returns-clause-steady

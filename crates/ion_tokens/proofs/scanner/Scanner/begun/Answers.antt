@@ -1,7 +1,7 @@
 use Rattle.std.proofs.Common.{subst, sym}
 use Rattle.ion_tokens.specs.machine.Machines.{known}
 use Rattle.ion_tokens.specs.machine.Scanned.{ShowsBegun}
-use Rattle.ion_tokens.proofs.Begins.{begun_right}
+use Rattle.ion_tokens.proofs.foreseen.Begins.{begun_right}
 use Rattle.ion_tokens.proofs.scanner.Scanner.begun.Goals as goal
 
 pub returns-clause-shows : goal.returns-clause-shows

@@ -9,10 +9,10 @@ use Rattle.ion_tokens.specs.machine.Scanned.{Scanned, EndsSo, NoEnd, EndsFor}
 use Rattle.ion_tokens.specs.machine.Lent.{BorrowsAt, OwnsLast}
 use Rattle.ion_tokens.specs.machine.Steps.{Ends}
 use Rattle.ion_tokens.specs.machine.Machines.{known}
-use Rattle.ion_tokens.proofs.EndCauses.{end_fair, end_reason}
-use Rattle.ion_tokens.proofs.Lendings.{end_owns}
-use Rattle.ion_tokens.proofs.Stepped.{end_goes, end_refuses}
-use Rattle.ion_tokens.proofs.Traced.{end_traced}
+use Rattle.ion_tokens.proofs.histories.EndCauses.{end_fair, end_reason}
+use Rattle.ion_tokens.proofs.runs.Lendings.{end_owns}
+use Rattle.ion_tokens.proofs.histories.Stepped.{end_goes, end_refuses}
+use Rattle.ion_tokens.proofs.traces.Traced.{end_traced}
 use Rattle.ion_tokens.proofs.scanner.Scanner.finish.Goals as goal
 
 pub returns-clause-whole : goal.returns-clause-whole

@@ -3,7 +3,7 @@ use Rattle.ion_tokens.specs.machine.Scanning.{acts, feed}
 use Rattle.ion_tokens.specs.machine.Machines.{known}
 use Rattle.ion_tokens.specs.machine.Views.{foresight}
 use Rattle.ion_tokens.specs.machine.Foreseen.{ForeseenSo}
-use Rattle.ion_tokens.proofs.Foresights.{foreseen}
+use Rattle.ion_tokens.proofs.foreseen.Foresights.{foreseen}
 use Rattle.ion_tokens.proofs.scanner.Scanner.foresee.Goals as goal
 
 pub returns-clause-foresees : goal.returns-clause-foresees

@@ -1,5 +1,5 @@
 use Rattle.ion_tokens.specs.machine.Machines.{known}
-use Rattle.ion_tokens.proofs.GoesOn.{going_steady}
+use Rattle.ion_tokens.proofs.runs.GoesOn.{going_steady}
 use Rattle.ion_tokens.proofs.scanner.Scanner.go_on.Goals as goal
 
 pub returns-in-Ok-clause-steady : goal.returns-in-Ok-clause-steady

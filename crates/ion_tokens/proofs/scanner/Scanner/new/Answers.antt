@@ -1,5 +1,5 @@
-use Rattle.ion_tokens.proofs.Stepped.{begun_scanned}
-use Rattle.ion_tokens.proofs.Traced.{begins_traced}
+use Rattle.ion_tokens.proofs.histories.Stepped.{begun_scanned}
+use Rattle.ion_tokens.proofs.traces.Traced.{begins_traced}
 use Rattle.ion_tokens.proofs.scanner.Scanner.new.Goals as goal
 
 pub returns-clause-begins : goal.returns-clause-begins

@@ -10,15 +10,15 @@ use Rattle.ion_tokens.specs.machine.Scanned.{Scanned, Continues, Goes, GoesWith,
 use Rattle.ion_tokens.specs.machine.Steps.{Stepped, answered, stepped, Answers}
 use Rattle.ion_tokens.specs.machine.Scanning.{Known, run}
 use Rattle.ion_tokens.specs.machine.Machines.{known}
-use Rattle.ion_tokens.proofs.Runs.{run_between}
-use Rattle.ion_tokens.proofs.Causes.{answer_reason, run_fair}
-use Rattle.ion_tokens.proofs.Answered.{used_within, used_whole, refused_within}
-use Rattle.ion_tokens.proofs.Stepped.{step_goes, step_refuses}
+use Rattle.ion_tokens.proofs.runs.Runs.{run_between}
+use Rattle.ion_tokens.proofs.bounds.Causes.{answer_reason, run_fair}
+use Rattle.ion_tokens.proofs.runs.Answered.{used_within, used_whole, refused_within}
+use Rattle.ion_tokens.proofs.histories.Stepped.{step_goes, step_refuses}
 use Rattle.ion_tokens.specs.machine.Bounds.{debt}
 use Rattle.ion_tokens.specs.machine.Traces.{AnswersTrace}
-use Rattle.ion_tokens.proofs.Lendings.{step_lends}
-use Rattle.ion_tokens.proofs.Pending.{few_owed, fewer_owed, run_owes}
-use Rattle.ion_tokens.proofs.Traced.{step_traced, step_stops}
+use Rattle.ion_tokens.proofs.runs.Lendings.{step_lends}
+use Rattle.ion_tokens.proofs.bounds.Pending.{few_owed, fewer_owed, run_owes}
+use Rattle.ion_tokens.proofs.traces.Traced.{step_traced, step_stops}
 use Rattle.ion_tokens.proofs.scanner.Scanner.step.Goals as goal
 
 pub returns-in_default-result-clause-used : goal.returns-in_default-result-clause-used

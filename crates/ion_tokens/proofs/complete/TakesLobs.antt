@@ -1,0 +1,227 @@
+-- Clobs and blobs are read as they are spelled.
+use Rattle.std.proofs.Common.{◌≡◌, ◌≢◌, ℕ, ◌+◌, Bool, true, false, List, [], ◌∷◌, ◌++◌, refl, sym, ap, ◌∙◌, subst, arith, append_assoc, append-nil, cond}
+use Rattle.std.specs.Prelude.{◌||◌, not, codes, Some}
+use Rattle.std.specs.List.{flat_map, filter, AllByRecursion}
+use Rattle.std.proofs.lemmas.Bool.Decides.{nat_tests}
+use Rattle.ion_tokens.specs.Octets.{is_white, is_base64}
+use Rattle.ion_tokens.specs.declared.mode.Place.{Place}
+use Rattle.ion_tokens.specs.declared.mode.Within.{Within}
+use Rattle.ion_tokens.specs.declared.mode.Mode.{Mode}
+use Rattle.ion_tokens.specs.declared.mode.Lob.{Lob}
+use Rattle.ion_tokens.specs.declared.mode.Style.TheVariants as styles
+use Rattle.ion_tokens.specs.declared.mode.Within.TheVariants as within
+use Rattle.ion_tokens.specs.declared.mode.Mode.TheVariants as modes
+use Rattle.ion_tokens.specs.declared.mode.Lob.TheVariants as lobs
+use Rattle.ion_tokens.specs.declared.mode.TokenKind.TheVariants as kinds
+use Rattle.ion_tokens.specs.declared.mode.Keep.TheVariants as keeps
+use Rattle.ion_tokens.specs.declared.mode.Action.TheVariants as actions
+use Rattle.ion_tokens.specs.machine.Table.{in_text, in_lob, lob_start, after_short, after_long, is_name}
+use Rattle.ion_tokens.specs.Blobs.{IsBase64, blob_of}
+use Rattle.ion_tokens.specs.laws.Blobs.{octet_at}
+use Rattle.base64.specs.Engines.{standard}
+use Rattle.base64.specs.GeneralPurpose.{decode_of, decoded_of}
+use Rattle.std.specs.Result.{result_ok}
+use Rattle.base64.proofs.EngineFacts.{decode_of-encode_of}
+use Rattle.ion_tokens.specs.machine.Scanning.{follow, run, kept_after, blob_ends}
+use Rattle.ion_tokens.specs.Quoted.{IsQuoted}
+use Rattle.ion_tokens.specs.Lexemes.{Each, IsBlobContent, Segment, IsSegment, segment_spelling, IsClobContent, ShortText, LongTexts}
+use Rattle.ion_tokens.proofs.complete.Moves.{at, Moves, moves_none, moves_one, moves_then, moves_to, moves_past, Opens, opens_then, Takes, takes_now}
+use Rattle.ion_tokens.proofs.complete.TakesWords.{opens_brace}
+use Rattle.ion_tokens.proofs.complete.TakesTexts.{long_content, drops_two}
+use Rattle.ion_tokens.proofs.texts.TextsComplete.{Ended, read_content}
+
+abbrev lob : Lob → Mode
+lob l = modes.Lob l
+
+pub opens_lob : (p : Place) (colon : Bool) → is_name p ≡ false → Opens p colon (123 ∷ 123 ∷ []) (lob lobs.Start) []
+opens_lob p colon n = opens_then p colon (123 ∷ []) (123 ∷ []) modes.Brace (lob lobs.Start) [] [] (opens_brace p colon n) (moves_one p modes.Brace 123 [] (lob lobs.Start) keeps.Nothing (λ s u. refl) (λ c. refl))
+
+start_white : (o : ℕ) → is_white o ≡ true → lob_start o ≡ actions.Go (lob lobs.Start) keeps.Nothing
+start_white o h = rw h
+
+short_white : (o : ℕ) → is_white o ≡ true → after_short o ≡ actions.Go (lob lobs.AfterShort) keeps.Nothing
+short_white o h = rw h
+
+long_white : (o : ℕ) → is_white o ≡ true → after_long o ≡ actions.Go (lob lobs.AfterLong) keeps.Nothing
+long_white o h = rw h
+
+short_closes : (v : Within) → Ended v → in_text styles.ShortClob v 34 ≡ actions.Go (lob lobs.AfterShort) keeps.Nothing
+short_closes within.Plain h = refl
+short_closes within.AfterReturn h = refl
+short_closes within.OneQuote h = absurd h
+short_closes within.TwoQuotes h = absurd h
+short_closes (within.Utf8 _ _ _) h = absurd h
+short_closes within.Escape h = absurd h
+short_closes (within.Hexadecimal _ _ _) h = absurd h
+short_closes (within.HighSurrogate _) h = absurd h
+short_closes (within.HighSurrogateEscape _) h = absurd h
+
+-- a short clob's content up to the first brace of its close
+short_moves : (p : Place) (before text after octets : List ℕ) → Each is_white before → IsQuoted styles.ShortClob text octets → Each is_white after
+    → Moves p (lob lobs.Start) [] ((before ++ (34 ∷ text) ++ 34 ∷ after) ++ 125 ∷ []) (lob lobs.ClobClose) octets
+short_moves p before text after octets b q a =
+    let c = read_content p styles.ShortClob text octets [] q in
+    moves_then p (lob lobs.Start) (lob lobs.AfterShort) (lob lobs.ClobClose) ((before ++ (34 ∷ text)) ++ 34 ∷ after) (125 ∷ []) [] octets octets
+    (moves_then p (lob lobs.Start) (modes.Text styles.ShortClob c.0) (lob lobs.AfterShort) (before ++ (34 ∷ text)) (34 ∷ after) [] octets octets
+    (moves_then p (lob lobs.Start) (lob lobs.Start) (modes.Text styles.ShortClob c.0) before (34 ∷ text) [] [] octets
+    (moves_past p (lob lobs.Start) is_white before [] (λ s u. refl) (λ o h c. start_white o h) b)
+    (moves_then p (lob lobs.Start) (modes.Text styles.ShortClob within.Plain) (modes.Text styles.ShortClob c.0) (34 ∷ []) text [] [] octets
+    (moves_one p (lob lobs.Start) 34 [] (modes.Text styles.ShortClob within.Plain) keeps.Nothing (λ s u. refl) (λ c. refl)) c.2))
+    (moves_then p (modes.Text styles.ShortClob c.0) (lob lobs.AfterShort) (lob lobs.AfterShort) (34 ∷ []) after octets octets octets
+    (moves_one p (modes.Text styles.ShortClob c.0) 34 octets (lob lobs.AfterShort) keeps.Nothing (λ s u. refl) (λ b. short_closes c.0 c.1))
+    (moves_past p (lob lobs.AfterShort) is_white after octets (λ s u. refl) (λ o h c. short_white o h) a)))
+    (moves_one p (lob lobs.AfterShort) 125 octets (lob lobs.ClobClose) keeps.Nothing (λ s u. refl) (λ c. refl))
+
+-- where a segment of a long clob may begin
+abbrev Begins : Lob → Type 0
+Begins lobs.Start = Unit {0}
+Begins lobs.AfterLong = Unit {0}
+Begins _ = ⊥
+
+-- the quotes that open a segment
+three_quotes : (p : Place) (l : Lob) (kept : List ℕ) → Begins l → Moves p (lob l) kept (39 ∷ 39 ∷ 39 ∷ []) (modes.Text styles.LongClob within.Plain) kept
+three_quotes p lobs.Start kept b = λ colon start used r. let three : ((used + 1) + 1) + 1 ≡ used + 3 = omega arith in ap (λ (n : ℕ). run p r (at (modes.Text styles.LongClob within.Plain) kept colon start n)) three
+three_quotes p lobs.AfterLong kept b = λ colon start used r. let three : ((used + 1) + 1) + 1 ≡ used + 3 = omega arith in ap (λ (n : ℕ). run p r (at (modes.Text styles.LongClob within.Plain) kept colon start n)) three
+three_quotes p lobs.StartQuote kept b = absurd b
+three_quotes p lobs.StartQuotes kept b = absurd b
+three_quotes p lobs.Base64 kept b = absurd b
+three_quotes p lobs.BlobClose kept b = absurd b
+three_quotes p lobs.AfterShort kept b = absurd b
+three_quotes p lobs.AfterQuote kept b = absurd b
+three_quotes p lobs.AfterQuotes kept b = absurd b
+three_quotes p lobs.ClobClose kept b = absurd b
+
+segment_cut : (text white : List ℕ) → (39 ∷ 39 ∷ 39 ∷ []) ++ (((text ++ 39 ∷ 39 ∷ []) ++ 39 ∷ []) ++ white) ≡ codes "'''" ++ text ++ codes "'''" ++ white
+segment_cut text white = ap (λ l. 39 ∷ 39 ∷ 39 ∷ (l ++ white)) (append_assoc text (39 ∷ 39 ∷ []) (39 ∷ []))
+
+segment_moves : (p : Place) (l : Lob) (kept : List ℕ) (g : Segment) → Begins l → IsSegment g → Moves p (lob l) kept (segment_spelling g) (lob lobs.AfterLong) (kept ++ g.octets)
+segment_moves p l kept g b (q, w) =
+    let end : List ℕ = kept ++ g.octets in
+    let open_end : List ℕ = (end ++ 39 ∷ []) ++ 39 ∷ [] in
+    subst (λ os. Moves p (lob l) kept os (lob lobs.AfterLong) end) (segment_cut g.content g.white)
+    (moves_then p (lob l) (modes.Text styles.LongClob within.Plain) (lob lobs.AfterLong) (39 ∷ 39 ∷ 39 ∷ []) (((g.content ++ 39 ∷ 39 ∷ []) ++ 39 ∷ []) ++ g.white) kept kept end
+    (three_quotes p l kept b)
+    (moves_then p (modes.Text styles.LongClob within.Plain) (lob lobs.AfterLong) (lob lobs.AfterLong) ((g.content ++ 39 ∷ 39 ∷ []) ++ 39 ∷ []) g.white kept end end
+    (moves_then p (modes.Text styles.LongClob within.Plain) (modes.Text styles.LongClob within.TwoQuotes) (lob lobs.AfterLong) (g.content ++ 39 ∷ 39 ∷ []) (39 ∷ []) kept open_end end
+    (long_content p styles.LongClob g.content g.octets kept refl q)
+    (moves_to p (modes.Text styles.LongClob within.TwoQuotes) (lob lobs.AfterLong) (39 ∷ []) open_end (kept_after keeps.DropQuotes open_end) end (drops_two end 39 39)
+    (moves_one p (modes.Text styles.LongClob within.TwoQuotes) 39 open_end (lob lobs.AfterLong) keeps.DropQuotes (λ s u. refl) (λ c. refl))))
+    (moves_past p (lob lobs.AfterLong) is_white g.white end (λ s u. refl) (λ o h c. long_white o h) w)))
+
+segments_move : (p : Place) (l : Lob) (kept : List ℕ) (g : Segment) (gs : List Segment) → Begins l → IsSegment g → AllByRecursion IsSegment gs
+    → Moves p (lob l) kept (flat_map segment_spelling (g ∷ gs)) (lob lobs.AfterLong) (kept ++ flat_map (λ (s : Segment). s.octets) (g ∷ gs))
+segments_move p l kept g [] b h hs =
+    subst (λ os. Moves p (lob l) kept os (lob lobs.AfterLong) (kept ++ (g.octets ++ []))) (sym (append-nil (segment_spelling g)))
+    (moves_to p (lob l) (lob lobs.AfterLong) (segment_spelling g) kept (kept ++ g.octets) (kept ++ (g.octets ++ [])) (ap (λ x. kept ++ x) (sym (append-nil g.octets))) (segment_moves p l kept g b h))
+segments_move p l kept g (g' ∷ gs) b h hs =
+    let octets : Segment → List ℕ = λ (s : Segment). s.octets in
+    moves_to p (lob l) (lob lobs.AfterLong) (flat_map segment_spelling (g ∷ g' ∷ gs)) kept ((kept ++ g.octets) ++ flat_map octets (g' ∷ gs)) (kept ++ (g.octets ++ flat_map octets (g' ∷ gs))) (append_assoc kept g.octets (flat_map octets (g' ∷ gs)))
+    (moves_then p (lob l) (lob lobs.AfterLong) (lob lobs.AfterLong) (segment_spelling g) (flat_map segment_spelling (g' ∷ gs)) kept (kept ++ g.octets) ((kept ++ g.octets) ++ flat_map octets (g' ∷ gs))
+    (segment_moves p l kept g b h) (segments_move p lobs.AfterLong (kept ++ g.octets) g' gs tt hs.0 hs.1))
+
+long_moves : (p : Place) (before : List ℕ) (gs : List Segment) → Each is_white before → gs ≢ [] → AllByRecursion IsSegment gs
+    → Moves p (lob lobs.Start) [] ((before ++ flat_map segment_spelling gs) ++ 125 ∷ []) (lob lobs.ClobClose) (flat_map (λ (s : Segment). s.octets) gs)
+long_moves p before [] b some h = absurd (some refl)
+long_moves p before (g ∷ gs) b some h =
+    let octets : List ℕ = flat_map (λ (s : Segment). s.octets) (g ∷ gs) in
+    moves_then p (lob lobs.Start) (lob lobs.AfterLong) (lob lobs.ClobClose) (before ++ flat_map segment_spelling (g ∷ gs)) (125 ∷ []) [] octets octets
+    (moves_then p (lob lobs.Start) (lob lobs.Start) (lob lobs.AfterLong) before (flat_map segment_spelling (g ∷ gs)) [] [] octets
+    (moves_past p (lob lobs.Start) is_white before [] (λ s u. refl) (λ o h c. start_white o h) b)
+    (segments_move p lobs.Start [] g gs tt h.0 h.1))
+    (moves_one p (lob lobs.AfterLong) 125 octets (lob lobs.ClobClose) keeps.Nothing (λ s u. refl) (λ c. refl))
+
+clob_moves : (p : Place) (content octets : List ℕ) → IsClobContent content octets → Moves p (lob lobs.Start) [] (content ++ 125 ∷ []) (lob lobs.ClobClose) octets
+clob_moves p content octets (ShortText before text after b q a e) = subst (λ l. Moves p (lob lobs.Start) [] (l ++ 125 ∷ []) (lob lobs.ClobClose) octets) (sym e) (short_moves p before text after octets b q a)
+clob_moves p content octets (LongTexts before gs b some h e m) =
+    subst (λ l. Moves p (lob lobs.Start) [] (l ++ 125 ∷ []) (lob lobs.ClobClose) octets) (sym e) (subst (λ x. Moves p (lob lobs.Start) [] ((before ++ flat_map segment_spelling gs) ++ 125 ∷ []) (lob lobs.ClobClose) x) (sym m) (long_moves p before gs b some h))
+
+lob_cut : (content : List ℕ) → (123 ∷ 123 ∷ (content ++ 125 ∷ [])) ++ 125 ∷ [] ≡ codes "{{" ++ content ++ codes "}}"
+lob_cut content = ap (λ l. 123 ∷ 123 ∷ l) (append_assoc content (125 ∷ []) (125 ∷ []))
+
+pub takes_clob : (p : Place) (colon : Bool) (content octets r : List ℕ) → is_name p ≡ false → IsClobContent content octets → Takes p colon (codes "{{" ++ content ++ codes "}}") r kinds.Clob octets
+takes_clob p colon content octets r n h =
+    subst (λ l. Takes p colon l r kinds.Clob octets) (lob_cut content)
+    (takes_now p colon (123 ∷ 123 ∷ (content ++ 125 ∷ [])) 125 r kinds.Clob (lob lobs.ClobClose) octets keeps.Nothing (λ s u. refl)
+    (opens_then p colon (123 ∷ 123 ∷ []) (content ++ 125 ∷ []) (lob lobs.Start) (lob lobs.ClobClose) [] octets (opens_lob p colon n) (clob_moves p content octets h))
+    (λ c. refl))
+
+-- blobs
+abbrev AnyBlob : ℕ → Bool
+AnyBlob o = is_white o || is_base64 o
+
+solid : List ℕ → List ℕ
+solid os = filter (λ o. not (is_white o)) os
+
+base_first : (o : ℕ) → is_base64 o ≡ true → lob_start o ≡ actions.Go (lob lobs.Base64) (keeps.One o)
+base_first o h = grind (arith, nat_tests)
+
+base_more : (o : ℕ) → is_base64 o ≡ true → in_lob lobs.Base64 o ≡ actions.Go (lob lobs.Base64) (keeps.One o)
+base_more o h = grind (arith, nat_tests)
+
+base_white : (o : ℕ) → is_white o ≡ true → in_lob lobs.Base64 o ≡ actions.Go (lob lobs.Base64) keeps.Nothing
+base_white o h = rw h
+
+base_moves : (p : Place) (os kept : List ℕ) → Each AnyBlob os → Moves p (lob lobs.Base64) kept os (lob lobs.Base64) (kept ++ solid os)
+unfolding solid
+base_moves p [] kept h = moves_to p (lob lobs.Base64) (lob lobs.Base64) [] kept kept (kept ++ []) (sym (append-nil kept)) (moves_none p (lob lobs.Base64) kept)
+base_moves p (o ∷ os) kept h = by (is_white o) refl h.0 (λ k. base_moves p os k h.1) where
+  by : (b : Bool) → is_white o ≡ b → (b || is_base64 o) ≡ true → ((k : List ℕ) → Moves p (lob lobs.Base64) k os (lob lobs.Base64) (k ++ solid os)) → Moves p (lob lobs.Base64) kept (o ∷ os) (lob lobs.Base64) (kept ++ cond (not b) (o ∷ solid os) (solid os))
+  by true e g f = moves_then p (lob lobs.Base64) (lob lobs.Base64) (lob lobs.Base64) (o ∷ []) os kept kept (kept ++ solid os)
+      (moves_one p (lob lobs.Base64) o kept (lob lobs.Base64) keeps.Nothing (λ s u. refl) (λ c. base_white o e)) (f kept)
+  by false e g f = moves_to p (lob lobs.Base64) (lob lobs.Base64) (o ∷ os) kept ((kept ++ o ∷ []) ++ solid os) (kept ++ o ∷ solid os) (append_assoc kept (o ∷ []) (solid os))
+      (moves_then p (lob lobs.Base64) (lob lobs.Base64) (lob lobs.Base64) (o ∷ []) os kept (kept ++ o ∷ []) ((kept ++ o ∷ []) ++ solid os)
+      (moves_one p (lob lobs.Base64) o kept (lob lobs.Base64) (keeps.One o) (λ s u. refl) (λ c. base_more o g)) (f (kept ++ o ∷ [])))
+
+-- where a blob may end
+abbrev LobEnds : Lob → Type 0
+LobEnds lobs.Start = Unit {0}
+LobEnds lobs.Base64 = Unit {0}
+LobEnds _ = ⊥
+
+abbrev ToEnd : Place → List ℕ → List ℕ → Type 0
+ToEnd p os kept = (l : Lob) × LobEnds l × Moves p (lob lobs.Start) [] os (lob l) kept
+
+start_moves : (p : Place) (os : List ℕ) → Each AnyBlob os → ToEnd p os (solid os)
+unfolding solid
+start_moves p [] h = (lobs.Start, tt, moves_none p (lob lobs.Start) [])
+start_moves p (o ∷ os) h = by (is_white o) refl h.0 (start_moves p os h.1) where
+  by : (b : Bool) → is_white o ≡ b → (b || is_base64 o) ≡ true → ToEnd p os (solid os) → ToEnd p (o ∷ os) (cond (not b) (o ∷ solid os) (solid os))
+  by true e g m = (
+    m.0,
+    m.1,
+    moves_then p (lob lobs.Start) (lob lobs.Start) (lob m.0) (o ∷ []) os [] [] (solid os)
+        (moves_one p (lob lobs.Start) o [] (lob lobs.Start) keeps.Nothing (λ s u. refl) (λ c. start_white o e)) m.2,
+  )
+  by false e g m = (
+    lobs.Base64,
+    tt,
+    moves_then p (lob lobs.Start) (lob lobs.Base64) (lob lobs.Base64) (o ∷ []) os [] (o ∷ []) (o ∷ solid os)
+        (moves_one p (lob lobs.Start) o [] (lob lobs.Base64) (keeps.One o) (λ s u. refl) (λ c. base_first o g)) (base_moves p os (o ∷ []) h.1),
+  )
+
+blob_closes : (p : Place) (l : Lob) (kept octets : List ℕ) → LobEnds l → blob_of kept ≡ Some octets → Moves p (lob l) kept (125 ∷ []) (lob lobs.BlobClose) octets
+blob_closes p lobs.Start kept octets h e = λ colon start used r. ap (λ x. follow (blob_ends (at (lob lobs.Start) kept colon start used) x) (λ t. run p r t)) e
+blob_closes p lobs.Base64 kept octets h e = λ colon start used r. ap (λ x. follow (blob_ends (at (lob lobs.Base64) kept colon start used) x) (λ t. run p r t)) e
+blob_closes p lobs.StartQuote kept octets h e = absurd h
+blob_closes p lobs.StartQuotes kept octets h e = absurd h
+blob_closes p lobs.BlobClose kept octets h e = absurd h
+blob_closes p lobs.AfterShort kept octets h e = absurd h
+blob_closes p lobs.AfterLong kept octets h e = absurd h
+blob_closes p lobs.AfterQuote kept octets h e = absurd h
+blob_closes p lobs.AfterQuotes kept octets h e = absurd h
+blob_closes p lobs.ClobClose kept octets h e = absurd h
+
+-- RFC 4648's text of octets decodes to them
+pub blob_known : (text octets : List ℕ) → IsBase64 text octets → blob_of text ≡ Some octets
+unfolding blob_of decoded_of
+blob_known text octets h = ap result_ok (ap (decode_of standard) h.spelled ∙ decode_of-encode_of standard octets refl (octet_at octets h.octets_are))
+
+pub takes_blob : (p : Place) (colon : Bool) (content octets r : List ℕ) → is_name p ≡ false → IsBlobContent content octets → Takes p colon (codes "{{" ++ content ++ codes "}}") r kinds.Blob octets
+unfolding solid
+takes_blob p colon content octets r n h =
+    let m = start_moves p content h.0 in
+    subst (λ l. Takes p colon l r kinds.Blob octets) (lob_cut content)
+    (takes_now p colon (123 ∷ 123 ∷ (content ++ 125 ∷ [])) 125 r kinds.Blob (lob lobs.BlobClose) octets keeps.Nothing (λ s u. refl)
+    (opens_then p colon (123 ∷ 123 ∷ []) (content ++ 125 ∷ []) (lob lobs.Start) (lob lobs.BlobClose) [] octets (opens_lob p colon n)
+    (moves_then p (lob lobs.Start) (lob m.0) (lob lobs.BlobClose) content (125 ∷ []) [] (solid content) octets m.2 (blob_closes p m.0 (solid content) octets m.1 (blob_known (solid content) octets h.1))))
+    (λ c. refl))

@@ -1,0 +1,185 @@
+-- Strings, quoted symbols, clobs and blobs are read as they are spelled.
+use Rattle.std.proofs.Common.{◌≡◌, ◌≢◌, ℕ, ◌-◌, ⊎_elim, Bool, true, false, List, [], ◌∷◌, ◌++◌, length, refl, sym, ap, ◌∙◌, subst, arith, append_assoc, length-append, cond}
+use Rattle.std.specs.Prelude.{◌==◌, codes, take}
+use Rattle.std.specs.List.{flat_map, AllByRecursion}
+use Rattle.std.proofs.lemmas.Bool.{false≢true}
+use Rattle.std.proofs.lemmas.Bool.Decides.{nat_tests}
+use lib.Utf8.{encode, scalar_cases}
+use Rattle.std.proofs.Math.Seq.{take-append_seam}
+use Rattle.ion_tokens.proofs.texts.Encodings.{Encoding, one_octet, two_octets, three_octets, four_octets, encoding}
+use Rattle.ion_tokens.specs.declared.mode.Place.{Place}
+use Rattle.ion_tokens.specs.declared.mode.Style.{Style}
+use Rattle.ion_tokens.specs.declared.mode.Within.{Within}
+use Rattle.ion_tokens.specs.declared.mode.Style.TheVariants as styles
+use Rattle.ion_tokens.specs.declared.mode.Within.TheVariants as within
+use Rattle.ion_tokens.specs.declared.mode.Mode.TheVariants as modes
+use Rattle.ion_tokens.specs.declared.mode.TokenKind.TheVariants as kinds
+use Rattle.ion_tokens.specs.declared.mode.Keep.TheVariants as keeps
+use Rattle.ion_tokens.specs.declared.mode.Action.TheVariants as actions
+use Rattle.ion_tokens.specs.machine.Table.{next, in_text, raw, is_long, go}
+use Rattle.ion_tokens.specs.declared.mode.Action.{Action}
+use Rattle.ion_tokens.specs.machine.Scanning.{Known, Outcome, acts, follow, run, kept_after}
+use Rattle.ion_tokens.specs.Quoted.{IsQuoted, Element, Raw, RawLine, Simple, Hidden, Hex, Pair, IsElement, spelling, LineEnd, Lf, Cr, CrLf}
+use Rattle.ion_tokens.specs.Lexemes.{begins}
+use Rattle.ion_tokens.proofs.complete.Moves.{at, Moves, moves_one, moves_then, Opens, opens_one, opens_then, Takes, takes_now, takes_left, takes_end}
+use Rattle.ion_tokens.proofs.texts.TextSteps.{raw_quote}
+use Rattle.ion_tokens.proofs.texts.TextElements.{GoesInText}
+use Rattle.ion_tokens.proofs.texts.TextsComplete.{Ended, read_content}
+
+-- short strings
+short_close : (v : Within) → Ended v → in_text styles.ShortString v 34 ≡ actions.Give kinds.ShortString keeps.Nothing
+short_close within.Plain h = refl
+short_close within.AfterReturn h = refl
+short_close within.OneQuote h = absurd h
+short_close within.TwoQuotes h = absurd h
+short_close (within.Utf8 _ _ _) h = absurd h
+short_close within.Escape h = absurd h
+short_close (within.Hexadecimal _ _ _) h = absurd h
+short_close (within.HighSurrogate _) h = absurd h
+short_close (within.HighSurrogateEscape _) h = absurd h
+
+pub takes_short : (p : Place) (colon : Bool) (content octets r : List ℕ) → IsQuoted styles.ShortString content octets → Takes p colon ((34 ∷ content) ++ 34 ∷ []) r kinds.ShortString octets
+takes_short p colon content octets r q =
+    let c = read_content p styles.ShortString content octets [] q in
+    takes_now p colon (34 ∷ content) 34 r kinds.ShortString (modes.Text styles.ShortString c.0) octets keeps.Nothing (λ s u. refl)
+    (opens_then p colon (34 ∷ []) content (modes.Text styles.ShortString within.Plain) (modes.Text styles.ShortString c.0) [] octets
+    (opens_one p colon 34 (modes.Text styles.ShortString within.Plain) keeps.Nothing refl) c.2)
+    (λ b. short_close c.0 c.1)
+
+-- quoted symbols
+symbol_close : (v : Within) → Ended v → in_text styles.QuotedSymbol v 39 ≡ actions.Give kinds.QuotedSymbol keeps.Nothing
+symbol_close within.Plain h = refl
+symbol_close within.AfterReturn h = refl
+symbol_close within.OneQuote h = absurd h
+symbol_close within.TwoQuotes h = absurd h
+symbol_close (within.Utf8 _ _ _) h = absurd h
+symbol_close within.Escape h = absurd h
+symbol_close (within.Hexadecimal _ _ _) h = absurd h
+symbol_close (within.HighSurrogate _) h = absurd h
+symbol_close (within.HighSurrogateEscape _) h = absurd h
+
+pub opens_quote : (p : Place) (colon : Bool) → Opens p colon (39 ∷ []) modes.Quote []
+opens_quote p colon = opens_one p colon 39 modes.Quote keeps.Nothing refl
+
+-- the first octet between the quotes isn't a quote
+abbrev pub BeginsOther : List ℕ → Type 0
+BeginsOther [] = Unit {0}
+BeginsOther (o ∷ os) = o ≢ 39
+
+begins_front : (xs ys : List ℕ) → xs ≢ [] → BeginsOther xs → BeginsOther (xs ++ ys)
+begins_front [] ys n h = absurd (n refl)
+begins_front (x ∷ xs) ys n h = h
+
+raw_other : (c : ℕ) → c ≢ 39 → Encoding c → (encode c ≢ []) × BeginsOther (encode c)
+raw_other c n (one_octet l e) = rw e ((λ f. cc), n)
+raw_other c n (two_octets x y l u f t e) = rw e ((λ f. cc), (λ i. omega arith))
+raw_other c n (three_octets x y z l u f g t e) = rw e ((λ f. cc), (λ i. omega arith))
+raw_other c n (four_octets x y z v l u f g h t e) = rw e ((λ f. cc), (λ i. omega arith))
+
+element_other : (e : Element) → IsElement styles.QuotedSymbol e → (spelling e ≢ []) × BeginsOther (spelling e)
+element_other (Raw c) i = raw_other c (⊎_elim (λ l. absurd (false≢true l)) (λ n. n) i.2) (encoding c (scalar_cases c i.0))
+element_other (RawLine e) i = absurd (false≢true i)
+element_other (Simple letter o) i = ((λ f. cc), (λ i. omega arith))
+element_other (Hidden Lf) i = ((λ f. cc), (λ i. omega arith))
+element_other (Hidden Cr) i = ((λ f. cc), (λ i. omega arith))
+element_other (Hidden CrLf) i = ((λ f. cc), (λ i. omega arith))
+element_other (Hex letter os c) i = ((λ f. cc), (λ i. omega arith))
+element_other (Pair first second high low) i = ((λ f. cc), (λ i. omega arith))
+
+elements_other : (es : List Element) → AllByRecursion (IsElement styles.QuotedSymbol) es → BeginsOther (flat_map spelling es)
+elements_other [] h = tt
+elements_other (e ∷ es) h = let o = element_other e h.0 in begins_front (spelling e) (flat_map spelling es) o.0 o.1
+
+-- behind the first quote a text that isn't empty is read as between quotes
+no_quote : (o : ℕ) → o ≢ 39 → (o == 39) ≡ false
+no_quote o n = grind (arith, nat_tests)
+
+same_quote : (p : Place) (colon : Bool) (start used o : ℕ) (f : Known → Outcome) (a : Action) → follow (acts p (at modes.Quote [] colon start used) o a) f ≡ follow (acts p (at (modes.Text styles.QuotedSymbol within.Plain) [] colon start used) o a) f
+same_quote p colon start used o f (actions.Go m k) = refl
+same_quote p colon start used o f (actions.Give kind k) = refl
+same_quote p colon start used o f (actions.Before kind k m) = refl
+same_quote p colon start used o f actions.EndWord = refl
+same_quote p colon start used o f (actions.Split n) = refl
+same_quote p colon start used o f actions.EndBlob = refl
+same_quote p colon start used o f (actions.Refuse e) = refl
+
+pub from_quote : (p : Place) (content octets : List ℕ) (v : Within) → content ≢ [] → BeginsOther content → GoesInText p styles.QuotedSymbol within.Plain [] content v octets → Moves p modes.Quote [] content (modes.Text styles.QuotedSymbol v) octets
+from_quote p [] octets v some other f = absurd (some refl)
+from_quote p (o ∷ os) octets v some other f = λ colon start used r.
+    ap (λ b. follow (acts p (at modes.Quote [] colon start used) o (cond b (go modes.Quotes) (raw styles.QuotedSymbol o))) (λ t. run p (os ++ r) t)) (no_quote o other)
+    ∙ same_quote p colon start used o (λ t. run p (os ++ r) t) (raw styles.QuotedSymbol o) ∙ f colon start used r
+
+quotes_end : (x : ℕ) → (x == 39) ≡ false → (c : Bool) (p : Place) → next p c modes.Quotes x ≡ actions.Before kinds.QuotedSymbol keeps.Nothing modes.Blank
+quotes_end x h c p = rw h
+
+opens_quotes : (p : Place) (colon : Bool) → Opens p colon (39 ∷ 39 ∷ []) modes.Quotes []
+opens_quotes p colon = opens_then p colon (39 ∷ []) (39 ∷ []) modes.Quote modes.Quotes [] [] (opens_quote p colon) (moves_one p modes.Quote 39 [] modes.Quotes keeps.Nothing (λ s u. refl) (λ c. refl))
+
+takes_empty : (p : Place) (colon : Bool) (r : List ℕ) → begins (λ o. o == 39) r ≡ false → Takes p colon (39 ∷ 39 ∷ []) r kinds.QuotedSymbol []
+takes_empty p colon [] h = takes_end p colon (39 ∷ 39 ∷ []) kinds.QuotedSymbol modes.Quotes [] [] (opens_quotes p colon) (λ start used. refl)
+takes_empty p colon (x ∷ r) h = takes_left p colon (39 ∷ 39 ∷ []) x r kinds.QuotedSymbol modes.Quotes [] keeps.Nothing (λ s u. refl) (opens_quotes p colon) (λ c. quotes_end x h c p)
+
+no_octets : (octets : List ℕ) → IsQuoted styles.QuotedSymbol [] octets → octets ≡ []
+no_octets octets q = by q.elements q.each q.spelled q.means where
+  front : (e : Element) (es : List Element) → spelling e ≢ [] → [] ≡ spelling e ++ flat_map spelling es → ⊥
+  front e es n h = at (spelling e) n h where
+    at : (xs : List ℕ) → xs ≢ [] → [] ≡ xs ++ flat_map spelling es → ⊥
+    at [] n h = n refl
+    at (x ∷ xs) n h = cc
+
+  by : (es : List Element) → AllByRecursion (IsElement styles.QuotedSymbol) es → [] ≡ flat_map spelling es → octets ≡ flat_map (Rattle.ion_tokens.specs.Quoted.meaning styles.QuotedSymbol) es → octets ≡ []
+  by [] h s m = m
+  by (e ∷ es) h s m = absurd (front e es (element_other e h.0).0 s)
+
+pub takes_symbol : (p : Place) (colon : Bool) (content octets r : List ℕ) → IsQuoted styles.QuotedSymbol content octets → (content ≡ [] → begins (λ o. o == 39) r ≡ false) → Takes p colon ((39 ∷ content) ++ 39 ∷ []) r kinds.QuotedSymbol octets
+takes_symbol p colon [] octets r q h = subst (λ l. Takes p colon (39 ∷ 39 ∷ []) r kinds.QuotedSymbol l) (sym (no_octets octets q)) (takes_empty p colon r (h refl))
+takes_symbol p colon (x ∷ content) octets r q h =
+    let c = read_content p styles.QuotedSymbol (x ∷ content) octets [] q in
+    let P : List ℕ → Type 0 = BeginsOther in
+    takes_now p colon (39 ∷ x ∷ content) 39 r kinds.QuotedSymbol (modes.Text styles.QuotedSymbol c.0) octets keeps.Nothing (λ s u. refl)
+    (opens_then p colon (39 ∷ []) (x ∷ content) modes.Quote (modes.Text styles.QuotedSymbol c.0) [] octets (opens_quote p colon)
+    (from_quote p (x ∷ content) octets c.0 (λ f. cc) (subst P (sym q.spelled) (elements_other q.elements q.each)) c.2))
+    (λ b. symbol_close c.0 c.1)
+
+-- long strings
+ended_quote : (s : Style) (v : Within) → is_long s ≡ true → Ended v → in_text s v 39 ≡ actions.Go (modes.Text s within.OneQuote) (keeps.One 39)
+ended_quote s within.Plain l h = raw_quote s l
+ended_quote s within.AfterReturn l h = raw_quote s l
+ended_quote s within.OneQuote l h = absurd h
+ended_quote s within.TwoQuotes l h = absurd h
+ended_quote s (within.Utf8 _ _ _) l h = absurd h
+ended_quote s within.Escape l h = absurd h
+ended_quote s (within.Hexadecimal _ _ _) l h = absurd h
+ended_quote s (within.HighSurrogate _) l h = absurd h
+ended_quote s (within.HighSurrogateEscape _) l h = absurd h
+
+-- the content of a long text and two of the quotes that close it
+pub long_content : (p : Place) (s : Style) (content octets kept : List ℕ) → is_long s ≡ true → IsQuoted s content octets
+    → Moves p (modes.Text s within.Plain) kept (content ++ 39 ∷ 39 ∷ []) (modes.Text s within.TwoQuotes) (((kept ++ octets) ++ 39 ∷ []) ++ 39 ∷ [])
+long_content p s content octets kept l q =
+    let c = read_content p s content octets kept q in
+    moves_then p (modes.Text s within.Plain) (modes.Text s c.0) (modes.Text s within.TwoQuotes) content (39 ∷ 39 ∷ []) kept (kept ++ octets) (((kept ++ octets) ++ 39 ∷ []) ++ 39 ∷ []) c.2
+    (moves_then p (modes.Text s c.0) (modes.Text s within.OneQuote) (modes.Text s within.TwoQuotes) (39 ∷ []) (39 ∷ []) (kept ++ octets) ((kept ++ octets) ++ 39 ∷ []) (((kept ++ octets) ++ 39 ∷ []) ++ 39 ∷ [])
+    (moves_one p (modes.Text s c.0) 39 (kept ++ octets) (modes.Text s within.OneQuote) (keeps.One 39) (λ a b. refl) (λ b. ended_quote s c.0 l c.1))
+    (moves_one p (modes.Text s within.OneQuote) 39 ((kept ++ octets) ++ 39 ∷ []) (modes.Text s within.TwoQuotes) (keeps.One 39) (λ a b. refl) (λ b. refl)))
+
+pub drops_two : (k : List ℕ) (a b : ℕ) → kept_after keeps.DropQuotes ((k ++ a ∷ []) ++ b ∷ []) ≡ k
+drops_two k a b =
+    let size : length ((k ++ a ∷ []) ++ b ∷ []) - 2 ≡ length k = omega (arith, length-append (k ++ a ∷ []) (b ∷ []), length-append k (a ∷ [])) in
+    ap (λ (n : ℕ). take n ((k ++ a ∷ []) ++ b ∷ [])) size ∙ ap (take (length k)) (append_assoc k (a ∷ []) (b ∷ [])) ∙ take-append_seam k (a ∷ b ∷ [])
+
+opens_long : (p : Place) (colon : Bool) → Opens p colon (39 ∷ 39 ∷ 39 ∷ []) (modes.Text styles.LongString within.Plain) []
+opens_long p colon = opens_then p colon (39 ∷ 39 ∷ []) (39 ∷ []) modes.Quotes (modes.Text styles.LongString within.Plain) [] [] (opens_quotes p colon)
+    (moves_one p modes.Quotes 39 [] (modes.Text styles.LongString within.Plain) keeps.Nothing (λ s u. refl) (λ c. refl))
+
+long_cut : (content : List ℕ) → (39 ∷ 39 ∷ 39 ∷ (content ++ 39 ∷ 39 ∷ [])) ++ 39 ∷ [] ≡ codes "'''" ++ content ++ codes "'''"
+long_cut content = ap (λ l. 39 ∷ 39 ∷ 39 ∷ l) (append_assoc content (39 ∷ 39 ∷ []) (39 ∷ []))
+
+pub takes_long : (p : Place) (colon : Bool) (content octets r : List ℕ) → IsQuoted styles.LongString content octets → Takes p colon (codes "'''" ++ content ++ codes "'''") r kinds.LongString octets
+takes_long p colon content octets r q =
+    subst (λ l. Takes p colon l r kinds.LongString octets) (long_cut content)
+    (subst (λ l. Takes p colon ((39 ∷ 39 ∷ 39 ∷ (content ++ 39 ∷ 39 ∷ [])) ++ 39 ∷ []) r kinds.LongString l) (drops_two octets 39 39)
+    (takes_now p colon (39 ∷ 39 ∷ 39 ∷ (content ++ 39 ∷ 39 ∷ [])) 39 r kinds.LongString (modes.Text styles.LongString within.TwoQuotes) ((octets ++ 39 ∷ []) ++ 39 ∷ []) keeps.DropQuotes (λ s u. refl)
+    (opens_then p colon (39 ∷ 39 ∷ 39 ∷ []) (content ++ 39 ∷ 39 ∷ []) (modes.Text styles.LongString within.Plain) (modes.Text styles.LongString within.TwoQuotes) [] ((octets ++ 39 ∷ []) ++ 39 ∷ []) (opens_long p colon)
+    (long_content p styles.LongString content octets [] refl q))
+    (λ b. refl)))

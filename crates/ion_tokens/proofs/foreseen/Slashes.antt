@@ -1,0 +1,200 @@
+-- A `/` behind a number or a run of operator characters: another one makes a comment of it, unless no document goes on so.
+use Rattle.std.proofs.Common.{◌≡◌, ℕ, ◌-◌, ◌⊎◌, inl, inr, Bool, true, false, cond, List, [], ◌∷◌, ◌++◌, refl, sym, ap, ◌∙◌, subst, append_assoc}
+use Rattle.std.specs.Prelude.{◌==◌, ◌||◌, not, codes, Option, Some, None, Result, Ok, Err}
+use Rattle.std.specs.List.{list_any}
+use Rattle.std.proofs.lemmas.Bool.{true≢false, false≢true}
+use Rattle.ion_atoms.specs.declared.refusal.Reason.{Reason}
+use Rattle.ion_tokens.specs.declared.mode.Place.{Place}
+use Rattle.ion_tokens.specs.declared.mode.Mode.{Mode}
+use Rattle.ion_tokens.specs.declared.mode.Mode.TheVariants as modes
+use Rattle.ion_tokens.specs.declared.mode.TokenKind.{TokenKind}
+use Rattle.ion_tokens.specs.declared.mode.TokenKind.TheVariants as kinds
+use Rattle.ion_tokens.specs.declared.mode.Keep.TheVariants as keeps
+use Rattle.ion_tokens.specs.declared.mode.Action.TheVariants as actions
+use Rattle.ion_tokens.specs.Octets.{is_stop}
+use Rattle.ion_tokens.specs.machine.Table.{next, end_of, in_number, in_number_slash, add, go, before}
+use Rattle.ion_tokens.specs.machine.Views.{behind}
+use Rattle.ion_tokens.specs.machine.Scanning.{Known, Outcome, Next, Given, Left, Refused, cut, past, go_to, start_of, acts, feed, follow, run, ends_at}
+use Rattle.ion_tokens.specs.Lexemes.{Each, IsLexeme, Lexeme}
+use Rattle.ion_tokens.specs.Lexed.{Placed, Lexes, LooksIn, Passes}
+use Rattle.ion_tokens.specs.machine.Told.{Stands, Leaved}
+use Rattle.ion_tokens.specs.machine.Scanned.{Scanned}
+use Rattle.ion_tokens.proofs.complete.Found.{Finds, Nothing, Last, Gives, Leaves, Unclosed}
+use Rattle.ion_tokens.proofs.runs.Runs.{next_used}
+use Rattle.ion_tokens.proofs.complete.Wholes.{run_behind}
+use Rattle.ion_tokens.proofs.histories.Histories.{stands_finds}
+use Rattle.ion_tokens.proofs.sound.Told.{ends_in_blank}
+use Rattle.ion_tokens.proofs.histories.Stepped.{all_since, pass_more}
+
+abbrev has_slash : List ℕ → Bool
+has_slash w = list_any (λ o. o == 47) w
+
+has_longer : (w r : List ℕ) → has_slash w ≡ true → has_slash (w ++ r) ≡ true
+has_longer [] r h = absurd (false≢true h)
+has_longer (o ∷ w) r h = by (o == 47) h (has_longer w r) where
+  by : (b : Bool) → (b || has_slash w) ≡ true → (has_slash w ≡ true → has_slash (w ++ r) ≡ true) → (b || has_slash (w ++ r)) ≡ true
+  by true h f = refl
+  by false h f = f h
+
+abbrev in_numeric : Mode → Bool
+in_numeric modes.Number = true
+in_numeric modes.NumberSlash = true
+in_numeric _ = false
+
+-- a numeric token in which a `/` stands goes on, or has ended
+unfoldable Slashed : Outcome → Type 0
+Slashed (Next s) = (in_numeric s.mode ≡ true) × (has_slash s.kept ≡ true)
+Slashed (Given l s) = ⊥
+Slashed (Left l s) = (l.kind ≡ kinds.Number) × (has_slash l.octets ≡ true)
+Slashed (Refused n e) = Unit {0}
+
+module _ (p : Place) (s : Known) (o : ℕ) (has : has_slash s.kept ≡ true) where
+  number_slashed : Slashed (acts p s o (in_number o))
+  unfolding Slashed
+  number_slashed = by (is_stop o) (o == 47) where
+    by : (b c : Bool) → Slashed (acts p s o (cond b (before kinds.Number) (cond c (go modes.NumberSlash) (add modes.Number o))))
+    by true c = (refl, has)
+    by false true = (refl, has)
+    by false false = (refl, has_longer s.kept (o ∷ []) has)
+
+  number_slash_slashed : Slashed (acts p s o (in_number_slash o))
+  unfolding Slashed
+  number_slash_slashed = by ((o == 47) || (o == 42)) (is_stop o) where
+    by : (b c : Bool) → Slashed (acts p s o (cond b (actions.Before kinds.Number keeps.Nothing modes.Slash) (cond c (actions.Before kinds.Number (keeps.One 47) modes.Blank) (actions.Go modes.Number (keeps.Two 47 o)))))
+    by true c = (refl, has)
+    by false true = (refl, has_longer s.kept (47 ∷ []) has)
+    by false false = (refl, has_longer (s.kept ++ 47 ∷ []) (o ∷ []) (has_longer s.kept (47 ∷ []) has))
+
+  mode_slashed : (m : Mode) → in_numeric m ≡ true → Slashed (acts p s o (next p s.colon m o))
+  mode_slashed modes.Number h = number_slashed
+  mode_slashed modes.NumberSlash h = number_slash_slashed
+  mode_slashed _ h = cc
+
+follow_slashed : (x : Outcome) (f : Known → Outcome) → Slashed x → ((s : Known) → Slashed (Next s) → Slashed (f s)) → Slashed (follow x f)
+follow_slashed (Next s) f h k = k s h
+follow_slashed (Given l s) f h k = h
+follow_slashed (Left l s) f h k = h
+follow_slashed (Refused n e) f h k = h
+
+run_slashed : (p : Place) (os : List ℕ) (s : Known) → Slashed (Next s) → Slashed (run p os s)
+unfolding Slashed
+run_slashed p [] s h = h
+run_slashed p (o ∷ os) s h = follow_slashed (feed p s o) (λ t. run p os t) (mode_slashed p s o h.1 s.mode h.0) (λ t k. run_slashed p os t k)
+
+-- at the end of the input too
+abbrev EndSlashed : Result (Option Lexeme) Reason → Type 0
+EndSlashed (Ok None) = ⊥
+EndSlashed (Ok (Some l)) = (l.kind ≡ kinds.Number) × (has_slash l.octets ≡ true)
+EndSlashed (Err e) = ⊥
+
+end_slashed : (s : Known) (p : Place) (m : Mode) → in_numeric m ≡ true → has_slash s.kept ≡ true → EndSlashed (ends_at s (end_of p m))
+end_slashed s p modes.Number h has = (refl, has)
+end_slashed s p modes.NumberSlash h has = (refl, has_longer s.kept (47 ∷ []) has)
+end_slashed s p _ h has = cc
+
+-- the next token is a number in which a `/` stands
+abbrev NextSlashed : List Placed → Type 0
+NextSlashed [] = ⊥
+NextSlashed (t ∷ ts) = (t.lexeme.kind ≡ kinds.Number) × (has_slash t.lexeme.octets ≡ true)
+
+finds_slashed : (p : Place) (s0 s : Known) (octets rest : List ℕ) → run p octets s0 ≡ Next s → Slashed (Next s) → (others : List Placed) → LooksIn p others → Finds s0 (octets ++ rest) others → NextSlashed others
+unfolding Slashed
+finds_slashed p s0 s octets rest ran slashed others looks found = by others looks found where
+  comes : (q : Place) (x : Outcome) → q ≡ p → run q (octets ++ rest) s0 ≡ x → Slashed x
+  comes q x e f = subst (λ y. Slashed y) (sym (run_behind p octets rest s0 s ran) ∙ ap (λ q'. run q' (octets ++ rest) s0) (sym e) ∙ f) (run_slashed p rest s slashed)
+
+  by : (others : List Placed) → LooksIn p others → Finds s0 (octets ++ rest) others → NextSlashed others
+  by [] looks (Nothing _ _ f) =
+      let (s', e, none) = f p in
+      let (number, has) = comes p (Next s') refl e in
+      subst (λ x. EndSlashed x) none (end_slashed s' p s'.mode number has)
+  by (t ∷ ts) looks (Last _ _ _ s' e f) =
+      let (number, has) = comes t.place (Next s') looks e in
+      subst (λ x. EndSlashed x) f (end_slashed s' t.place s'.mode number has)
+  by (t ∷ ts) looks (Gives _ _ _ _ s' e f) = absurd (comes t.place (Given t.lexeme s') looks e)
+  by (t ∷ ts) looks (Leaves _ _ _ _ s' e f) = comes t.place (Left t.lexeme s') looks e
+  by (t ∷ ts) looks (Unclosed _ _ _ _ s' _ _ m e f _ _ _) =
+      let (number, has) = comes t.place (Next s') looks e in
+      absurd (subst (λ x. EndSlashed x) f (end_slashed s' t.place s'.mode number has))
+
+-- no number has a `/`
+without_slash : (w : List ℕ) → Each (λ o. not (is_stop o || (o == 47))) w → has_slash w ≡ false
+without_slash [] h = refl
+without_slash (o ∷ w) h = by (is_stop o) (o == 47) h.0 (without_slash w h.1) where
+  by : (b c : Bool) → not (b || c) ≡ true → has_slash w ≡ false → (c || has_slash w) ≡ false
+  by true c h f = absurd (false≢true h)
+  by false true h f = absurd (false≢true h)
+  by false false h f = f
+
+not_slashed : (ts others : List Placed) (colon : Bool) (k : ℕ) (octets : List ℕ) → Lexes colon k octets (ts ++ others) → NextSlashed others → ⊥
+not_slashed [] [] colon k octets lexes slashed = slashed
+not_slashed [] (t ∷ others) colon k octets (rest, b, more) (number, has) =
+    let is : IsLexeme t.place colon b.token rest kinds.Number t.lexeme.octets = subst (λ kind. IsLexeme t.place colon b.token rest kind t.lexeme.octets) number b.is in
+    true≢false (sym has ∙ ap has_slash is.0 ∙ without_slash b.token is.2.each)
+not_slashed (t ∷ ts) others colon k octets (rest, b, more) slashed = not_slashed ts others _ t.lexeme.end rest more slashed
+
+-- the kind of the token that the `/` is behind
+abbrev kind_behind : Mode → TokenKind
+kind_behind modes.NumberSlash = kinds.Number
+kind_behind _ = kinds.Operator
+
+slash_ends : (p : Place) (colon : Bool) (m : Mode) → behind m ≡ 1 → next p colon m 47 ≡ actions.Before (kind_behind m) keeps.Nothing modes.Slash
+slash_ends p colon modes.NumberSlash h = refl
+slash_ends p colon modes.OperatorSlash h = refl
+slash_ends p colon _ h = cc
+
+-- the octets but for the last one are a token, and it begins a comment
+pub record EndsBeforeComment (p : Place) (s : Known) (u : List ℕ) (ts : List Placed) : Type 0 where
+  pub lexeme : Lexeme
+  pub start : lexeme.start ≡ start_of s.mode s.start s.used
+  pub end : lexeme.end ≡ s.used - 1
+  pub lexes : Lexes false 0 (u ++ codes "/") (ts ++ record { place = p; lexeme = lexeme } ∷ [])
+
+module _ (p : Place) (s : Known) (u : List ℕ) (ts : List Placed) (h : Scanned p s u ts []) (one : behind s.mode ≡ 1) where
+  abbrev kind : TokenKind
+  kind = kind_behind s.mode
+
+  abbrev token : Placed
+  token = record { place = p; lexeme = cut s kind s.kept (s.used - 1) }
+
+  abbrev now : Known
+  now = past p kind modes.Slash [] (s.used - 1) s.used
+
+  left : run p (47 ∷ []) s ≡ Left token.lexeme now
+  left = ap (λ a. follow (acts p s 47 a) (λ t. Next t)) (slash_ends p s.colon s.mode one)
+
+  stands : Stands now u (ts ++ token ∷ []) (47 ∷ [])
+  stands =
+      let (more, since) = all_since p s u ts h in
+      subst (λ l. Stands now l (ts ++ token ∷ []) (47 ∷ [])) (sym h.cut)
+      (Leaved h.behind h.front ts h.left token h.since (more ++ 47 ∷ []) 47 now h.told (ap (λ l. l ++ 47 ∷ []) since ∙ append_assoc h.left more (47 ∷ []))
+      (run_behind p h.since (47 ∷ []) h.behind s h.ran ∙ left) (next_used p h.since h.behind s (sym h.ran)))
+
+  -- where the token passes, it ends before the `/`
+  pub ends_before : Passes kind s.kept → EndsBeforeComment p s u ts
+  ends_before passes = record {
+    lexeme = token.lexeme;
+    start = refl;
+    end = refl;
+    lexes = ends_in_blank now (go_to now modes.LineComment []) u (ts ++ token ∷ []) (47 ∷ []) (47 ∷ []) [] p stands (pass_more ts token h.pass passes) refl refl refl;
+  }
+
+-- A `/` that isn't counted, as a comment may begin with it: a token ends before it, or no document goes on so.
+pub slash_comments : (p : Place) (s : Known) (u : List ℕ) (ts : List Placed) → Scanned p s u ts [] → behind s.mode ≡ 1
+    → EndsBeforeComment p s u ts ⊎ ((rest : List ℕ) (others : List Placed) → LooksIn p others → Lexes false 0 (u ++ rest) (ts ++ others) → ⊥)
+unfolding Slashed
+slash_comments p s u ts h one = by s.mode one refl (has_slash s.kept) refl where
+  never : (in_numeric s.mode ≡ true) → has_slash s.kept ≡ true → (rest : List ℕ) (others : List Placed) → LooksIn p others → Lexes false 0 (u ++ rest) (ts ++ others) → ⊥
+  never number has = λ rest others looks lexes.
+      let (more, since) = all_since p s u ts h in
+      let there = subst (λ o. Lexes false 0 o (ts ++ others)) (ap (λ l. l ++ rest) h.cut ∙ append_assoc h.front h.since rest) lexes in
+      not_slashed ts others false 0 (h.front ++ (h.since ++ rest)) there
+      (finds_slashed p h.behind s h.since rest h.ran (number, has) others looks
+      (stands_finds h.behind h.front ts h.left (h.since ++ rest) others h.told (more ++ rest) (ap (λ l. l ++ rest) since ∙ append_assoc h.left more rest) there))
+
+  by : (m : Mode) → behind m ≡ 1 → s.mode ≡ m → (b : Bool) → has_slash s.kept ≡ b
+      → EndsBeforeComment p s u ts ⊎ ((rest : List ℕ) (others : List Placed) → LooksIn p others → Lexes false 0 (u ++ rest) (ts ++ others) → ⊥)
+  by modes.NumberSlash f e true has = inr (never (ap in_numeric e) has)
+  by modes.NumberSlash f e false has = inl (ends_before p s u ts h one (subst (λ m. Passes (kind_behind m) s.kept) (sym e) has))
+  by modes.OperatorSlash f e b has = inl (ends_before p s u ts h one (subst (λ m. Passes (kind_behind m) s.kept) (sym e) tt))
+  by _ f e b has = cc

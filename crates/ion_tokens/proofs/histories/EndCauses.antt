@@ -1,0 +1,148 @@
+-- The reasons for which the end of the octets is refused.
+use Rattle.std.proofs.Common.{◌≡◌, ◌≢◌, ℕ, zero, suc, ◌<◌, Bool, true, false, cond, refl, sym, ap, subst, ◌∙◌, arith, List, [], ◌∷◌, ◌++◌, Option, Some, None, Result, Ok, Err}
+use Rattle.std.specs.Prelude.{IsUtf8, slice_index}
+use Rattle.std.specs.Str.{IsAscii}
+use Rattle.std.proofs.lemmas.Str.{IsUtf8-from_ascii}
+use Rattle.std.proofs.lemmas.Bool.Decides.{nat_tests}
+use Rattle.ion_atoms.specs.declared.kind.Kind.{Kind}
+use Rattle.ion_atoms.specs.declared.refusal.Refusal.{Refusal}
+use Rattle.ion_atoms.specs.declared.refusal.Reason.{Reason}
+use Rattle.ion_atoms.specs.declared.refusal.Reason.TheVariants as reasons
+use Rattle.ion_tokens.specs.Octets.{is_word_octet, is_operator_octet}
+use Rattle.ion_tokens.specs.Lexemes.{Each, Lexeme}
+use Rattle.ion_tokens.specs.declared.mode.Place.{Place}
+use Rattle.ion_tokens.specs.declared.mode.Mark.{Mark}
+use Rattle.ion_tokens.specs.declared.mode.Keep.{Keep}
+use Rattle.ion_tokens.specs.declared.mode.Keep.TheVariants as keeps
+use Rattle.ion_tokens.specs.declared.mode.End.TheVariants as ends
+use Rattle.ion_tokens.specs.declared.mode.Mode.{Mode}
+use Rattle.ion_tokens.specs.declared.mode.Mode.TheVariants as modes
+use Rattle.ion_tokens.specs.declared.mode.TokenKind.{TokenKind}
+use Rattle.ion_tokens.specs.declared.mode.TokenKind.TheVariants as kinds
+use Rattle.ion_tokens.specs.machine.Table.{end_of, is_sexp}
+use Rattle.ion_tokens.specs.machine.Scanning.{Known, kept_after, ends_at, at_end}
+use Rattle.ion_tokens.specs.Bodies.{Content, Spells, IsWordBody, IsBody, null_of, kind_named, id_of}
+use Rattle.ion_tokens.specs.Lexed.{Placed}
+use Rattle.ion_tokens.specs.machine.Scanned.{Scanned}
+use Rattle.ion_tokens.specs.machine.Steps.{Ends, is_end_reason}
+use Rattle.ion_tokens.proofs.sound.Opens.{IsOpen}
+use Rattle.ion_tokens.proofs.sound.Holds.{InMode}
+use Rattle.ion_tokens.specs.laws.Each.{each_last}
+use Rattle.ion_tokens.proofs.foreseen.Begins.{begun_holds}
+
+-- octets of a class of ASCII are UTF-8
+ascii_each : (class : ℕ → Bool) (w : List ℕ) → ((o : ℕ) → class o ≡ true → o < 128) → Each class w → IsAscii w
+ascii_each class [] low h i = omega arith
+ascii_each class (o ∷ os) low h zero = low o h.0
+ascii_each class (o ∷ os) low h (suc i) = ascii_each class os low h.1 i
+
+low_word : (o : ℕ) → is_word_octet o ≡ true → o < 128
+low_word o h = grind (arith, nat_tests)
+
+low_operator : (o : ℕ) → is_operator_octet o ≡ true → o < 128
+low_operator o h = grind (arith, nat_tests)
+
+-- a token that the end shows is refused for such a reason alone, if it is
+abbrev IsFairBody : TokenKind → List ℕ → Type 0
+IsFairBody kind octets = (e : Reason) → IsBody kind octets (Err e) → is_end_reason e ≡ true
+
+spelled_fair : (said : Content) (octets : List ℕ) → IsUtf8 octets → (e : Reason) → Spells said octets (Err e) → is_end_reason e ≡ true
+spelled_fair said octets u e h = absurd (h.1 u)
+
+word_fair : (octets : List ℕ) → Each is_word_octet octets → IsFairBody kinds.Word octets
+word_fair octets h e b = by (id_of octets) b where
+  by : (id : Option ℕ) → IsWordBody octets id (Err e) → is_end_reason e ≡ true
+  by None k = absurd (k.1 (IsUtf8-from_ascii octets (ascii_each is_word_octet octets low_word h)))
+  by (Some id) k = cc
+
+operator_fair : (octets : List ℕ) → Each is_operator_octet octets → IsFairBody kinds.Operator octets
+operator_fair octets h e b = absurd (b.1 (IsUtf8-from_ascii octets (ascii_each is_operator_octet octets low_operator h)))
+
+null_fair : (octets : List ℕ) → IsFairBody kinds.KindName octets
+null_fair octets e h = by (kind_named octets) h where
+  by : (kind : Option Kind) → Err e ≡ null_of kind → is_end_reason e ≡ true
+  by None k = let same : e ≡ reasons.Malformed = cc in ap is_end_reason same
+  by (Some kind) k = cc
+
+number_fair : (octets : List ℕ) → IsFairBody kinds.Number octets
+number_fair octets reasons.TooLarge h = refl
+number_fair octets reasons.Malformed h = refl
+number_fair octets reasons.Float h = refl
+number_fair octets _ h = absurd h
+
+empty_fair : (octets : List ℕ) → octets ≡ [] → IsFairBody kinds.QuotedSymbol octets
+empty_fair octets none e h = absurd (h.1 (subst (λ o. IsUtf8 o) (sym none) (IsUtf8-from_ascii [] (λ i. omega arith))))
+
+mark_fair : (m : Mark) (octets : List ℕ) → IsFairBody (kinds.Mark m) octets
+mark_fair m octets e h = cc
+
+-- what the end shows is refused for its reasons alone
+abbrev pub IsEndFair : Result (Option Lexeme) Reason → Type 0
+IsEndFair (Ok None) = Unit {0}
+IsEndFair (Ok (Some l)) = IsFairBody l.kind l.octets
+IsEndFair (Err e) = is_end_reason e ≡ true
+
+run_fair : (p : Place) (s : Known) (k : Keep) → Each is_operator_octet (kept_after k s.kept)
+    → IsEndFair (ends_at s (cond (is_sexp p) (ends.Token kinds.Operator k) (ends.Refuse reasons.Incomplete)))
+run_fair p s k h = by (is_sexp p) where
+  by : (b : Bool) → IsEndFair (ends_at s (cond b (ends.Token kinds.Operator k) (ends.Refuse reasons.Incomplete)))
+  by true = operator_fair (kept_after k s.kept) h
+  by false = refl
+
+letters_fair : (b : Bool) → is_end_reason (cond b reasons.Float reasons.Incomplete) ≡ true
+letters_fair true = refl
+letters_fair false = refl
+
+open_fair : (p : Place) (colon : Bool) (s : Known) (m : Mode) (w : List ℕ) → IsOpen p colon m w s.kept → IsEndFair (ends_at s (end_of p m))
+open_fair p colon s modes.Colon w h = mark_fair _ s.kept
+open_fair p colon s modes.Word w (e, h) = subst (λ o. IsFairBody kinds.Word o) (sym e) (word_fair w h.1)
+open_fair p colon s modes.KindName w h = null_fair s.kept
+open_fair p colon s modes.Number w h = number_fair s.kept
+open_fair p colon s modes.NumberSlash w h = number_fair (s.kept ++ 47 ∷ [])
+open_fair p colon s (modes.Operator x) w (e, n, h, so) = run_fair p s keeps.Nothing (subst (λ o. Each is_operator_octet o) (sym e) h.each)
+open_fair p colon s modes.OperatorSlash w (e, so, h) = run_fair p s (keeps.One 47) (each_last is_operator_octet s.kept 47 h.each refl)
+open_fair p colon s (modes.Infinity n) w h = letters_fair (Rattle.std.specs.Prelude.nat_eq n 3)
+open_fair p colon s modes.Quote w h = refl
+open_fair p colon s modes.Quotes w (e, none) = empty_fair s.kept none
+open_fair p colon s (modes.Text t v) w h = refl
+open_fair p colon s modes.Brace w h = mark_fair _ s.kept
+open_fair p colon s (modes.Lob l) w h = refl
+open_fair p colon s modes.Blank w h = absurd h
+open_fair p colon s modes.Slash w h = absurd h
+open_fair p colon s modes.LineComment w h = absurd h
+open_fair p colon s modes.BlockComment w h = absurd h
+open_fair p colon s modes.BlockCommentStar w h = absurd h
+
+mode_fair : (p : Place) (colon : Bool) (k : ℕ) (s : Known) (m : Mode) (since : List ℕ) → InMode p colon k m s.kept s.start since → IsEndFair (ends_at s (end_of p m))
+mode_fair p colon k s modes.Blank since h = tt
+mode_fair p colon k s modes.Slash since (none, front, blank, cut) = run_fair p s (keeps.One 47) (subst (λ o. Each is_operator_octet (o ++ 47 ∷ [])) (sym none) (refl, tt))
+mode_fair p colon k s modes.LineComment since h = tt
+mode_fair p colon k s modes.BlockComment since h = refl
+mode_fair p colon k s modes.BlockCommentStar since h = refl
+mode_fair p colon k s modes.Colon since b = open_fair p colon s modes.Colon b.token b.is
+mode_fair p colon k s modes.Word since b = open_fair p colon s modes.Word b.token b.is
+mode_fair p colon k s modes.KindName since b = open_fair p colon s modes.KindName b.token b.is
+mode_fair p colon k s modes.Number since b = open_fair p colon s modes.Number b.token b.is
+mode_fair p colon k s modes.NumberSlash since b = open_fair p colon s modes.NumberSlash b.token b.is
+mode_fair p colon k s (modes.Operator x) since b = open_fair p colon s (modes.Operator x) b.token b.is
+mode_fair p colon k s modes.OperatorSlash since b = open_fair p colon s modes.OperatorSlash b.token b.is
+mode_fair p colon k s (modes.Infinity n) since b = open_fair p colon s (modes.Infinity n) b.token b.is
+mode_fair p colon k s modes.Quote since b = open_fair p colon s modes.Quote b.token b.is
+mode_fair p colon k s modes.Quotes since b = open_fair p colon s modes.Quotes b.token b.is
+mode_fair p colon k s (modes.Text t v) since b = open_fair p colon s (modes.Text t v) b.token b.is
+mode_fair p colon k s modes.Brace since b = open_fair p colon s modes.Brace b.token b.is
+mode_fair p colon k s (modes.Lob l) since b = open_fair p colon s (modes.Lob l) b.token b.is
+
+-- What the end shows behind octets that a scanner stands for is refused for its reasons alone.
+pub end_fair : (p : Place) (s : Known) (u : List ℕ) (ts : List Placed) → Scanned p s u ts [] → IsEndFair (at_end p s)
+end_fair p s u ts h = let there = begun_holds p s u ts h in mode_fair p there.colon there.end s s.mode there.since there.holds.mode
+
+unless_memory : (e : Reason) → (e ≢ reasons.Memory → is_end_reason e ≡ true) → is_end_reason e ≡ true
+unless_memory reasons.Memory h = refl
+unless_memory _ h = h (λ i. cc)
+
+-- an end refuses for one of its reasons
+pub end_reason : (x : Result (Option Lexeme) Reason) (r : Refusal) (used : ℕ) → IsEndFair x → Ends used x (Err r) → is_end_reason r.reason ≡ true
+end_reason (Ok None) r used f a = unless_memory r.reason (λ n. absurd (a n))
+end_reason (Ok (Some l)) r used f a = unless_memory r.reason (λ n. f r.reason (a n).says)
+end_reason (Err e) r used f a = unless_memory r.reason (λ n. ap (λ (q : Refusal). is_end_reason q.reason) (a n) ∙ f)

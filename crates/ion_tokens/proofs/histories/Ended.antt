@@ -1,0 +1,103 @@
+-- Where octets show no token, none but those told has ended whatever follows.
+use Rattle.std.proofs.Common.{◌≡◌, ℕ, ◌+◌, ◌≤◌, Bool, false, List, [], ◌∷◌, ◌++◌, length, refl, sym, ap, ◌∙◌, subst, arith, append_assoc, length-append}
+use Rattle.std.specs.Prelude.{Option, Some, Result, Ok}
+use Rattle.ion_atoms.specs.declared.refusal.Reason.{Reason}
+use Rattle.ion_tokens.specs.declared.mode.Place.{Place}
+use Rattle.ion_tokens.specs.declared.mode.End.{End}
+use Rattle.ion_tokens.specs.declared.mode.End.TheVariants as ends
+use Rattle.ion_tokens.specs.machine.Table.{end_of}
+use Rattle.ion_tokens.specs.Blobs.{AreOctets}
+use Rattle.ion_tokens.specs.machine.Scanning.{Known, Outcome, Next, Given, Left, Refused, run, at_end, ends_at}
+use Rattle.ion_tokens.specs.Lexemes.{Lexeme}
+use Rattle.ion_tokens.specs.Lexed.{Placed, LexesBefore, BeginsLexed, AllPass}
+use Rattle.ion_tokens.specs.machine.Told.{Stands, Begun, Gave, Leaved}
+use Rattle.ion_tokens.proofs.complete.Found.{FindsUpTo, Last, Gives, Leaves, Unclosed}
+use Rattle.ion_tokens.proofs.runs.Runs.{next_used}
+use Rattle.ion_tokens.proofs.complete.Wholes.{run_behind}
+use Rattle.ion_tokens.proofs.histories.Histories.{begins_completes, stands_found}
+use Rattle.ion_tokens.proofs.sound.SoundHistories.{HasTold, stands_tells}
+use Rattle.ion_tokens.proofs.sound.Sounds.{RunSound, run_sound}
+use Rattle.ion_tokens.proofs.sound.Holds.{Holds}
+use Rattle.ion_tokens.proofs.histories.Escapes.{Escapes, Refuses, Goes, Grows, Escape, escape}
+
+-- tokens end within the octets
+lexes_end : (End : Bool → ℕ → List ℕ → Type 0) (ts : List Placed) (t : Placed) (colon : Bool) (before : ℕ) (octets : List ℕ) → LexesBefore End colon before octets (ts ++ t ∷ []) → t.lexeme.end ≤ before + length octets
+lexes_end End [] t colon before octets (rest, b, l) = omega (arith, b.end, ap length b.cut, length-append (b.blank ++ b.token) rest, length-append b.blank b.token)
+lexes_end End (x ∷ ts) t colon before octets (rest, b, l) = let h = lexes_end End ts t _ x.lexeme.end rest l in omega (arith, h, b.end, ap length b.cut, length-append (b.blank ++ b.token) rest, length-append b.blank b.token)
+
+-- the octets used are those taken up
+pub stands_used : (s : Known) (u : List ℕ) (ts : List Placed) (ahead : List ℕ) → Stands s u ts ahead → s.used ≡ length u
+stands_used s u ts ahead Begun = refl
+stands_used s u ts ahead (Gave s0 u0 ts0 ahead0 t octets more0 s' h e f n) = let i = stands_used s0 u0 ts0 ahead0 h in omega (arith, i, n, length-append u0 octets)
+stands_used s u ts ahead (Leaved s0 u0 ts0 ahead0 t octets more0 x s' h e f n) = let i = stands_used s0 u0 ts0 ahead0 h in omega (arith, i, n, length-append u0 octets)
+
+-- a token at the end of the input ends there
+end_used : (s : Known) (e : End) (l : Lexeme) → ends_at s e ≡ Ok (Some l) → l.end ≡ s.used
+end_used s ends.Blank l h = cc
+end_used s (ends.Token kind k) l h = sym (ap (λ x. end_in x l) h) where
+  end_in : Result (Option Lexeme) Reason → Lexeme → ℕ
+  end_in (Ok (Some l)) m = l.end
+  end_in _ m = m.end
+end_used s (ends.Refuse e) l h = cc
+
+abbrev lexeme_end : Outcome → ℕ
+lexeme_end (Given l s) = l.end
+lexeme_end _ = 0
+
+-- what is found over the octets and those behind them ends behind them
+not_found : (s : Known) (octets r : List ℕ) (s' : Known) (t : Placed) → run t.place octets s ≡ Next s' → Escapes t.place s' r → t.lexeme.end ≤ s'.used → FindsUpTo (λ s octets. Unit {0}) (Unit {0}) s (octets ++ r) (t ∷ []) → ⊥
+not_found s octets r s' t e (Refuses n x f) ended found = by found where
+  whole : run t.place (octets ++ r) s ≡ Refused n x
+  whole = run_behind t.place octets r s s' e ∙ f
+
+  by : FindsUpTo (λ s octets. Unit {0}) (Unit {0}) s (octets ++ r) (t ∷ []) → ⊥
+  by (Last _ _ _ s'' g h) = let k : Refused n x ≡ Next s'' = sym whole ∙ g in cc
+  by (Gives _ _ _ _ s'' g h) = let k : Refused n x ≡ Given t.lexeme s'' = sym whole ∙ g in cc
+  by (Leaves _ _ _ _ s'' g h) = let k : Refused n x ≡ Left t.lexeme s'' = sym whole ∙ g in cc
+  by (Unclosed _ _ _ _ s'' _ _ m g h _ _ _) = let k : Refused n x ≡ Next s'' = sym whole ∙ g in cc
+not_found s octets r s' t e (Goes z f some more) ended found = by found where
+  whole : run t.place (octets ++ r) s ≡ Next z
+  whole = run_behind t.place octets r s s' e ∙ f
+
+  state_in : Outcome → Known
+  state_in (Next s) = s
+  state_in _ = z
+
+  by : FindsUpTo (λ s octets. Unit {0}) (Unit {0}) s (octets ++ r) (t ∷ []) → ⊥
+  by (Last _ _ _ s'' g h) =
+      let same : s'' ≡ z = ap state_in (sym g ∙ whole) in
+      let at : t.lexeme.end ≡ s''.used = end_used s'' (end_of t.place s''.mode) t.lexeme h in
+      let used = next_used t.place r s' z (sym f) in
+      absurd (omega (arith, at, ap (λ (x : Known). x.used) same, used, some, ended))
+  by (Gives _ _ _ _ s'' g h) = let k : Next z ≡ Given t.lexeme s'' = sym whole ∙ g in cc
+  by (Leaves _ _ _ _ s'' g h) = let k : Next z ≡ Left t.lexeme s'' = sym whole ∙ g in cc
+  by (Unclosed _ _ _ _ s'' _ _ m g h _ _ _) = let same : s'' ≡ z = ap state_in (sym g ∙ whole) in more (ap (λ x. at_end t.place x) (sym same) ∙ h)
+not_found s octets r s' t e (Grows l z f later) ended found = by found where
+  whole : run t.place (octets ++ r) s ≡ Given l z
+  whole = run_behind t.place octets r s s' e ∙ f
+
+  by : FindsUpTo (λ s octets. Unit {0}) (Unit {0}) s (octets ++ r) (t ∷ []) → ⊥
+  by (Last _ _ _ s'' g h) = let k : Given l z ≡ Next s'' = sym whole ∙ g in cc
+  by (Gives _ _ _ _ s'' g h) = let k : l.end ≡ t.lexeme.end = ap lexeme_end (sym whole ∙ g) in absurd (omega (arith, k, later, ended))
+  by (Leaves _ _ _ _ s'' g h) = let k : Given l z ≡ Left t.lexeme s'' = sym whole ∙ g in cc
+  by (Unclosed _ _ _ _ s'' _ _ m g h _ _ _) = let k : Given l z ≡ Next s'' = sym whole ∙ g in cc
+
+-- Where octets show no token, none but those told has ended whatever octets follow.
+pub told_all : (s s' : Known) (u : List ℕ) (ts : List Placed) (ahead piece more : List ℕ) (p : Place) → Stands s u ts ahead → AllPass ts → piece ≡ ahead ++ more → run p piece s ≡ Next s'
+    → (t : Placed) → t.place ≡ p → ((r : List ℕ) → AreOctets r → BeginsLexed false 0 (u ++ (piece ++ r)) (ts ++ t ∷ [])) → ⊥
+told_all s s' u ts ahead piece more p h pass cut e t place lexes = by (escape p tells.colon tells.end s' (tells.since ++ piece) holds) where
+  tells : HasTold s u ts ahead
+  tells = stands_tells s u ts ahead h pass
+
+  holds : Holds p tells.colon tells.end s' (tells.since ++ piece)
+  holds = subst (λ x. RunSound p tells.colon tells.end tells.since piece x) e (run_sound p tells.colon tells.end piece tells.since s (tells.holds p))
+
+  ended : t.lexeme.end ≤ s'.used
+  ended =
+      let within = lexes_end (λ colon before octets. Unit {0}) ts t false 0 (u ++ (piece ++ [])) (lexes [] tt) in
+      omega (arith, within, length-append u (piece ++ []), length-append piece [], stands_used s u ts ahead h, next_used p piece s s' (sym e))
+
+  by : Escape p s' → ⊥
+  by x =
+      let there = stands_found (λ colon before octets. Unit {0}) (λ s octets. Unit {0}) (Unit {0}) begins_completes s u ts ahead (piece ++ x.octets) (t ∷ []) h (more ++ x.octets) (ap (λ l. l ++ x.octets) cut ∙ append_assoc ahead more x.octets) (lexes x.octets x.are) in
+      not_found s piece x.octets s' t (ap (λ q. run q piece s) place ∙ e) (subst (λ q. Escapes q s' x.octets) (sym place) x.escapes) ended there

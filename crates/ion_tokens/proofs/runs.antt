@@ -1,0 +1,13 @@
+-- What runs over octets are: cut anywhere (`Cutting`), octet by octet (`Runs`, `Splits`, `LastOctets`), many at once (`GoesOn`, and whole
+-- tokens in memory, `WholeTokens`), and from one call to the next (`Answered`, `Scans`, `Moved`).
+pub mod Answered
+pub mod Cutting
+pub mod EndsShown
+pub mod GoesOn
+pub mod LastOctets
+pub mod Lendings
+pub mod Moved
+pub mod Runs
+pub mod Scans
+pub mod Splits
+pub mod WholeTokens

@@ -1,0 +1,60 @@
+-- Where something comes of octets: the last one that was looked at, and what the scanner knew before it. Crates above cite these names.
+use Rattle.std.proofs.Common.{◌≡◌, ℕ, ◌+◌, List, [], ◌∷◌, ◌++◌, length, refl, sym, ap, ◌∙◌, subst, arith}
+use Rattle.ion_atoms.specs.declared.refusal.Reason.{Reason}
+use Rattle.ion_tokens.specs.declared.mode.Place.{Place}
+use Rattle.ion_tokens.specs.machine.Table.{next}
+use Rattle.ion_tokens.specs.machine.Scanning.{Known, Outcome, Next, Given, Left, Refused, feed, follow, run}
+use Rattle.ion_tokens.proofs.runs.Runs.{Between, acts_between, feed_used}
+
+pub record LastOctet (p : Place) (piece : List ℕ) (s : Known) (y : Outcome) : Type 0 where
+  pub before : List ℕ
+  pub octet : ℕ
+  pub rest : List ℕ
+  pub known : Known
+  pub cut : piece ≡ before ++ octet ∷ rest
+  pub ran : run p before s ≡ Next known
+  pub fed : feed p known octet ≡ y
+  pub counted : known.used ≡ s.used + length before
+
+-- a token or a refusal
+abbrev pub IsLast : Outcome → Type 0
+IsLast (Next s) = ⊥
+IsLast y = Unit {0}
+
+pub last_octet : (p : Place) (piece : List ℕ) (s : Known) (y : Outcome) → IsLast y → run p piece s ≡ y → LastOctet p piece s y
+last_octet p [] s y l e = absurd (subst IsLast (sym e) l)
+last_octet p (o ∷ os) s y l e = by (feed p s o) refl e (λ t. last_octet p os t y l) where
+  here : feed p s o ≡ y → LastOctet p (o ∷ os) s y
+  here f = record { before = []; octet = o; rest = os; known = s; cut = refl; ran = refl; fed = f; counted = omega arith }
+
+  by : (x : Outcome) → feed p s o ≡ x → follow x (λ t. run p os t) ≡ y → ((t : Known) → run p os t ≡ y → LastOctet p os t y) → LastOctet p (o ∷ os) s y
+  by (Next t) f g more =
+      let r = more t g in
+      record {
+        before = o ∷ r.before;
+        octet = r.octet;
+        rest = r.rest;
+        known = r.known;
+        cut = ap (λ l. o ∷ l) r.cut;
+        ran = ap (λ x. follow x (λ t. run p r.before t)) f ∙ r.ran;
+        fed = r.fed;
+        counted = omega (arith, feed_used p s t o f, r.counted);
+      }
+  by (Given m t) f g more = here (f ∙ g)
+  by (Left m t) f g more = here (f ∙ g)
+  by (Refused n r) f g more = here (f ∙ g)
+
+-- A refusal counts the octets up to the one that decides it.
+pub refused_here : (p : Place) (s : Known) (o n : ℕ) (e : Reason) → feed p s o ≡ Refused n e → n ≡ s.used + 1
+unfolding Between
+refused_here p s o n e f = let h = subst (λ x. Between x s.used 1) f (acts_between p s o (next p s.colon s.mode o)) in omega (arith, h.0, h.1)
+
+-- the octets before the one that was refused, that octet and the rest
+pub record RefusedSplit (p : Place) (piece : List ℕ) (s : Known) (n : ℕ) (e : Reason) : Type 0 where
+  pub last : LastOctet p piece s (Refused n e)
+  pub offset : n ≡ s.used + (length last.before + 1)
+
+pub refused_split : (p : Place) (piece : List ℕ) (s : Known) (n : ℕ) (e : Reason) → run p piece s ≡ Refused n e → RefusedSplit p piece s n e
+refused_split p piece s n e ran =
+    let x = last_octet p piece s (Refused n e) tt ran in
+    record { last = x; offset = omega (arith, refused_here p x.known x.octet n e x.fed, x.counted) }

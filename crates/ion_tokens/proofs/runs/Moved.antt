@@ -1,0 +1,62 @@
+-- What is promised of a scanner that rests goes on where octets lead it: behind a blank, and behind a token that was found whole.
+use Rattle.std.proofs.Common.{◌≡◌, ℕ, zero, suc, ◌+◌, ◌-◌, ◌≤◌, ◌<◌, Bool, true, false, List, [], ◌∷◌, ◌++◌, length, take, drop, slice_index, inl, inr, refl, sym, ap, ◌∙◌, subst, arith, append_assoc, append-nil}
+use Rattle.std.proofs.lemmas.List.{length-take-le, take-append-drop}
+use Rattle.ion_tokens.specs.declared.mode.Place.{Place}
+use Rattle.ion_tokens.specs.declared.mode.TokenKind.{TokenKind}
+use Rattle.ion_tokens.specs.declared.whole.Rest.{Rest}
+use Rattle.ion_tokens.specs.machine.Scanning.{Known, Outcome, Next, feed, run}
+use Rattle.ion_tokens.specs.machine.Rests.{resting, past_blank, past_token, lexeme_at, before_end, ended, IsPassed, IsFound, left_after}
+use Rattle.ion_tokens.specs.machine.Scanned.{Scanned, IsAhead, Continues}
+use Rattle.ion_tokens.specs.Lexed.{Placed, Passes}
+use Rattle.ion_tokens.proofs.histories.Stepped.{at_most_one, begins_front, goes_on}
+use Rattle.ion_tokens.proofs.runs.Scans.{placed, scanned_given, scanned_left}
+
+pub blank_moves : (p : Place) (r : Rest) (u octets : List ℕ) (ts : List Placed) (ahead : List ℕ) (n : ℕ) → Scanned p (resting r) u ts ahead → Continues (take n octets) ahead → IsPassed octets n
+    → Scanned p (resting (past_blank r n)) (u ++ take n octets) ts []
+blank_moves p r u octets ts ahead n h c passed = goes_on p (resting r) u ts ahead h (take n octets) (resting (past_blank r n)) c (passed p r)
+
+take_more : (m : ℕ) (octets : List ℕ) → m < length octets → take (m + 1) octets ≡ take m octets ++ slice_index octets m ∷ []
+take_more m [] h = absurd (omega arith)
+take_more zero (o ∷ os) h = refl
+take_more (suc m) (o ∷ os) h = ap (λ (k : ℕ). take k (o ∷ os)) (let k : suc m + 1 ≡ suc (m + 1) = omega arith in k) ∙ ap (λ l. o ∷ l) (take_more m os (omega arith))
+
+abbrev known_in : Outcome → Known → Known
+known_in (Next s) t = s
+known_in _ t = t
+
+few_ahead : (p : Place) (s : Known) (u : List ℕ) (ts : List Placed) (ahead : List ℕ) → Scanned p s u ts ahead → length ahead ≤ 1
+few_ahead p s u ts ahead h = by h.next where
+  by : IsAhead h.since h.left ahead → length ahead ≤ 1
+  by (inl (none, same)) = let few = at_most_one h.behind h.front ts h.left h.told in omega (arith, few, ap length same)
+  by (inr (front, since, none)) = omega (arith, ap length none)
+
+module _ (p : Place) (r : Rest) (u octets : List ℕ) (ts : List Placed) (kind : TokenKind) (kept : List ℕ) (n : ℕ) (pass : Passes kind kept) (q : Place) where
+  abbrev after : Bool → Type 0
+  after left = Scanned q (resting (past_token p r kind n)) (u ++ take n octets) (ts ++ placed p (lexeme_at r kind kept n) ∷ []) (left_after left n octets)
+
+  -- before the octet that shows the end, this one must come next, or none
+  last : (ahead : List ℕ) (left : Bool) (known : Known) → Scanned p known (u ++ take (before_end left n) octets) ts ahead → Continues (slice_index octets (before_end left n) ∷ []) ahead → 0 < n → before_end left n < length octets
+      → feed p known (slice_index octets (before_end left n)) ≡ ended left (lexeme_at r kind kept n) (resting (past_token p r kind n)) → after left
+  last ahead true known h c some shown e = scanned_left p known (u ++ take n octets) ts ahead h (slice_index octets n) c (resting (past_token p r kind n)) (lexeme_at r kind kept n) e pass q
+  last ahead false known h c some shown e =
+      let one : take n octets ≡ take (n - 1) octets ++ slice_index octets (n - 1) ∷ [] = ap (λ (k : ℕ). take k octets) (let k : n ≡ (n - 1) + 1 = omega arith in k) ∙ take_more (n - 1) octets shown in
+      subst (λ l. Scanned q (resting (past_token p r kind n)) l (ts ++ placed p (lexeme_at r kind kept n) ∷ []) [])
+      (append_assoc u (take (n - 1) octets) (slice_index octets (n - 1) ∷ []) ∙ ap (λ l. u ++ l) (sym one))
+      (scanned_given p known (u ++ take (n - 1) octets) ts ahead h (slice_index octets (n - 1)) c (resting (past_token p r kind n)) (lexeme_at r kind kept n) e pass q)
+
+  pub token_moves : (ahead : List ℕ) (left : Bool) → Scanned p (resting r) u ts ahead → Continues octets ahead → IsFound p r octets kind kept n left → after left
+  token_moves ahead left h (more, c) f = by (before_end left n) refl f.ran f.shown where
+    front : (m : ℕ) → m < length octets → Continues (take (m + 1) octets) ahead
+    front m shown =
+        begins_front ahead (take (m + 1) octets) (drop (m + 1) octets) more (few_ahead p (resting r) u ts ahead h)
+        (let k = length-take-le (m + 1) octets (omega arith) in omega (arith, k)) (take-append-drop (m + 1) octets ∙ c)
+
+    by : (m : ℕ) → before_end left n ≡ m → run p (take m octets) (resting r) ≡ Next f.known → m < length octets → after left
+    by zero e ran shown =
+        let same : resting r ≡ f.known = ap (λ x. known_in x (resting r)) ran in
+        let here : u ≡ u ++ take (before_end left n) octets = sym (append-nil u) ∙ ap (λ (k : ℕ). u ++ take k octets) (sym e) in
+        let next : Continues (slice_index octets (before_end left n) ∷ []) ahead = subst (λ (k : ℕ). Continues (slice_index octets k ∷ []) ahead) (sym e) (subst (λ w. Continues w ahead) (take_more zero octets shown) (front zero shown)) in
+        last ahead left f.known (subst (λ w. Scanned p f.known w ts ahead) here (subst (λ k. Scanned p k u ts ahead) same h)) next f.some f.shown f.ends
+    by (suc m) e ran shown =
+        let goes : Continues (take (before_end left n) octets) ahead = subst (λ (k : ℕ). Continues (take k octets) ahead) (let k : m + 1 ≡ before_end left n = omega (arith, e) in k) (front m (omega arith)) in
+        last [] left f.known (goes_on p (resting r) u ts ahead h (take (before_end left n) octets) f.known goes f.ran) (slice_index octets (before_end left n) ∷ [], refl) f.some f.shown f.ends

@@ -1,0 +1,160 @@
+-- One octet more behind the last token.
+use Rattle.std.proofs.Common.{◌≡◌, ℕ, ◌+◌, ◌-◌, ◌≤◌, Bool, true, false, List, [], ◌∷◌, ◌++◌, length, refl, sym, ap, ◌∙◌, subst, arith, append_assoc, append-nil, length-append, cond}
+use Rattle.std.specs.Prelude.{◌==◌, ◌&&◌, codes, take, Option, Some, None}
+use Rattle.std.specs.Str.{bytes_eq}
+use Rattle.std.proofs.lemmas.Bool.{true≢false}
+use Rattle.std.proofs.lemmas.Bool.Decides.{nat_tests}
+use Rattle.std.proofs.lemmas.Slice.Eq.{bytes_eq-Decides}
+use Rattle.ion_tokens.specs.Octets.{is_word_octet}
+use Rattle.ion_tokens.specs.declared.mode.Place.{Place}
+use Rattle.ion_tokens.specs.declared.mode.Mode.{Mode}
+use Rattle.ion_tokens.specs.declared.mode.TokenKind.{TokenKind}
+use Rattle.ion_tokens.specs.declared.mode.Action.{Action}
+use Rattle.ion_tokens.specs.declared.mode.Mode.TheVariants as modes
+use Rattle.ion_tokens.specs.declared.mode.Lob.TheVariants as lobs
+use Rattle.ion_tokens.specs.declared.mode.TokenKind.TheVariants as kinds
+use Rattle.ion_tokens.specs.declared.mode.Action.TheVariants as actions
+use Rattle.ion_tokens.specs.Blobs.{blob_of}
+use Rattle.ion_tokens.specs.machine.Scanning.{Known, Next, Given, Left, acts, kept_after, past, cut, go_to, blob_ends, start_of}
+use Rattle.ion_tokens.specs.Blanks.{IsBlank}
+use Rattle.ion_tokens.specs.Lexemes.{IsWord, takes_colon}
+use Rattle.ion_tokens.proofs.complete.Moves.{at, Stays}
+use Rattle.ion_tokens.proofs.sound.Opens.{IsOpen, Turns, IsUnjudgedToken}
+use Rattle.ion_tokens.proofs.sound.Holds.{InMode, Holds, Sound, in_mode, blank_behind, inf_word, blob_sound, blank_none, inf_again}
+
+-- an open token behind a blank, where the scanner stands
+module _ (p : Place) (colon : Bool) (k : ℕ) (m : Mode) (kept : List ℕ) (start used : ℕ) (front w : List ℕ) (o : ℕ)
+    (blank : IsBlank front) (stays : Stays m) (starts : start ≡ k + length front) (uses : used ≡ k + length (front ++ w)) where
+  now : Known
+  now = at m kept colon start used
+
+  begins_there : start_of m start used ≡ k + length front
+  begins_there = stays start used ∙ starts
+
+  used_more : used + 1 ≡ k + length ((front ++ w) ++ o ∷ [])
+  used_more = omega (arith, uses, length-append (front ++ w) (o ∷ []))
+
+  end_is : used ≡ (k + length front) + length w
+  end_is = omega (arith, uses, length-append front w)
+
+  end_more : used + 1 ≡ (k + length front) + length (w ++ o ∷ [])
+  end_more = omega (arith, uses, length-append front w, length-append w (o ∷ []))
+
+  goes : (m' : Mode) (kept' : List ℕ) → IsOpen p colon m' (w ++ o ∷ []) kept' → Holds p colon k (go_to (at m kept colon start used) m' kept') ((front ++ w) ++ o ∷ [])
+  goes m' kept' h = record {
+    flag = refl;
+    used = used_more;
+    mode = subst (λ l. InMode p colon k m' kept' (start_of m start used) l) (sym (append_assoc front w (o ∷ []))) (in_mode p colon k m' kept' (start_of m start used) front (w ++ o ∷ []) blank begins_there h);
+  }
+
+  gives : (kind : TokenKind) (kept' : List ℕ) → ((r : List ℕ) → IsUnjudgedToken p colon (w ++ o ∷ []) r kind kept') → Sound p colon k (front ++ w) o (Given (cut (at m kept colon start used) kind kept' (used + 1)) (past p kind modes.Blank [] (used + 1) (used + 1)))
+  gives kind kept' h = record {
+    front = front;
+    token = w ++ o ∷ [];
+    blank = blank;
+    cut = append_assoc front w (o ∷ []) ∙ sym (append-nil (front ++ (w ++ o ∷ [])));
+    start = begins_there;
+    end = end_more;
+    found = h;
+    rest = λ q. blank_behind q (takes_colon p kind) (used + 1);
+    again = λ q. refl;
+  }
+
+  leaves_blank : (kind : TokenKind) (kept' : List ℕ) (end : ℕ) → end ≡ used → ((r : List ℕ) → IsUnjudgedToken p colon w (o ∷ r) kind kept') → Sound p colon k (front ++ w) o (Left (cut (at m kept colon start used) kind kept' end) (past p kind modes.Blank [] end used))
+  leaves_blank kind kept' end e h = (
+    [],
+    record {
+      front = front;
+      token = w;
+      blank = blank;
+      cut = sym (append-nil (front ++ w));
+      start = begins_there;
+      end = e ∙ end_is;
+      found = h;
+      rest = λ q. record { flag = refl; used = omega (arith, e); mode = (refl, blank_none) };
+      again = λ q. ap (λ (n : ℕ). Next (at modes.Blank [] (takes_colon p kind) end n)) e;
+    },
+  )
+
+  leaves_slash : (kind : TokenKind) (kept' token : List ℕ) → w ≡ token ++ 47 ∷ [] → ((r : List ℕ) → IsUnjudgedToken p colon token (47 ∷ o ∷ r) kind kept') → Sound p colon k (front ++ w) o (Left (cut (at m kept colon start used) kind kept' (used - 1)) (past p kind modes.Slash [] (used - 1) used))
+  leaves_slash kind kept' token e h =
+      let longer : length w ≡ length token + 1 = ap length e ∙ length-append token (47 ∷ []) in
+      let size : used - 1 ≡ (k + length front) + length token = omega (arith, end_is, longer) in
+      let back : used ≡ (used - 1) + 1 = omega (arith, end_is, longer) in (
+        47 ∷ [],
+        record {
+          front = front;
+          token = token;
+          blank = blank;
+          cut = ap (λ l. front ++ l) e ∙ sym (append_assoc front token (47 ∷ []));
+          start = begins_there;
+          end = size;
+          found = h;
+          rest = λ q. record { flag = refl; used = back; mode = (refl, [], blank_none, refl) };
+          again = λ q. ap (λ (n : ℕ). Next (at modes.Slash [] (takes_colon p kind) (used - 1) n)) (sym back);
+        },
+      )
+
+  splits : (n : ℕ) (kept' token : List ℕ) → 1 ≤ n → n ≤ 3 → w ≡ token ++ take n (codes "inf") → ((r : List ℕ) → IsUnjudgedToken p colon token (take n (codes "inf") ++ o ∷ r) kinds.Operator kept')
+      → Sound p colon k (front ++ w) o (Left (cut (at m kept colon start used) kinds.Operator kept' (used - n)) (past p kinds.Operator modes.Word (take n (codes "inf")) (used - n) used))
+  splits n kept' token low high e h =
+      let word : IsWord (take n (codes "inf")) × (length (take n (codes "inf")) ≡ n) = inf_word n low high in
+      let longer : length w ≡ length token + n = ap length e ∙ length-append token (take n (codes "inf")) ∙ ap (λ (i : ℕ). length token + i) word.1 in
+      let size : used - n ≡ (k + length front) + length token = omega (arith, end_is, longer) in
+      let back : used ≡ (used - n) + length (take n (codes "inf")) = omega (arith, end_is, longer, word.1) in (
+        take n (codes "inf"),
+        record {
+          front = front;
+          token = token;
+          blank = blank;
+          cut = ap (λ l. front ++ l) e ∙ sym (append_assoc front token (take n (codes "inf")));
+          start = begins_there;
+          end = size;
+          found = h;
+          rest = λ q. record { flag = refl; used = back; mode = record { front = []; token = take n (codes "inf"); blank = blank_none; cut = refl; begins = omega arith; is = (refl, word.0) } };
+          again = λ q. inf_again q (takes_colon p kinds.Operator) (used - n) n used low high (omega (arith, back, word.1));
+        },
+      )
+
+  -- a word ends, unless it is `null` before a dot
+  ends_word : kept ≡ w → IsWord w → is_word_octet o ≡ false → Sound p colon k (front ++ w) o (acts p (at m kept colon start used) o actions.EndWord)
+  ends_word e h n = by (o == 46) (bytes_eq kept (codes "null")) refl refl where
+    null_is : bytes_eq kept (codes "null") ≡ true → w ≡ codes "null"
+    null_is f = sym e ∙ (bytes_eq-Decides kept (codes "null")).0 f
+
+    whole : (b c : Bool) → (o == 46) ≡ b → bytes_eq kept (codes "null") ≡ c → (b && c) ≡ false → w ≡ codes "null" → (o == 46) ≡ false
+    whole false c f g h i = f
+    whole true true f g h i = absurd (true≢false h)
+    whole true false f g h i = absurd (true≢false (sym ((bytes_eq-Decides kept (codes "null")).1 (e ∙ i)) ∙ g))
+
+    word : (b c : Bool) → (o == 46) ≡ b → bytes_eq kept (codes "null") ≡ c → (b && c) ≡ false → Sound p colon k (front ++ w) o (Left (cut (at m kept colon start used) kinds.Word kept used) (past p kinds.Word modes.Blank [] used used))
+    word b c f g i = leaves_blank kinds.Word kept used refl (λ r j. (e, h, n, λ null. whole b c f g i null))
+
+    by : (b c : Bool) → (o == 46) ≡ b → bytes_eq kept (codes "null") ≡ c
+        → Sound p colon k (front ++ w) o (cond (b && c) (Next (go_to (at m kept colon start used) modes.KindName [])) (Left (cut (at m kept colon start used) kinds.Word kept used) (past p kinds.Word modes.Blank [] used used)))
+    by true true f g = goes modes.KindName [] (kind_name (eq_of o 46 f) (null_is g), tt) where
+      eq_of : (a b : ℕ) → (a == b) ≡ true → a ≡ b
+      eq_of a b h = grind (arith, nat_tests)
+
+      kind_name : o ≡ 46 → w ≡ codes "null" → w ++ o ∷ [] ≡ codes "null." ++ []
+      kind_name i null = λ j. null j ++ i j ∷ []
+    by true false f g = word true false f g refl
+    by false c f g = word false c f g refl
+
+  -- the content of a blob is decoded
+  ends_blob : Turns p colon w kept o actions.EndBlob → Sound p colon k (front ++ w) o (blob_ends (at m kept colon start used) (blob_of kept))
+  ends_blob (n, inside, e, h, s, is) = by (blob_of kept) refl where
+    by : (b : Option (List ℕ)) → blob_of kept ≡ b → Sound p colon k (front ++ w) o (blob_ends (at m kept colon start used) b)
+    by None f = tt
+    by (Some octets) f = goes (modes.Lob lobs.BlobClose) octets (n, inside ++ o ∷ [], ap (λ l. l ++ o ∷ []) e, (inside, blob_sound inside octets h (ap blob_of (sym s) ∙ f), (λ i. inside ++ is i ∷ [])))
+
+  pub turned : (a : Action) → Turns p colon w kept o a → Sound p colon k (front ++ w) o (acts p (at m kept colon start used) o a)
+  turned (actions.Go m' k') h = goes m' (kept_after k' kept) h
+  turned (actions.Give kind k') h = gives kind (kept_after k' kept) h
+  turned (actions.Before kind k' modes.Blank) h = leaves_blank kind (kept_after k' kept) (used - 0) (omega arith) h
+  turned (actions.Before kind k' modes.Slash) (token, e, h) = leaves_slash kind (kept_after k' kept) token e h
+  turned (actions.Before kind k' m') h = absurd h
+  turned actions.EndWord (e, h, n) = ends_word e h n
+  turned (actions.Split n) (low, high, token, e, h) = splits n kept token low high e (λ r j. h r)
+  turned actions.EndBlob h = ends_blob h
+  turned (actions.Refuse e) h = tt

@@ -1,0 +1,151 @@
+-- Characters that a quoted text keeps as they are.
+use Rattle.std.proofs.Common.{◌≡◌, ℕ, zero, suc, ◌+◌, ◌<◌, ◌≤◌, ◌⊎◌, inl, inr, Bool, true, false, cond, List, [], ◌∷◌, ◌++◌, take, drop, refl, sym, ap, ◌∙◌, subst, arith, append-nil, append_assoc, IsTrue}
+use Rattle.std.specs.Prelude.{◌==◌, ◌&&◌, ◌||◌, not, nat_le, IsUtf8}
+use Rattle.std.specs.Str.{IsAscii}
+use Rattle.std.proofs.Math.Seq.{take-nil, take-add}
+use Rattle.std.proofs.lemmas.Bool.{true≢false}
+use Rattle.std.proofs.lemmas.Bool.Decides.{nat_tests}
+use Rattle.std.proofs.lemmas.Str.{IsUtf8-from_ascii, IsUtf8-append}
+use lib.Utf8.{encode, encodes, scalar, scalars, scalar_cases}
+use Rattle.ion_tokens.specs.declared.mode.Place.{Place}
+use Rattle.ion_tokens.specs.declared.mode.Style.{Style}
+use Rattle.ion_tokens.specs.declared.mode.Within.TheVariants as within
+use Rattle.ion_tokens.specs.declared.mode.Mode.{Mode}
+use Rattle.ion_tokens.specs.declared.mode.Mode.TheVariants as modes
+use Rattle.ion_tokens.specs.declared.mode.Keep.TheVariants as keeps
+use Rattle.ion_tokens.specs.declared.mode.Action.{Action}
+use Rattle.ion_tokens.specs.declared.mode.Action.TheVariants as actions
+use Rattle.ion_tokens.specs.Lexemes.{Each}
+use Rattle.ion_tokens.specs.laws.Each.{each_append}
+use Rattle.ion_tokens.specs.machine.Table.{in_text, stands, is_long, is_clob, quote_of}
+use Rattle.ion_tokens.specs.machine.AtOnce.{is_plain, is_raw, goes_on, AreKept, GoesOver}
+use Rattle.ion_tokens.proofs.texts.Encodings.{encoding, order, one}
+use Rattle.ion_tokens.proofs.texts.TextSteps.{quote_small}
+use Rattle.ion_tokens.proofs.texts.TextElements.{GoesInText, goes_none, goes_one, goes_then, goes_to, read_raw}
+
+-- octets of a class of ASCII
+pub ascii_each : (class : ℕ → Bool) (w : List ℕ) → ((o : ℕ) → class o ≡ true → o < 128) → Each class w → IsAscii w
+ascii_each class [] f h i = omega arith
+ascii_each class (o ∷ os) f h zero = f o h.0
+ascii_each class (o ∷ os) f h (suc i) = ascii_each class os f h.1 i
+
+pub plain_ascii : (s : Style) (o : ℕ) → is_plain s o ≡ true → o < 128
+plain_ascii s o h = grind (arith, nat_tests)
+
+-- fewer octets of a class
+pub each_shorter : (class : ℕ → Bool) (w : List ℕ) (m n : ℕ) → m ≤ n → Each class (take n w) → Each class (take m w)
+each_shorter class [] m n le h = subst (Each class) (sym (take-nil m)) tt
+each_shorter class (o ∷ os) zero n le h = tt
+each_shorter class (o ∷ os) (suc m) zero le h = absurd (omega arith)
+each_shorter class (o ∷ os) (suc m) (suc n) le h = (h.0, each_shorter class os m n (omega arith) h.1)
+
+-- ASCII characters that a text keeps are characters that it keeps
+
+between_raw : (a b c d : Bool) → ((a || b) && d) ≡ true → ((a || b || c) && d) ≡ true
+between_raw true b c true h = refl
+between_raw false true c true h = refl
+between_raw true b c false h = cc
+between_raw false true c false h = cc
+between_raw false false c d h = cc
+
+plain_raw : (s : Style) (w : List ℕ) → Each (is_plain s) w → Each (is_raw (is_long s) (quote_of s)) w
+plain_raw s [] h = tt
+plain_raw s (o ∷ os) h = (between_raw (stands o) (is_long s && (o == 10)) (nat_le 128 o) (not ((o == 92) || (o == quote_of s))) h.0, plain_raw s os h.1)
+
+pub plain_kept : (s : Style) (w : List ℕ) → Each (is_plain s) w → AreKept s w
+plain_kept s w h = (plain_raw s w h, IsUtf8-from_ascii w (ascii_each (is_plain s) w (plain_ascii s) h), λ clob. h)
+
+-- octets with which the mode goes on are some over which it does
+pub each_over : (m : Mode) (w : List ℕ) → Each (goes_on m) w → GoesOver m w
+each_over (modes.Text s within.Plain) w h = plain_kept s w h
+each_over _ w h = h
+
+-- behind ASCII characters others are kept, where the text is no clob
+pub more_kept : (s : Style) (xs ys : List ℕ) → is_clob s ≡ false → Each (is_plain s) xs → Each (is_raw (is_long s) (quote_of s)) ys → IsUtf8 ys
+    → AreKept s (xs ++ ys)
+more_kept s xs ys text h raw utf8 =
+    let front = plain_kept s xs h in
+    (each_append (is_raw (is_long s) (quote_of s)) xs ys front.0 raw, IsUtf8-append xs ys front.1 utf8, λ clob. absurd (true≢false (sym clob ∙ text)))
+
+-- so are those of what is left of a piece behind them
+pub behind_kept : (s : Style) (long : Bool) (quote : ℕ) (octets rest : List ℕ) (ascii k : ℕ) → rest ≡ drop ascii octets → is_clob s ≡ false → long ≡ is_long s → quote ≡ quote_of s
+    → Each (is_plain s) (take ascii octets) → Each (is_raw long quote) (take k rest) → IsUtf8 (take k rest) → AreKept s (take (ascii + k) octets)
+behind_kept s long quote octets rest ascii k e text l q h raw utf8 =
+    subst (AreKept s) (ap (λ w. take ascii octets ++ take k w) e ∙ sym (take-add ascii k octets))
+    (more_kept s (take ascii octets) (take k rest) text h
+    (subst (λ b. Each (is_raw b (quote_of s)) (take k rest)) l (subst (λ (n : ℕ). Each (is_raw long n) (take k rest)) q raw)) utf8)
+
+-- Octets that are kept lead to the text's state between two characters.
+
+each_split : (class : ℕ → Bool) (xs ys : List ℕ) → Each class (xs ++ ys) → Each class xs × Each class ys
+each_split class [] ys h = (tt, h)
+each_split class (x ∷ xs) ys h = let rest = each_split class xs ys h.1 in ((h.0, rest.0), rest.1)
+
+-- what the table says of a plain character
+no_return : (long : Bool) (o : ℕ) → (stands o || (long && (o == 10))) ≡ true → (long && (o == 13)) ≡ false
+no_return true o h = grind (arith, nat_tests)
+no_return false o h = refl
+
+text_more : (a b c d : Bool) (x y z w v : Action) → (d && not (a || b)) ≡ true → (d ≡ true → c ≡ false) → cond a x (cond b y (cond c z (cond d w v))) ≡ w
+text_more false false c true x y z w v h f = ap (λ e. cond e z w) (f refl)
+text_more false true c true x y z w v h f = cc
+text_more true b c true x y z w v h f = cc
+text_more a b c false x y z w v h f = cc
+
+pub plain_stays : (s : Style) (o : ℕ) → is_plain s o ≡ true → in_text s within.Plain o ≡ actions.Go (modes.Text s within.Plain) (keeps.One o)
+plain_stays s o h = text_more (o == 92) (o == quote_of s) (is_long s && (o == 13)) (stands o || (is_long s && (o == 10))) _ _ _ _ _ h (no_return (is_long s) o)
+
+raw_low : (a b c d : Bool) → c ≡ false → ((a || b || c) && d) ≡ true → ((a || b) && d) ≡ true
+raw_low true b c d e h = h
+raw_low false true c d e h = h
+raw_low false false true d e h = cc
+raw_low false false false d e h = h
+
+-- an ASCII one
+low_plain : (s : Style) (c : ℕ) → c < 128 → is_raw (is_long s) (quote_of s) c ≡ true → is_plain s c ≡ true
+low_plain s c low h = raw_low (stands c) (is_long s && (c == 10)) (nat_le 128 c) (not ((c == 92) || (c == quote_of s))) (grind (arith, nat_tests)) h
+
+text_no_clob : (s : Style) (c : ℕ) → is_clob s ≡ false → IsTrue (is_clob s) → c < 128
+text_no_clob s c text clob = absurd (true≢false (sym clob ∙ text))
+
+one_kept : (p : Place) (s : Style) (c : ℕ) (kept : List ℕ) → is_clob s ≡ false → scalar c ≡ true → Each (is_raw (is_long s) (quote_of s)) (encode c)
+    → GoesInText p s within.Plain kept (encode c) within.Plain (kept ++ encode c)
+one_kept p s c kept text u h = by (order c 128) where
+  by : (c < 128) ⊎ (128 ≤ c) → GoesInText p s within.Plain kept (encode c) within.Plain (kept ++ encode c)
+  by (inl low) =
+      let is = one c low in
+      subst (λ l. GoesInText p s within.Plain kept l within.Plain (kept ++ l)) (sym is)
+      (goes_one p s within.Plain c kept within.Plain (keeps.One c) (plain_stays s c (low_plain s c low (subst (Each (is_raw (is_long s) (quote_of s))) is h).0)))
+  by (inr high) =
+      let quote = quote_small s in
+      read_raw p s c within.Plain kept (λ o is. tt) u (λ e. omega arith) (λ e. omega arith) (inr (inr (inr (omega arith)))) (text_no_clob s c text) (encoding c (scalar_cases c u))
+
+chars_kept : (p : Place) (s : Style) (cs kept : List ℕ) → is_clob s ≡ false → scalars cs ≡ true → Each (is_raw (is_long s) (quote_of s)) (encodes cs)
+    → GoesInText p s within.Plain kept (encodes cs) within.Plain (kept ++ encodes cs)
+chars_kept p s [] kept text u h = goes_to p s within.Plain within.Plain [] kept kept (kept ++ []) (sym (append-nil kept)) (goes_none p s within.Plain kept)
+chars_kept p s (c ∷ cs) kept text u h =
+    let parts = each_split (is_raw (is_long s) (quote_of s)) (encode c) (encodes cs) h in
+    let each = both (scalar c) (scalars cs) u in
+    goes_to p s within.Plain within.Plain (encode c ++ encodes cs) kept ((kept ++ encode c) ++ encodes cs) (kept ++ (encode c ++ encodes cs)) (append_assoc kept (encode c) (encodes cs))
+    (goes_then p s within.Plain within.Plain within.Plain (encode c) (encodes cs) kept (kept ++ encode c) ((kept ++ encode c) ++ encodes cs)
+    (one_kept p s c kept text each.0 parts.0) (chars_kept p s cs (kept ++ encode c) text each.1 parts.1))
+  where
+    both : (a b : Bool) → (a && b) ≡ true → (a ≡ true) × (b ≡ true)
+    both true b e = (refl, e)
+    both false b e = cc
+
+each_kept : (p : Place) (s : Style) (w kept : List ℕ) → Each (is_plain s) w → GoesInText p s within.Plain kept w within.Plain (kept ++ w)
+each_kept p s [] kept h = goes_to p s within.Plain within.Plain [] kept kept (kept ++ []) (sym (append-nil kept)) (goes_none p s within.Plain kept)
+each_kept p s (o ∷ os) kept h =
+    goes_to p s within.Plain within.Plain (o ∷ os) kept ((kept ++ o ∷ []) ++ os) (kept ++ o ∷ os) (append_assoc kept (o ∷ []) os)
+    (goes_then p s within.Plain within.Plain within.Plain (o ∷ []) os kept (kept ++ o ∷ []) ((kept ++ o ∷ []) ++ os)
+    (goes_one p s within.Plain o kept within.Plain (keeps.One o) (plain_stays s o h.0)) (each_kept p s os (kept ++ o ∷ []) h.1))
+
+pub kept_goes : (p : Place) (s : Style) (w kept : List ℕ) → AreKept s w → GoesInText p s within.Plain kept w within.Plain (kept ++ w)
+kept_goes p s w kept h = by (is_clob s) refl where
+  by : (clob : Bool) → is_clob s ≡ clob → GoesInText p s within.Plain kept w within.Plain (kept ++ w)
+  by true e = each_kept p s w kept (h.2 e)
+  by false e =
+      let is = h.1.1.1 in
+      subst (λ l. GoesInText p s within.Plain kept l within.Plain (kept ++ l)) is
+      (chars_kept p s h.1.0 kept e h.1.1.0 (subst (Each (is_raw (is_long s) (quote_of s))) (sym is) h.0))

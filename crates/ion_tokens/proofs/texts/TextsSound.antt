@@ -1,0 +1,375 @@
+-- What is read as a quoted text is spelled so, in each style.
+use Rattle.std.proofs.Common.{◌≡◌, ◌≢◌, ℕ, zero, suc, ◌+◌, ◌-◌, ◌*◌, ◌/◌, ◌%◌, ◌<◌, ◌≤◌, ◌⊎◌, inl, inr, ⊎_elim, true, false, List, [], ◌∷◌, ◌++◌, length, refl, sym, ap, ◌∙◌, subst, arith, append_assoc, append-nil, cond}
+use Rattle.std.specs.Prelude.{◌==◌}
+use Rattle.std.specs.List.{flat_map}
+use Rattle.std.specs.Char.{IsScalar}
+use Rattle.std.proofs.lemmas.Bool.{true≢false}
+use Rattle.std.proofs.lemmas.Bool.Decides.{nat_tests}
+use Rattle.ion_tokens.proofs.texts.Encodings as law
+use Rattle.ion_tokens.proofs.texts.Encodings.{order}
+use lib.Utf8.{encode}
+use Rattle.ion_atoms.specs.declared.refusal.Reason.TheVariants as reasons
+use Rattle.ion_tokens.specs.declared.mode.Style.{Style}
+use Rattle.ion_tokens.specs.declared.mode.Within.{Within}
+use Rattle.ion_tokens.specs.declared.mode.Digits.{Digits}
+use Rattle.ion_tokens.specs.declared.mode.Mode.{Mode}
+use Rattle.ion_tokens.specs.declared.mode.Lob.{Lob}
+use Rattle.ion_tokens.specs.declared.mode.TokenKind.{TokenKind}
+use Rattle.ion_tokens.specs.declared.mode.Keep.{Keep}
+use Rattle.ion_tokens.specs.declared.mode.Action.{Action}
+use Rattle.ion_tokens.specs.declared.mode.Style.TheVariants as styles
+use Rattle.ion_tokens.specs.declared.mode.Digits.TheVariants as digits
+use Rattle.ion_tokens.specs.declared.mode.Within.TheVariants as within
+use Rattle.ion_tokens.specs.declared.mode.Mode.TheVariants as modes
+use Rattle.ion_tokens.specs.declared.mode.Lob.TheVariants as lobs
+use Rattle.ion_tokens.specs.declared.mode.TokenKind.TheVariants as kinds
+use Rattle.ion_tokens.specs.declared.mode.Keep.TheVariants as keeps
+use Rattle.ion_tokens.specs.declared.mode.Action.TheVariants as actions
+use Rattle.ion_tokens.specs.Quoted.{Element, Raw, RawLine, Lf, IsElement, IsRaw, spelling, meaning, IsHexAfter, IsQuoted, is_raw_lf, is_raw_quote, ends_in_cr}
+use Rattle.ion_tokens.specs.machine.Table.{raw, is_long, is_clob, quote_of}
+use Rattle.ion_tokens.specs.machine.Scanning.{kept_after}
+use Rattle.ion_tokens.proofs.texts.TextSteps.{StandsRaw, raw_one, raw_two, raw_three, raw_four, least_three, most_three, least_four, most_four, raw_quote, raw_lf, raw_cr, quote_small, Caps}
+use Rattle.ion_tokens.proofs.texts.TextsComplete.{eq_or, bool_cases, long_quote}
+use Rattle.ion_tokens.proofs.texts.TextOrders.{last_is, last_is_last, Base, base_more, flat_last, quoted}
+
+-- the octets are a character beyond ASCII
+abbrev pub Whole : List ℕ → Type 0
+Whole p = (c : ℕ) × IsScalar c × (128 ≤ c) × (encode c ≡ p)
+
+-- so many octets in their ranges make it one
+abbrev pub EndsAfter : ℕ → ℕ → ℕ → List ℕ → Type 0
+EndsAfter zero lo hi p = Whole p
+EndsAfter (suc n) lo hi p = (o : ℕ) → lo ≤ o → o ≤ hi → EndsAfter n 128 191 (p ++ o ∷ [])
+
+abbrev pub SoFar : ℕ → ℕ → ℕ → List ℕ → Type 0
+SoFar total left m os = (n : ℕ) × (length os + left ≡ total) × (0 < left) × IsHexAfter 0 os n × Caps m n
+
+abbrev pub IsHigh : ℕ → List ℕ → Type 0
+IsHigh h first = (length first ≡ 4) × (high : ℕ) × IsHexAfter 0 first (0xd800 + high) × (h ≡ 0xd800 + high) × (high < 1024)
+
+abbrev pub HexPart : Digits → List ℕ → ℕ → ℕ → Type 0
+HexPart digits.Octet p left m = (os : List ℕ) × (p ≡ 92 ∷ 120 ∷ os) × SoFar 2 left m os
+HexPart digits.Unit p left m = (os : List ℕ) × (p ≡ 92 ∷ 117 ∷ os) × SoFar 4 left m os
+HexPart digits.Scalar p left m = (os : List ℕ) × (p ≡ 92 ∷ 85 ∷ os) × SoFar 8 left m os
+HexPart (digits.LowSurrogate h) p left m = (first os : List ℕ) × (p ≡ 92 ∷ 117 ∷ first ++ 92 ∷ 117 ∷ os) × IsHigh h first × SoFar 4 left m os
+
+abbrev pub TextOnly : Style → Digits → Type 0
+TextOnly s digits.Octet = Unit {0}
+TextOnly s _ = is_clob s ≡ false
+
+-- what has been read of the next element, and kept of it
+abbrev pub Part : Style → Within → List ℕ → List ℕ → Type 0
+Part s within.Plain p q = (p ≡ []) × (q ≡ [])
+Part s within.AfterReturn p q = ((p ≡ 92 ∷ 13 ∷ []) × (q ≡ [])) ⊎ ((is_long s ≡ true) × (p ≡ 13 ∷ []) × (q ≡ 10 ∷ []))
+Part s within.OneQuote p q = (is_long s ≡ true) × (p ≡ 39 ∷ []) × (q ≡ 39 ∷ [])
+Part s within.TwoQuotes p q = (is_long s ≡ true) × (p ≡ 39 ∷ 39 ∷ []) × (q ≡ 39 ∷ 39 ∷ [])
+Part s (within.Utf8 left lo hi) p q = (is_clob s ≡ false) × (q ≡ p) × (0 < left) × EndsAfter left lo hi p
+Part s within.Escape p q = (p ≡ 92 ∷ []) × (q ≡ [])
+Part s (within.Hexadecimal d left m) p q = (q ≡ []) × TextOnly s d × HexPart d p left m
+Part s (within.HighSurrogate h) p q = (q ≡ []) × (is_clob s ≡ false) × (first : List ℕ) × (p ≡ 92 ∷ 117 ∷ first) × IsHigh h first
+Part s (within.HighSurrogateEscape h) p q = (q ≡ []) × (is_clob s ≡ false) × (first : List ℕ) × (p ≡ 92 ∷ 117 ∷ first ++ 92 ∷ []) × IsHigh h first
+
+-- what the elements before may end in
+abbrev pub After : Style → Within → List Element → Type 0
+After s within.Plain es = (last_is ends_in_cr es ≡ false) × (is_long s ≡ true → last_is is_raw_quote es ≡ false)
+After s within.OneQuote es = last_is is_raw_quote es ≡ false
+After s within.TwoQuotes es = last_is is_raw_quote es ≡ false
+After s _ es = Unit {0}
+
+-- p is elements and a part, and q what they mean and what is kept of the part
+pub record Reads (s : Style) (v : Within) (w k : List ℕ) : Type 0 where
+  pub elements : List Element
+  pub p : List ℕ
+  pub q : List ℕ
+  pub base : Base s elements
+  pub after : After s v elements
+  pub part : Part s v p q
+  pub spelled : w ≡ flat_map spelling elements ++ p
+  pub means : k ≡ flat_map (meaning s) elements ++ q
+
+-- the quotes that close a text
+abbrev pub closing : Style → List ℕ
+closing s = cond (is_long s) (39 ∷ 39 ∷ 39 ∷ []) (quote_of s ∷ [])
+
+-- a whole text with the quotes that close it
+pub record Closes (s : Style) (w octets : List ℕ) : Type 0 where
+  pub content : List ℕ
+  pub is : IsQuoted s content octets
+  pub spelled : w ≡ content ++ closing s
+
+abbrev pub GivesText : Style → TokenKind → Type 0
+GivesText styles.ShortString kinds.ShortString = Unit {0}
+GivesText styles.QuotedSymbol kinds.QuotedSymbol = Unit {0}
+GivesText styles.LongString kinds.LongString = Unit {0}
+GivesText _ _ = ⊥
+
+abbrev pub EndsText : Style → Lob → Type 0
+EndsText styles.ShortClob lobs.AfterShort = Unit {0}
+EndsText styles.LongClob lobs.AfterLong = Unit {0}
+EndsText _ _ = ⊥
+
+abbrev pub LeadsTo : Style → Mode → List ℕ → List ℕ → Type 0
+LeadsTo s (modes.Text s' v) w k = (s' ≡ s) × Reads s v w k
+LeadsTo s (modes.Lob l) w k = EndsText s l × Closes s w k
+LeadsTo s _ w k = ⊥
+
+-- two quotes were kept that are dropped
+abbrev pub Keeps : Keep → List ℕ → Type 0
+Keeps keeps.DropQuotes q = (front : List ℕ) × (q ≡ front ++ 39 ∷ 39 ∷ [])
+Keeps _ q = Unit {0}
+
+-- behind elements, an action leads to what was read
+abbrev pub Leads : Style → List Element → Action → List ℕ → List ℕ → Type 0
+Leads s es (actions.Go m k) p q = Keeps k q × LeadsTo s m (flat_map spelling es ++ p) (flat_map (meaning s) es ++ kept_after k q)
+Leads s es (actions.Give kind k) p q = Keeps k q × GivesText s kind × Closes s (flat_map spelling es ++ p) (flat_map (meaning s) es ++ kept_after k q)
+Leads s es (actions.Refuse e) p q = Unit {0}
+Leads s es _ p q = ⊥
+
+pub by_action : (s : Style) (es : List Element) {a b : Action} (p q : List ℕ) → a ≡ b → Leads s es b p q → Leads s es a p q
+by_action s es p q e h = subst (λ a. Leads s es a p q) (sym e) h
+
+pub part_only : (s : Style) (es : List Element) (v : Within) (p q : List ℕ) → Base s es → After s v es → Part s v p q → (s ≡ s) × Reads s v (flat_map spelling es ++ p) (flat_map (meaning s) es ++ q)
+part_only s es v p q b a h = (refl, record { elements = es; p = p; q = q; base = b; after = a; part = h; spelled = refl; means = refl })
+
+-- the element fits behind the others, and neither ends in a CR nor is a long text's raw quote
+pub record FitsBehind (s : Style) (es : List Element) (e : Element) : Type 0 where
+  pub is : IsElement s e
+  pub lf : last_is ends_in_cr es ≡ true → is_raw_lf e ≡ false
+  pub cr : ends_in_cr e ≡ false
+  pub quote : is_long s ≡ true → is_raw_quote e ≡ false
+
+pub one_element : (s : Style) (es : List Element) (e : Element) (p q : List ℕ) → Base s es → FitsBehind s es e → p ≡ spelling e → q ≡ meaning s e → (s ≡ s) × Reads s within.Plain (flat_map spelling es ++ p) (flat_map (meaning s) es ++ q)
+one_element s es e p q b f i m = (
+  refl,
+  record {
+    elements = es ++ e ∷ [];
+    p = [];
+    q = [];
+    base = base_more s es e b f.is f.lf f.quote;
+    after = (last_is_last ends_in_cr es e ∙ f.cr, λ l. last_is_last is_raw_quote es e ∙ f.quote l);
+    part = (refl, refl);
+    spelled = ap (λ l. flat_map spelling es ++ l) i ∙ sym (flat_last spelling es e) ∙ sym (append-nil (flat_map spelling (es ++ e ∷ [])));
+    means = ap (λ l. flat_map (meaning s) es ++ l) m ∙ sym (flat_last (meaning s) es e) ∙ sym (append-nil (flat_map (meaning s) (es ++ e ∷ [])));
+  },
+)
+
+-- two octets
+two_whole : (x y : ℕ) → 194 ≤ x → x < 224 → 128 ≤ y → y ≤ 191 → Whole (x ∷ y ∷ [])
+two_whole x y a b d e =
+    let c : ℕ = (x - 192) * 64 + (y - 128) in
+    let first : 192 + c / 64 ≡ x = omega arith in
+    let second : 128 + c % 64 ≡ y = omega arith in
+    (c, grind (arith, nat_tests), omega arith, law.two c (omega arith) (omega arith) ∙ (λ i. first i ∷ second i ∷ []))
+
+three_whole : (x y z : ℕ) → 224 ≤ x → x < 240 → least_three x ≤ y → y ≤ most_three x → 128 ≤ z → z ≤ 191 → Whole (x ∷ y ∷ z ∷ [])
+three_whole x y z a b d e f g =
+    let low : 128 ≤ y = grind (arith, nat_tests) in
+    let high : y ≤ 191 = grind (arith, nat_tests) in
+    let first_low : x ≡ 224 → 160 ≤ y = grind (arith, nat_tests) in
+    let first_high : x ≡ 237 → y ≤ 159 = grind (arith, nat_tests) in
+    let c : ℕ = (x - 224) * 4096 + (y - 128) * 64 + (z - 128) in
+    let least : 2048 ≤ c = ⊎_elim (λ i. omega (arith, first_low i)) (λ i. omega arith) (eq_or x 224) in
+    let gap : (c < 55296) ⊎ (57344 ≤ c) = ⊎_elim (λ i. inl (omega (arith, first_high i))) (λ i. ⊎_elim (λ j. inl (omega arith)) (λ j. inr (omega arith)) (order x 237)) (eq_or x 237) in
+    let one : 224 + c / 4096 ≡ x = omega arith in
+    let two : 128 + (c / 64) % 64 ≡ y = omega arith in
+    let three : 128 + c % 64 ≡ z = omega arith in
+    (c, ⊎_elim (λ i. grind (arith, nat_tests)) (λ i. grind (arith, nat_tests)) gap, omega arith, law.three c least (omega arith) ∙ (λ i. one i ∷ two i ∷ three i ∷ []))
+
+four_whole : (x y z v : ℕ) → 240 ≤ x → x ≤ 244 → least_four x ≤ y → y ≤ most_four x → 128 ≤ z → z ≤ 191 → 128 ≤ v → v ≤ 191 → Whole (x ∷ y ∷ z ∷ v ∷ [])
+four_whole x y z v a b d e f g h k =
+    let low : 128 ≤ y = grind (arith, nat_tests) in
+    let high : y ≤ 191 = grind (arith, nat_tests) in
+    let first_low : x ≡ 240 → 144 ≤ y = grind (arith, nat_tests) in
+    let first_high : x ≡ 244 → y ≤ 143 = grind (arith, nat_tests) in
+    let c : ℕ = (x - 240) * 262144 + (y - 128) * 4096 + (z - 128) * 64 + (v - 128) in
+    let least : 65536 ≤ c = ⊎_elim (λ i. omega (arith, first_low i)) (λ i. omega arith) (eq_or x 240) in
+    let most : c < 1114112 = ⊎_elim (λ i. omega (arith, first_high i)) (λ i. omega arith) (eq_or x 244) in
+    let one : 240 + c / 262144 ≡ x = omega arith in
+    let two : 128 + (c / 4096) % 64 ≡ y = omega arith in
+    let three : 128 + (c / 64) % 64 ≡ z = omega arith in
+    let four : 128 + c % 64 ≡ v = omega arith in
+    (c, grind (arith, nat_tests), omega arith, law.four c least ∙ (λ i. one i ∷ two i ∷ three i ∷ four i ∷ []))
+
+raw_white : (s : Style) (o : ℕ) → o < 32 → o ≢ 9 → o ≢ 10 → o ≢ 11 → o ≢ 12 → o ≢ 13 → raw s o ≡ actions.Refuse reasons.Unexpected
+raw_white styles.ShortString o l a b c d e = grind (arith, nat_tests)
+raw_white styles.QuotedSymbol o l a b c d e = grind (arith, nat_tests)
+raw_white styles.LongString o l a b c d e = grind (arith, nat_tests)
+raw_white styles.ShortClob o l a b c d e = grind (arith, nat_tests)
+raw_white styles.LongClob o l a b c d e = grind (arith, nat_tests)
+
+no_lf : (s : Style) → is_long s ≡ false → raw s 10 ≡ actions.Refuse reasons.Unexpected
+no_lf styles.ShortString h = refl
+no_lf styles.QuotedSymbol h = refl
+no_lf styles.ShortClob h = refl
+no_lf styles.LongString h = cc
+no_lf styles.LongClob h = cc
+
+no_cr : (s : Style) → is_long s ≡ false → raw s 13 ≡ actions.Refuse reasons.Unexpected
+no_cr styles.ShortString h = refl
+no_cr styles.QuotedSymbol h = refl
+no_cr styles.ShortClob h = refl
+no_cr styles.LongString h = cc
+no_cr styles.LongClob h = cc
+
+raw_clob : (s : Style) (o : ℕ) → is_clob s ≡ true → quote_of s < 128 → 128 ≤ o → raw s o ≡ actions.Refuse reasons.Unexpected
+raw_clob s o c q l = grind (arith, nat_tests)
+
+raw_wrong : (s : Style) (o : ℕ) → is_clob s ≡ false → quote_of s < 128 → 128 ≤ o → (o < 194) ⊎ (244 < o) → raw s o ≡ actions.Refuse reasons.BadUtf8
+raw_wrong s o c q l (inl h) = grind (arith, nat_tests)
+raw_wrong s o c q l (inr h) = grind (arith, nat_tests)
+
+-- behind these elements this octet may stand as it is
+pub record Behind (s : Style) (es : List Element) (o : ℕ) : Type 0 where
+  pub base : Base s es
+  pub lf : o ≡ 10 → last_is ends_in_cr es ≡ false
+  pub quote : is_long s ≡ true → o ≡ 39 → last_is is_raw_quote es ≡ false
+
+pub no_quote_raw : (s : Style) (o : ℕ) → o ≢ quote_of s → is_long s ≡ true → (o == 39) ≡ false
+no_quote_raw s o n l = let q : quote_of s ≡ 39 = long_quote s l in let m : o ≢ 39 = (λ e. n (e ∙ sym q)) in grind (arith, nat_tests)
+
+pub fits_raw : (s : Style) (es : List Element) (c : ℕ) → IsRaw s c → c ≢ quote_of s → FitsBehind s es (Raw c)
+fits_raw s es c i n = record { is = i; lf = λ h. refl; cr = refl; quote = λ l. no_quote_raw s c n l }
+
+ascii_leads : (s : Style) (es : List Element) (o : ℕ) → Behind s es o → o < 128 → o ≢ 92 → o ≢ quote_of s → StandsRaw o → Leads s es (raw s o) (o ∷ []) []
+ascii_leads s es o b l a n w = by_action s es (o ∷ []) [] (raw_one s o l a n w)
+    (tt, one_element s es (Raw o) (o ∷ []) (o ∷ []) b.base (fits_raw s es o (grind (arith, nat_tests), a, inr n, w, λ i. l) n) (sym (law.one o l)) (sym (law.one o l)))
+
+lf_leads : (s : Style) (es : List Element) → Behind s es 10 → Leads s es (raw s 10) (10 ∷ []) []
+lf_leads s es b = ⊎_elim
+    (λ l. by_action s es (10 ∷ []) [] (raw_lf s l) (tt, one_element s es (RawLine Lf) (10 ∷ []) (10 ∷ []) b.base (record { is = l; lf = λ h. absurd (true≢false (sym h ∙ b.lf refl)); cr = refl; quote = λ m. refl }) refl refl))
+    (λ f. by_action s es (10 ∷ []) [] (no_lf s f) tt) (bool_cases (is_long s))
+
+cr_leads : (s : Style) (es : List Element) → Behind s es 13 → Leads s es (raw s 13) (13 ∷ []) []
+cr_leads s es b = ⊎_elim
+    (λ l. by_action s es (13 ∷ []) [] (raw_cr s l) (tt, part_only s es within.AfterReturn (13 ∷ []) (10 ∷ []) b.base tt (inr (l, refl, refl))))
+    (λ f. by_action s es (13 ∷ []) [] (no_cr s f) tt) (bool_cases (is_long s))
+
+low_leads : (s : Style) (es : List Element) (o : ℕ) → Behind s es o → o < 32 → o ≢ quote_of s → Leads s es (raw s o) (o ∷ []) []
+low_leads s es o b l n =
+    ⊎_elim (λ i. ascii_leads s es o b (omega arith) (omega arith) n (inl i)) (λ a.
+    ⊎_elim (λ i. ascii_leads s es o b (omega arith) (omega arith) n (inr (inl i))) (λ c.
+    ⊎_elim (λ i. ascii_leads s es o b (omega arith) (omega arith) n (inr (inr (inl i)))) (λ d.
+    ⊎_elim (λ (i : o ≡ 10). subst (λ (x : ℕ). Leads s es (raw s x) (x ∷ []) []) (sym i) (lf_leads s es (subst (λ (x : ℕ). Behind s es x) i b))) (λ e.
+    ⊎_elim (λ (i : o ≡ 13). subst (λ (x : ℕ). Leads s es (raw s x) (x ∷ []) []) (sym i) (cr_leads s es (subst (λ (x : ℕ). Behind s es x) i b))) (λ f.
+    by_action s es (o ∷ []) [] (raw_white s o l a e c d f) tt)
+    (eq_or o 13)) (eq_or o 10)) (eq_or o 12)) (eq_or o 11)) (eq_or o 9)
+
+-- the quote of a style with one quote closes the text
+closed_short : (s : Style) (es : List Element) → Base s es → is_long s ≡ false → Closes s (flat_map spelling es ++ quote_of s ∷ []) (flat_map (meaning s) es ++ [])
+closed_short s es b l = record {
+  content = flat_map spelling es;
+  is = subst (λ k. IsQuoted s (flat_map spelling es) k) (sym (append-nil (flat_map (meaning s) es))) (quoted s es b (λ t. absurd (true≢false (sym t ∙ l))));
+  spelled = ap (λ c. flat_map spelling es ++ cond c (39 ∷ 39 ∷ 39 ∷ []) (quote_of s ∷ [])) (sym l);
+}
+
+short_closes : (s : Style) (es : List Element) → Base s es → is_long s ≡ false → Leads s es (raw s (quote_of s)) (quote_of s ∷ []) []
+short_closes styles.ShortString es b l = (tt, tt, closed_short styles.ShortString es b refl)
+short_closes styles.QuotedSymbol es b l = (tt, tt, closed_short styles.QuotedSymbol es b refl)
+short_closes styles.ShortClob es b l = (tt, (tt, closed_short styles.ShortClob es b refl))
+short_closes styles.LongString es b l = cc
+short_closes styles.LongClob es b l = cc
+
+quote_leads : (s : Style) (es : List Element) (o : ℕ) → Behind s es o → o ≡ quote_of s → Leads s es (raw s o) (o ∷ []) []
+quote_leads s es o b e = ⊎_elim
+    (λ l. let i : o ≡ 39 = e ∙ long_quote s l in subst (λ (x : ℕ). Leads s es (raw s x) (x ∷ []) []) (sym i)
+    (by_action s es (39 ∷ []) [] (raw_quote s l) (tt, part_only s es within.OneQuote (39 ∷ []) (39 ∷ []) b.base (b.quote l i) (l, refl, refl))))
+    (λ f. subst (λ (x : ℕ). Leads s es (raw s x) (x ∷ []) []) (sym e) (short_closes s es b.base f)) (bool_cases (is_long s))
+
+high_leads : (s : Style) (es : List Element) (o : ℕ) → Base s es → is_clob s ≡ false → 128 ≤ o → Leads s es (raw s o) (o ∷ []) []
+high_leads s es o b t h =
+    ⊎_elim (λ h'. by_action s es (o ∷ []) [] (raw_wrong s o t (quote_small s) h (inl h')) tt) (λ h'.
+    ⊎_elim (λ m. by_action s es (o ∷ []) [] (raw_two s o t (quote_small s) h' m) (tt, part_only s es (within.Utf8 1 128 191) (o ∷ []) (o ∷ []) b tt (t, refl, omega arith, λ y e f. two_whole o y h' m e f))) (λ m.
+    ⊎_elim (λ n. by_action s es (o ∷ []) [] (raw_three s o t (quote_small s) m n) (tt, part_only s es (within.Utf8 2 (least_three o) (most_three o)) (o ∷ []) (o ∷ []) b tt (t, refl, omega arith, λ y e f z g k. three_whole o y z m n e f g k))) (λ n.
+    ⊎_elim (λ k. by_action s es (o ∷ []) [] (raw_four s o t (quote_small s) n (omega arith)) (tt, part_only s es (within.Utf8 3 (least_four o) (most_four o)) (o ∷ []) (o ∷ []) b tt (t, refl, omega arith, λ y e f z g i v r x. four_whole o y z v n (omega arith) e f g i r x)))
+    (λ k. by_action s es (o ∷ []) [] (raw_wrong s o t (quote_small s) h (inr (omega arith))) tt)
+    (order o 245)) (order o 240)) (order o 224)) (order o 194)
+
+backslash : (s : Style) (es : List Element) → Base s es → Leads s es (raw s 92) (92 ∷ []) []
+backslash s es b = (tt, part_only s es within.Escape (92 ∷ []) [] b tt (refl, refl))
+
+pub raw_leads : (s : Style) (es : List Element) (o : ℕ) → Behind s es o → Leads s es (raw s o) (o ∷ []) []
+raw_leads s es o b =
+    ⊎_elim (λ (i : o ≡ 92). subst (λ (x : ℕ). Leads s es (raw s x) (x ∷ []) []) (sym i) (backslash s es b.base)) (λ a.
+    ⊎_elim (λ i. quote_leads s es o b i) (λ n.
+    ⊎_elim (λ l. low_leads s es o b l n) (λ l.
+    ⊎_elim (λ h. ascii_leads s es o b h a n (inr (inr (inr l)))) (λ h.
+    ⊎_elim (λ c. by_action s es (o ∷ []) [] (raw_clob s o c (quote_small s) h) tt) (λ t. high_leads s es o b.base t h) (bool_cases (is_clob s)))
+    (order o 128)) (order o 32)) (eq_or o (quote_of s))) (eq_or o 92)
+
+no_drop : (k : List ℕ) → ((front : List ℕ) × ([] ≡ front ++ 39 ∷ 39 ∷ [])) → ⊥
+no_drop k (front, e) = by front e where
+  by : (front : List ℕ) → [] ≡ front ++ 39 ∷ 39 ∷ [] → ⊥
+  by [] e = cc
+  by (x ∷ xs) e = cc
+
+shift : (s : Style) (es : List Element) (f : Element) (p : List ℕ) (x : List ℕ) (m : Mode) (y : List ℕ) → y ≡ meaning s f ++ x
+    → LeadsTo s m (flat_map spelling (es ++ f ∷ []) ++ p) (flat_map (meaning s) (es ++ f ∷ []) ++ x) → LeadsTo s m (flat_map spelling es ++ (spelling f ++ p)) (flat_map (meaning s) es ++ y)
+shift s es f p x m y e h =
+    let octets : flat_map spelling (es ++ f ∷ []) ++ p ≡ flat_map spelling es ++ (spelling f ++ p) = ap (λ l. l ++ p) (flat_last spelling es f) ∙ append_assoc (flat_map spelling es) (spelling f) p in
+    let kept : flat_map (meaning s) (es ++ f ∷ []) ++ x ≡ flat_map (meaning s) es ++ y = ap (λ l. l ++ x) (flat_last (meaning s) es f) ∙ append_assoc (flat_map (meaning s) es) (meaning s f) x ∙ ap (λ l. flat_map (meaning s) es ++ l) (sym e) in
+    subst (λ l. LeadsTo s m l (flat_map (meaning s) es ++ y)) octets (subst (λ l. LeadsTo s m (flat_map spelling (es ++ f ∷ []) ++ p) l) kept h)
+
+shift_closes : (s : Style) (es : List Element) (f : Element) (p : List ℕ) (x : List ℕ) (y : List ℕ) → y ≡ meaning s f ++ x
+    → Closes s (flat_map spelling (es ++ f ∷ []) ++ p) (flat_map (meaning s) (es ++ f ∷ []) ++ x) → Closes s (flat_map spelling es ++ (spelling f ++ p)) (flat_map (meaning s) es ++ y)
+shift_closes s es f p x y e h =
+    let octets : flat_map spelling (es ++ f ∷ []) ++ p ≡ flat_map spelling es ++ (spelling f ++ p) = ap (λ l. l ++ p) (flat_last spelling es f) ∙ append_assoc (flat_map spelling es) (spelling f) p in
+    let kept : flat_map (meaning s) (es ++ f ∷ []) ++ x ≡ flat_map (meaning s) es ++ y = ap (λ l. l ++ x) (flat_last (meaning s) es f) ∙ append_assoc (flat_map (meaning s) es) (meaning s f) x ∙ ap (λ l. flat_map (meaning s) es ++ l) (sym e) in
+    subst (λ l. Closes s l (flat_map (meaning s) es ++ y)) octets (subst (λ l. Closes s (flat_map spelling (es ++ f ∷ []) ++ p) l) kept h)
+
+-- an action with nothing kept before
+pub rebase : (s : Style) (es : List Element) (f : Element) (a : Action) (p : List ℕ) → Leads s (es ++ f ∷ []) a p [] → Leads s es a (spelling f ++ p) (meaning s f)
+rebase s es f (actions.Go m keeps.Nothing) p (t, h) = (tt, shift s es f p [] m (meaning s f) (sym (append-nil (meaning s f))) h)
+rebase s es f (actions.Go m (keeps.One o)) p (t, h) = (tt, shift s es f p (o ∷ []) m (meaning s f ++ o ∷ []) refl h)
+rebase s es f (actions.Go m (keeps.Two o x)) p (t, h) = (tt, shift s es f p (o ∷ x ∷ []) m ((meaning s f ++ o ∷ []) ++ x ∷ []) (append_assoc (meaning s f) (o ∷ []) (x ∷ [])) h)
+rebase s es f (actions.Go m (keeps.Character c)) p (t, h) = (tt, shift s es f p (encode c) m (meaning s f ++ encode c) refl h)
+rebase s es f (actions.Go m keeps.DropQuotes) p (t, h) = absurd (no_drop [] t)
+rebase s es f (actions.Give kind keeps.Nothing) p (t, g, h) = (tt, g, shift_closes s es f p [] (meaning s f) (sym (append-nil (meaning s f))) h)
+rebase s es f (actions.Give kind (keeps.One o)) p (t, g, h) = (tt, g, shift_closes s es f p (o ∷ []) (meaning s f ++ o ∷ []) refl h)
+rebase s es f (actions.Give kind (keeps.Two o x)) p (t, g, h) = (tt, g, shift_closes s es f p (o ∷ x ∷ []) ((meaning s f ++ o ∷ []) ++ x ∷ []) (append_assoc (meaning s f) (o ∷ []) (x ∷ [])) h)
+rebase s es f (actions.Give kind (keeps.Character c)) p (t, g, h) = (tt, g, shift_closes s es f p (encode c) (meaning s f ++ encode c) refl h)
+rebase s es f (actions.Give kind keeps.DropQuotes) p (t, g, h) = absurd (no_drop [] t)
+rebase s es f (actions.Refuse e) p h = tt
+rebase s es f (actions.Before _ _ _) p h = h
+rebase s es f actions.EndWord p h = h
+rebase s es f (actions.Split _) p h = h
+rebase s es f actions.EndBlob p h = h
+
+-- the same where something was kept that isn't dropped
+abbrev NoDrop : Action → Type 0
+NoDrop (actions.Go m keeps.DropQuotes) = ⊥
+NoDrop (actions.Give kind keeps.DropQuotes) = ⊥
+NoDrop _ = Unit {0}
+
+pub rebase_kept : (s : Style) (es : List Element) (f : Element) (a : Action) (p q : List ℕ) → NoDrop a → Leads s (es ++ f ∷ []) a p q → Leads s es a (spelling f ++ p) (meaning s f ++ q)
+rebase_kept s es f (actions.Go m keeps.Nothing) p q n (t, h) = (tt, shift s es f p q m (meaning s f ++ q) refl h)
+rebase_kept s es f (actions.Go m (keeps.One o)) p q n (t, h) = (tt, shift s es f p (q ++ o ∷ []) m ((meaning s f ++ q) ++ o ∷ []) (append_assoc (meaning s f) q (o ∷ [])) h)
+rebase_kept s es f (actions.Go m (keeps.Two o x)) p q n (t, h) = (tt, shift s es f p ((q ++ o ∷ []) ++ x ∷ []) m (((meaning s f ++ q) ++ o ∷ []) ++ x ∷ []) (ap (λ l. l ++ x ∷ []) (append_assoc (meaning s f) q (o ∷ [])) ∙ append_assoc (meaning s f) (q ++ o ∷ []) (x ∷ [])) h)
+rebase_kept s es f (actions.Go m (keeps.Character c)) p q n (t, h) = (tt, shift s es f p (q ++ encode c) m ((meaning s f ++ q) ++ encode c) (append_assoc (meaning s f) q (encode c)) h)
+rebase_kept s es f (actions.Go m keeps.DropQuotes) p q n h = absurd n
+rebase_kept s es f (actions.Give kind keeps.Nothing) p q n (t, g, h) = (tt, g, shift_closes s es f p q (meaning s f ++ q) refl h)
+rebase_kept s es f (actions.Give kind (keeps.One o)) p q n (t, g, h) = (tt, g, shift_closes s es f p (q ++ o ∷ []) ((meaning s f ++ q) ++ o ∷ []) (append_assoc (meaning s f) q (o ∷ [])) h)
+rebase_kept s es f (actions.Give kind (keeps.Two o x)) p q n (t, g, h) = (tt, g, shift_closes s es f p ((q ++ o ∷ []) ++ x ∷ []) (((meaning s f ++ q) ++ o ∷ []) ++ x ∷ []) (ap (λ l. l ++ x ∷ []) (append_assoc (meaning s f) q (o ∷ [])) ∙ append_assoc (meaning s f) (q ++ o ∷ []) (x ∷ [])) h)
+rebase_kept s es f (actions.Give kind (keeps.Character c)) p q n (t, g, h) = (tt, g, shift_closes s es f p (q ++ encode c) ((meaning s f ++ q) ++ encode c) (append_assoc (meaning s f) q (encode c)) h)
+rebase_kept s es f (actions.Give kind keeps.DropQuotes) p q n h = absurd n
+rebase_kept s es f (actions.Refuse e) p q n h = tt
+rebase_kept s es f (actions.Before _ _ _) p q n h = h
+rebase_kept s es f actions.EndWord p q n h = h
+rebase_kept s es f (actions.Split _) p q n h = h
+rebase_kept s es f actions.EndBlob p q n h = h
+
+pub leads_no_drop : (s : Style) (es : List Element) (a : Action) (p : List ℕ) → Leads s es a p [] → NoDrop a
+leads_no_drop s es (actions.Go m keeps.Nothing) p h = tt
+leads_no_drop s es (actions.Go m (keeps.One o)) p h = tt
+leads_no_drop s es (actions.Go m (keeps.Two o x)) p h = tt
+leads_no_drop s es (actions.Go m (keeps.Character c)) p h = tt
+leads_no_drop s es (actions.Go m keeps.DropQuotes) p h = no_drop [] h.0
+leads_no_drop s es (actions.Give kind keeps.Nothing) p h = tt
+leads_no_drop s es (actions.Give kind (keeps.One o)) p h = tt
+leads_no_drop s es (actions.Give kind (keeps.Two o x)) p h = tt
+leads_no_drop s es (actions.Give kind (keeps.Character c)) p h = tt
+leads_no_drop s es (actions.Give kind keeps.DropQuotes) p h = no_drop [] h.0
+leads_no_drop s es (actions.Refuse e) p h = tt
+leads_no_drop s es (actions.Before _ _ _) p h = tt
+leads_no_drop s es actions.EndWord p h = tt
+leads_no_drop s es (actions.Split _) p h = tt
+leads_no_drop s es actions.EndBlob p h = tt
