@@ -12,14 +12,14 @@ use Rattle.ion_atoms.specs.declared.refusal.Reason.TheVariants as reasons
 use Rattle.ion_symtab.specs.declared.limits.Limits.{Limits}
 use Rattle.ion_symtab.specs.declared.catalog.Catalog.{Catalog}
 use Rattle.ion_symtab.specs.Slots.{Slot}
-use Rattle.ion_tokens.specs.declared.beside.FoundToken.{FoundToken}
-use Rattle.ion_tokens.specs.declared.beside.TokenReader.{TokenReader}
+use Rattle.ion_tokens.specs.declared.token_reader.FoundToken.{FoundToken}
+use Rattle.ion_tokens.specs.declared.token_reader.TokenReader.{TokenReader}
 use Rattle.ion_tokens.specs.declared.mode.Place.{Place}
 use Rattle.ion_tokens.specs.declared.mode.Mark.TheVariants as marks
 use Rattle.ion_tokens.specs.declared.mode.TokenKind.{TokenKind}
 use Rattle.ion_tokens.specs.declared.mode.TokenKind.TheVariants as kinds
 use Rattle.ion_tokens.specs.declared.scanner.Scanner.{Scanner}
-use Rattle.ion_tokens.specs.declared.whole.Rest.{Rest}
+use Rattle.ion_tokens.specs.declared.plain_tokens.Rest.{Rest}
 use Rattle.ion_tokens.specs.machine.Ahead.{symbol_waits}
 use Rattle.ion_tokens.specs.Bodies.{Content, Word, Id, Quoted, Short, Long, Number', TypedNull, Operator, Clob, Blob, Mark', SaysNumber, IsBody}
 use Rattle.ion_tokens.specs.machine.Bounds.{is_idle}

@@ -7,7 +7,7 @@ use Rattle.ion_tokens.specs.declared.mode.Mark.{Mark}
 use Rattle.ion_tokens.specs.declared.mode.Mark.TheVariants as marks
 use Rattle.ion_tokens.specs.declared.mode.Place.{Place}
 use Rattle.ion_tokens.specs.declared.mode.Place.TheVariants as places
-use Rattle.ion_tokens.specs.declared.whole.Rest.{Rest}
+use Rattle.ion_tokens.specs.declared.plain_tokens.Rest.{Rest}
 use Rattle.ion_tokens.specs.Places.{is_name}
 use Rattle.ion_visiting.specs.Visits.{IsPart, Visits, part, annotation, name, bare_visited, annotated_visited, VisitedPayload, in_one, in_list, in_sexp, in_struct, VisitedItems, VisitedFields, no_annotations, one_annotation}
 use Rattle.ion_text.specs.declared.reader.finders.Scalar.{Scalar}

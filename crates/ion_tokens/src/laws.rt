@@ -10,7 +10,7 @@ ghost use Rattle.ion_tokens.specs.declared.token.Begun.{Begun};
 ghost use Rattle.ion_tokens.specs.Lexed.{Placed, Lexes, LooksIn, Passes};
 ghost use Rattle.ion_tokens.specs.machine.Scanned.{Scanned, Continues, ShowsBegun};
 ghost use Rattle.ion_tokens.specs.machine.Scanning.{Known, feed, follow, run, start_of};
-ghost use Rattle.ion_tokens.specs.declared.whole.Rest.{Rest};
+ghost use Rattle.ion_tokens.specs.declared.plain_tokens.Rest.{Rest};
 ghost use Rattle.ion_tokens.specs.machine.Rests.{resting, past_blank, past_token, lexeme_at, left_after, IsPassed, IsFound};
 ghost use Rattle.ion_tokens.specs.machine.Traces.{Told, Places, over, over_pieces, IsTraced};
 ghost use Rattle.ion_tokens.specs.laws.Tokens.{TellsRightly, ToldAll, OneBegun, TracesTokens};

@@ -8,7 +8,7 @@ use crate::machine::{Machine, start_of};
 use crate::mode::{Mode, Place};
 use crate::table::next;
 use crate::token::{Begun, Foresight, Scan, Token};
-use crate::whole::Rest;
+use crate::plain_tokens::Rest;
 use ion_atoms::{Reason, Refusal};
 use std::alloc::Global;
 use std::fmt::{self, Debug, Formatter};

@@ -1,7 +1,7 @@
 -- What is found of two pieces that begin with the same item.
 use Rattle.std.specs.Prelude.{◌≡◌, ◌≤◌, ℕ, List, length}
 use Rattle.ion_model.specs.declared.value.Value.{Value}
-use Rattle.ion_tokens.specs.declared.whole.Rest.{Rest}
+use Rattle.ion_tokens.specs.declared.plain_tokens.Rest.{Rest}
 use Rattle.ion_tokens.specs.machine.Rests.{past_blank, IsPassed}
 use Rattle.ion_text.specs.declared.reader.TextReader.{TextReader}
 use Rattle.ion_text.specs.declared.reader.walks.Tally.{Tally}

@@ -3,9 +3,9 @@ use Rattle.std.specs.Prelude.{◌≡◌, ◌+◌, ◌-◌, ◌<◌, ◌≤◌, �
 use Rattle.ion_model.specs.declared.value.Payload.{Payload}
 use Rattle.ion_tokens.specs.declared.mode.Place.{Place}
 use Rattle.ion_tokens.specs.declared.mode.Mark.{Mark}
-use Rattle.ion_tokens.specs.declared.whole.Rest.{Rest}
+use Rattle.ion_tokens.specs.declared.plain_tokens.Rest.{Rest}
 use Rattle.ion_scalar.specs.declared.number.Number.{Number}
-use Rattle.ion_tokens.specs.declared.beside.FoundToken.{FoundToken}
+use Rattle.ion_tokens.specs.declared.token_reader.FoundToken.{FoundToken}
 use Rattle.ion_tokens.specs.Bodies.{Number'}
 use Rattle.ion_tokens.specs.machine.Rests.{past_blank, IsFound, IsPassed}
 use Rattle.ion_tokens.specs.machine.Said.{said}

@@ -5,7 +5,7 @@ ghost use Rattle.ion_tokens.specs.Bodies.{content};
 ghost use Rattle.ion_tokens.specs.Places.{is_name};
 ghost use Rattle.ion_tokens.specs.declared.mode.Place.{Place};
 ghost use Rattle.ion_tokens.specs.declared.mode.Place.TheVariants as places;
-ghost use Rattle.ion_tokens.specs.declared.whole.Rest.{Rest};
+ghost use Rattle.ion_tokens.specs.declared.plain_tokens.Rest.{Rest};
 ghost use Rattle.ion_text.specs.machine.FrontTokens.{BeginsName};
 ghost use Rattle.ion_text.specs.machine.EachToken.{held_word, held_payload, number_payload};
 ghost use Rattle.ion_text.specs.machine.Walked.{IsFlat, IsValue};

@@ -5,7 +5,7 @@ ghost use Rattle.ion_model.specs.declared.value.Value.{Value};
 ghost use Rattle.ion_model.specs.Kept.{IsKept};
 ghost use Rattle.ion_model.specs.Outlines.{outline_of};
 ghost use Rattle.ion_symtab.specs.TookUp.{TookUp};
-ghost use Rattle.ion_tokens.specs.declared.beside.TokenReader.{TokenReader};
+ghost use Rattle.ion_tokens.specs.declared.token_reader.TokenReader.{TokenReader};
 ghost use Rattle.ion_tokens.specs.machine.Views.{scanned};
 ghost use Rattle.ion_text.specs.Carrying.{WritesValue};
 ghost use Rattle.ion_text.specs.machine.Progress.{Advances, SameSettings, StaysSteady};

@@ -4,7 +4,7 @@ ghost use Rattle.ion_atoms.specs.declared.refusal.Reason.TheVariants.{Memory};
 ghost use Rattle.ion_tokens.specs.machine.Rests.{resting, IsPassed};
 ghost use Rattle.ion_tokens.specs.machine.Views.{scanned};
 ghost use Rattle.ion_tokens.specs.declared.mode.Place.{Place};
-ghost use Rattle.ion_tokens.specs.declared.whole.Rest.{Rest};
+ghost use Rattle.ion_tokens.specs.declared.plain_tokens.Rest.{Rest};
 ghost use Rattle.ion_text.specs.declared.state.Now.TheVariants as nows;
 ghost use Rattle.ion_text.specs.machine.FrontTokens.{ends_symbol, BeginsSymbol, BeginsName};
 ghost use Rattle.ion_text.specs.machine.EachToken.{place, held_word, held_payload};

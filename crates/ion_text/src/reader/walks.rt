@@ -4,7 +4,7 @@ ghost use Rattle.std.specs.Prelude.{◌≡◌, ◌+◌, ◌-◌, ◌≤◌, ◌<
 ghost use Rattle.ion_atoms.specs.declared.kind.Kind.TheVariants as kinds;
 ghost use Rattle.ion_tokens.specs.Places.{is_name};
 ghost use Rattle.ion_tokens.specs.declared.mode.Place.{Place};
-ghost use Rattle.ion_tokens.specs.declared.whole.Rest.{Rest};
+ghost use Rattle.ion_tokens.specs.declared.plain_tokens.Rest.{Rest};
 ghost use Rattle.ion_tokens.specs.declared.mode.Mark.TheVariants as marks;
 ghost use Rattle.ion_tokens.specs.declared.mode.Place.TheVariants as places;
 ghost use Rattle.ion_tokens.specs.declared.mode.TokenKind.TheVariants as tokens;

@@ -3,10 +3,10 @@ use Rattle.std.proofs.Common.{◌≡◌, ℕ, ◌+◌, ◌-◌, ◌<◌, suc, Bo
 use Rattle.std.specs.Prelude.{slice_index, Option, Some, None, IfSome}
 use Rattle.ion_tokens.specs.declared.mode.Place.{Place}
 use Rattle.ion_tokens.specs.declared.mode.TokenKind.{TokenKind}
-use Rattle.ion_tokens.specs.declared.whole.Rest.{Rest}
+use Rattle.ion_tokens.specs.declared.plain_tokens.Rest.{Rest}
 use Rattle.ion_tokens.specs.declared.machine.Machine.{Machine}
 use Rattle.ion_tokens.specs.declared.machine.Lexeme.{Lexeme as Ended}
-use Rattle.ion_tokens.specs.declared.beside.FoundToken.{FoundToken}
+use Rattle.ion_tokens.specs.declared.token_reader.FoundToken.{FoundToken}
 use Rattle.ion_tokens.specs.machine.Machines.{known, lexeme_in}
 use Rattle.ion_tokens.specs.machine.Scanning.{Known, Outcome, Next, Given, Left, Refused, feed, follow, run}
 use Rattle.ion_tokens.specs.Lexemes.{Lexeme}

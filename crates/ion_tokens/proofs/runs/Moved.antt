@@ -3,7 +3,7 @@ use Rattle.std.proofs.Common.{◌≡◌, ℕ, zero, suc, ◌+◌, ◌-◌, ◌�
 use Rattle.std.proofs.lemmas.List.{length-take-le, take-append-drop}
 use Rattle.ion_tokens.specs.declared.mode.Place.{Place}
 use Rattle.ion_tokens.specs.declared.mode.TokenKind.{TokenKind}
-use Rattle.ion_tokens.specs.declared.whole.Rest.{Rest}
+use Rattle.ion_tokens.specs.declared.plain_tokens.Rest.{Rest}
 use Rattle.ion_tokens.specs.machine.Scanning.{Known, Outcome, Next, feed, run}
 use Rattle.ion_tokens.specs.machine.Rests.{resting, past_blank, past_token, lexeme_at, before_end, ended, IsPassed, IsFound, left_after}
 use Rattle.ion_tokens.specs.machine.Scanned.{Scanned, IsAhead, Continues}

@@ -2,7 +2,7 @@ use Rattle.std.proofs.Common.{rules, ◌≡◌, ◌+◌, ◌++◌, length, take,
 use Rattle.std.specs.Prelude.{IsNone}
 use Rattle.ion_symtab.specs.Trace.{Answers, given_at}
 use Rattle.ion_symtab.specs.declared.items.Passed.{Passed}
-use Rattle.ion_tokens.specs.declared.beside.TokenReader.{TokenReader}
+use Rattle.ion_tokens.specs.declared.token_reader.TokenReader.{TokenReader}
 use Rattle.ion_text.specs.machine.Progress.{Stands}
 use Rattle.ion_text.specs.machine.Run.{trace}
 use Rattle.ion_text.specs.machine.Views.{with_beside}

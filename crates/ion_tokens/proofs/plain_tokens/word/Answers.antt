@@ -1,6 +1,6 @@
 use Rattle.std.proofs.Common.{◌∙◌, sym, arith, ◌<◌, length}
 use Rattle.ion_tokens.proofs.runs.WholeTokens.{word_found, word_text}
-use Rattle.ion_tokens.proofs.whole.word.Goals as goal
+use Rattle.ion_tokens.proofs.plain_tokens.word.Goals as goal
 
 pub returns-clause-found : goal.returns-clause-found
 returns-clause-found c =

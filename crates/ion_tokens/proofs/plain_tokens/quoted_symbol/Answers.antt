@@ -1,7 +1,7 @@
 use Rattle.std.proofs.Common.{arith, ◌<◌, length}
 use Rattle.ion_tokens.specs.declared.mode.Style.TheVariants as styles
 use Rattle.ion_tokens.proofs.runs.WholeTokens.{quoted_found, quoted_text}
-use Rattle.ion_tokens.proofs.whole.quoted_symbol.Goals as goal
+use Rattle.ion_tokens.proofs.plain_tokens.quoted_symbol.Goals as goal
 
 pub returns-clause-found : goal.returns-clause-found
 returns-clause-found c =

@@ -10,7 +10,7 @@ use crate::body::body_of;
 use crate::machine::{Lexeme, Machine, Taken, takes_colon};
 use crate::mode::{Mode, Place, TokenKind};
 use crate::token::Body;
-use crate::whole::Rest;
+use crate::plain_tokens::Rest;
 use ion_atoms::Reason;
 use std::alloc::Global;
 use std::fmt::{self, Debug, Formatter};

@@ -1,8 +1,8 @@
 use Rattle.std.proofs.Common.{◌∙◌, sym, arith, inl, inr}
 use Rattle.std.specs.Prelude.{slice_index}
 use Rattle.ion_tokens.proofs.runs.WholeTokens.{number_found, same_is, StartsNumber}
-use Rattle.ion_tokens.proofs.whole.number.Goals as goal
-use Rattle.ion_tokens.proofs.whole.number.Goals.{else-not-is_digit-via-then-not-is_digit+else-not-is_digit-2, then-octets-eq45, else-octets-eq45, else-not-is_digit-via-else-not-is_digit}
+use Rattle.ion_tokens.proofs.plain_tokens.number.Goals as goal
+use Rattle.ion_tokens.proofs.plain_tokens.number.Goals.{else-not-is_digit-via-then-not-is_digit+else-not-is_digit-2, then-octets-eq45, else-octets-eq45, else-not-is_digit-via-else-not-is_digit}
 
 pub returns : goal.returns
 returns c =

@@ -7,7 +7,7 @@ use Rattle.ion_tokens.specs.Bodies.{content, IsBody}
 use Rattle.ion_tokens.specs.machine.Said.{said, says}
 use Rattle.ion_tokens.specs.machine.Views.{octets_in}
 use Rattle.ion_tokens.proofs.runs.Cutting.{one_body}
-use Rattle.ion_tokens.proofs.beside.TokenReader.body.Goals as goal
+use Rattle.ion_tokens.proofs.token_reader.TokenReader.body.Goals as goal
 
 said_if : (k : TokenKind) (octets : List ℕ) (r : Result Body Reason) → IfOk r (λ b. IsBody k octets (Ok (content b))) → IfOk r (λ b. said k octets ≡ Ok (content b))
 said_if k octets (Ok b) h = one_body k octets (said k octets) (Ok (content b)) (says k octets) h
