@@ -35,9 +35,12 @@ positional_take base xs i h =
     subst (λ (ys : List ℕ). positional base (take i xs) ≤ positional base ys) (take-append-drop i xs) (positional_mono base (take i xs) (drop i xs) h)
 
 -- a number in front is a digit like any other, however large
-pub positional_behind : (base before : ℕ) (xs : List ℕ) (i : ℕ) → i < length xs → positional base (before ∷ take (i + 1) xs) ≡ positional base (before ∷ take i xs) * base + get_or xs i 0
-positional_behind base before xs i h = ap (λ (ys : List ℕ). positional base (before ∷ ys)) (take_more xs i 0 h) ∙ positional_push base (before ∷ take i xs) (get_or xs i 0)
+pub positional_behind : (base before : ℕ) (xs : List ℕ) (i : ℕ) → i < length xs → positional base (before ∷ take (i + 1) xs)
+    ≡ positional base (before ∷ take i xs) * base + get_or xs i 0
+positional_behind base before xs i h = ap (λ (ys : List ℕ). positional base (before ∷ ys)) (take_more xs i 0 h)
+    ∙ positional_push base (before ∷ take i xs) (get_or xs i 0)
 
 pub positional_behind_take : (base before : ℕ) (xs : List ℕ) (i : ℕ) → 0 < base → positional base (before ∷ take i xs) ≤ positional base (before ∷ xs)
 positional_behind_take base before xs i h =
-    subst (λ (ys : List ℕ). positional base (before ∷ take i xs) ≤ positional base (before ∷ ys)) (take-append-drop i xs) (positional_mono base (before ∷ take i xs) (drop i xs) h)
+    subst (λ (ys : List ℕ). positional base (before ∷ take i xs) ≤ positional base (before ∷ ys)) (take-append-drop i xs)
+    (positional_mono base (before ∷ take i xs) (drop i xs) h)

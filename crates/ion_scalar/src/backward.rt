@@ -10,8 +10,8 @@ use std::marker::Model;
 /// More octets than any number takes, in text or in binary.
 const ROOM: usize = 96;
 
-/// Octets that are written from the last to the first, as the digits of a number come. Contracts see those that are
-/// written; there is room for 96.
+/// Octets that are written from the last to the first, as the digits of a number come. Contracts
+/// see those that are written; there is room for 96.
 #[derive(Drop)]
 pub struct Backward {
     octets: [u8; ROOM],
@@ -71,8 +71,8 @@ impl Backward {
 
     // The loops below keep the place in a variable of their own, which stays in a register.
 
-    /// Writes the digits of `value` in the base. It stands where it is called, since the bases are powers of two
-    /// there, and no division is left of 128 bits.
+    /// Writes the digits of `value` in the base. It stands where it is called, since the bases are
+    /// powers of two there, and no division is left of 128 bits.
     #[inline(always)]
     pub fn push_digits(&mut self, base: u128, value: u128)
         requires base { (2 ≤ base) × (base ≤ 256) }

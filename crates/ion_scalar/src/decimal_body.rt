@@ -8,12 +8,13 @@ ghost use Rattle.ion_scalar.specs.binary.Decimal.{decimal_of_body, decimal_with,
 use crate::fields::{Signed, int_of, read_var_int};
 use ion_atoms::{Decimal, Reason};
 
-/// The decimal whose body is all of `octets`: the exponent as a VarInt, of which -0 reads as 0, and behind it the coefficient as
-/// an Int, which may be -0 (Ion 1.0, "Ion Binary Encoding", decimal). No octets are 0d0.
+/// The decimal whose body is all of `octets`: the exponent as a VarInt, of which -0 reads as 0, and
+/// behind it the coefficient as an Int, which may be -0 (Ion 1.0, "Ion Binary Encoding", decimal).
+/// No octets are 0d0.
 ///
-/// Answers `TooLarge` for an exponent outside -2^31 to 2^31-1, also one that reaches 2^63 and has no end, and for a coefficient
-/// whose magnitude is 2^127 or more; `Malformed` where the exponent does not end. These bounds are this project's.
-/// Takes no memory.
+/// Answers `TooLarge` for an exponent outside -2^31 to 2^31-1, also one that reaches 2^63 and has
+/// no end, and for a coefficient whose magnitude is 2^127 or more; `Malformed` where the exponent
+/// does not end. These bounds are this project's. Takes no memory.
 pub fn decimal_of(octets: &[u8]) -> Result<Decimal, Reason>
     ensures value { result ≡ decimal_of_body octets.now }
     ensures answer { ReadsDecimalBody octets.now result }
@@ -23,7 +24,8 @@ pub fn decimal_of(octets: &[u8]) -> Result<Decimal, Reason>
     read_decimal(octets)
 }
 
-/// Whether the octets are the body of a decimal, that is, whether `decimal_of` answers one. Takes no memory.
+/// Whether the octets are the body of a decimal, that is, whether `decimal_of` answers one. Takes
+/// no memory.
 #[inline(always)]
 pub fn is_decimal_body(octets: &[u8]) -> bool
     ensures { result ≡ is_ok (decimal_of_body octets.now) }
@@ -74,7 +76,8 @@ fn decimal(negative: bool, magnitude: u128, exponent: i32) -> Decimal
 
 #[inline(always)]
 fn exponent_of(power: Signed) -> Option<i32>
-    ensures { SomeIff result (IsTrue (exponent_fits power)) (signed power.negative power.magnitude) }
+    ensures { SomeIff result (IsTrue (exponent_fits power))
+        (signed power.negative power.magnitude) }
 {
     if power.negative && power.magnitude <= 1 << 31 {
         return Some((-(power.magnitude as i64)) as i32);

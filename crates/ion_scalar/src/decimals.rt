@@ -30,7 +30,8 @@ pub struct Exponent {
 
 /// The number of digits without `_`, or the cap.
 fn plain_of(octets: &[u8]) -> Option<u128>
-    ensures some { IfSome result (λ v. IsPlain octets.now × (v ≡ min (number 10 octets.now) (2 ^ 127))) }
+    ensures some { IfSome result (λ v. IsPlain octets.now
+        × (v ≡ min (number 10 octets.now) (2 ^ 127))) }
     ensures none { IfNone result (IsPlain octets.now → ⊥) }
 {
     match all_digits(octets, 10, 0) {
@@ -41,7 +42,8 @@ fn plain_of(octets: &[u8]) -> Option<u128>
 
 /// A sign, true for `-`, and such a number.
 fn signed_of(octets: &[u8]) -> Option<(bool, u128)>
-    ensures some { IfSome result (λ r. (n : ℕ) × IsSigned octets.now r.0 n × (r.1 ≡ min n (2 ^ 127))) }
+    ensures some { IfSome result (λ r. (n : ℕ) × IsSigned octets.now r.0 n
+        × (r.1 ≡ min n (2 ^ 127))) }
     ensures none { IfNone result ((s : Bool) (n : ℕ) → IsSigned octets.now s n → ⊥) }
 {
     if octets.is_empty() {
@@ -65,7 +67,8 @@ fn signed_of(octets: &[u8]) -> Option<(bool, u128)>
 
 /// An exponent.
 fn exponent_of(octets: &[u8]) -> Option<Exponent>
-    ensures some { IfSome result (λ r. (n : ℕ) × IsExponent octets.now r.float r.below n × (r.written ≡ min n (2 ^ 127))) }
+    ensures some { IfSome result (λ r. (n : ℕ) × IsExponent octets.now r.float r.below n
+        × (r.written ≡ min n (2 ^ 127))) }
     ensures none { IfNone result ((float s : Bool) (n : ℕ) → IsExponent octets.now float s n → ⊥) }
 {
     if octets.is_empty() {
@@ -88,7 +91,8 @@ fn exponent_of(octets: &[u8]) -> Option<Exponent>
 
 /// Nothing, or an exponent.
 fn end_of(octets: &[u8]) -> Option<Exponent>
-    ensures some { IfSome result (λ r. (n : ℕ) × IsEnd octets.now r.float r.below n × (r.written ≡ min n (2 ^ 127))) }
+    ensures some { IfSome result (λ r. (n : ℕ) × IsEnd octets.now r.float r.below n
+        × (r.written ≡ min n (2 ^ 127))) }
     ensures none { IfNone result ((float s : Bool) (n : ℕ) → IsEnd octets.now float s n → ⊥) }
 {
     if octets.is_empty() {
@@ -106,7 +110,8 @@ fn end_of(octets: &[u8]) -> Option<Exponent>
 fn fraction_of(octets: &[u8], before: u128) -> Option<Tail>
     requires { before ≤ 2 ^ 127 }
     ensures some { IfSome result (Shows (IsFraction octets.now) before) }
-    ensures none { IfNone result ((f : List ℕ) (float s : Bool) (n : ℕ) → IsFraction octets.now f float s n → ⊥) }
+    ensures none { IfNone result ((f : List ℕ) (float s : Bool) (n : ℕ)
+        → IsFraction octets.now f float s n → ⊥) }
 {
     let fraction = digits_at(octets, 10, before);
     match end_of(&octets[fraction.used..]) {
@@ -125,7 +130,8 @@ fn fraction_of(octets: &[u8], before: u128) -> Option<Tail>
 pub fn tail_of(tail: &[u8], before: u128) -> Option<Tail>
     requires { before ≤ 2 ^ 127 }
     ensures some { IfSome result (Shows (IsTail tail.now) before) }
-    ensures none { IfNone result ((f : List ℕ) (float s : Bool) (n : ℕ) → IsTail tail.now f float s n → ⊥) }
+    ensures none { IfNone result ((f : List ℕ) (float s : Bool) (n : ℕ)
+        → IsTail tail.now f float s n → ⊥) }
 {
     if tail.is_empty() {
         return None;
@@ -152,9 +158,12 @@ pub fn tail_of(tail: &[u8], before: u128) -> Option<Tail>
 pub fn whole_of(body: &[u8]) -> Option<Digits>
     ensures within { IfSome result (λ d. d.used ≤ length body.now) }
     ensures whole { IfSome result (λ d. IsWholePart (take d.used body.now)) }
-    ensures value { IfSome result (λ d. d.value ≡ min (number 10 (take d.used body.now)) (2 ^ 127)) }
-    ensures only { IfSome result (λ d. (w t : List ℕ) → body.now ≡ w ++ t → IsWholePart w → GoesNotOn 10 t → w ≡ take d.used body.now) }
-    ensures none { IfNone result ((w t : List ℕ) → body.now ≡ w ++ t → IsWholePart w → GoesNotOn 10 t → ⊥) }
+    ensures value { IfSome result (λ d. d.value ≡ min (number 10 (take d.used body.now))
+        (2 ^ 127)) }
+    ensures only { IfSome result (λ d. (w t : List ℕ) → body.now ≡ w ++ t → IsWholePart w
+        → GoesNotOn 10 t → w ≡ take d.used body.now) }
+    ensures none { IfNone result ((w t : List ℕ) → body.now ≡ w ++ t → IsWholePart w
+        → GoesNotOn 10 t → ⊥) }
 {
     let digits = digits_at(body, 10, 0);
     if digits.used == 0 {
@@ -179,11 +188,14 @@ fn difference(below: bool, written: u128, count: usize) -> i128
     }
 }
 
-/// The power of ten: the written exponent less the number of fraction digits, if it is in an exponent's range.
+/// The power of ten: the written exponent less the number of fraction digits, if it is in an
+/// exponent's range.
 pub fn power(tail: Tail) -> Option<i32>
-    ensures some { IfSome result (λ e. (n : ℕ) → tail.written ≡ min n (2 ^ 127) → e ≡ signed tail.below n -ℤ pos tail.count) }
+    ensures some { IfSome result (λ e. (n : ℕ) → tail.written ≡ min n (2 ^ 127)
+        → e ≡ signed tail.below n -ℤ pos tail.count) }
     ensures range { IfSome result (λ e. IsPower e) }
-    ensures none { IfNone result ((n : ℕ) → tail.written ≡ min n (2 ^ 127) → IsPower (signed tail.below n -ℤ pos tail.count) → ⊥) }
+    ensures none { IfNone result ((n : ℕ) → tail.written ≡ min n (2 ^ 127)
+        → IsPower (signed tail.below n -ℤ pos tail.count) → ⊥) }
 {
     if tail.written >= 1 << 100 {
         return None;

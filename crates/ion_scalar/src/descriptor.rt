@@ -1,17 +1,20 @@
-//! The descriptor octet, with which each value in binary begins (Ion 1.0, "Ion Binary Encoding", typed value formats).
+//! The descriptor octet, with which each value in binary begins (Ion 1.0, "Ion Binary Encoding",
+//! typed value formats).
 ghost use Rattle.std.specs.Prelude.{◌≡◌, ◌/◌, ◌%◌, ◌<◌};
 ghost use Rattle.ion_scalar.specs.binary.Descriptor.{descriptor_of, typed, size, kind};
 
 use ion_atoms::{Kind, Reason};
 
-/// How many octets the body has: that many, below 14, or as many as the VarUInt behind the descriptor says.
+/// How many octets the body has: that many, below 14, or as many as the VarUInt behind the
+/// descriptor says.
 #[derive(Clone, Copy, Debug, PartialEq, Eq)]
 pub enum Size {
     Known(u8),
     Follows,
 }
 
-/// What a descriptor octet says: `tag` is the type code in its high four bits, `length` the length code in its low four.
+/// What a descriptor octet says: `tag` is the type code in its high four bits, `length` the length
+/// code in its low four.
 #[derive(Clone, Copy, Debug, PartialEq, Eq)]
 pub enum Descriptor {
     /// The octet E0, with which a version marker begins.
@@ -31,8 +34,9 @@ pub enum Descriptor {
 impl Descriptor {
     /// What the descriptor octet says, by the table of type codes and length codes.
     ///
-    /// Answers `Float` for a float that isn't null, and `Malformed` for an octet that the table has no row for.
-    /// Which descriptors may stand where, as octet 30, E0 or a wrapper in a wrapper, is not judged here.
+    /// Answers `Float` for a float that isn't null, and `Malformed` for an octet that the table has
+    /// no row for. Which descriptors may stand where, as octet 30, E0 or a wrapper in a wrapper, is
+    /// not judged here.
     #[tactic(auto, unfolding(crate::specs::binary::Descriptor::descriptor_of))]
     #[inline(always)]
     pub fn of(octet: u8) -> Result<Descriptor, Reason>

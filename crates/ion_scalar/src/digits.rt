@@ -21,7 +21,9 @@ pub struct Digits {
 #[inline(always)]
 pub fn digit_at(octets: &[u8], at: usize, base: u32) -> Option<u32>
     requires { (2 ≤ base) × (base ≤ 16) }
-    ensures { SomeIff result ((at < length octets.now) × (digit_value (slice_index octets.now at) < base)) (digit_value (slice_index octets.now at)) }
+    ensures { SomeIff result ((at < length octets.now)
+        × (digit_value (slice_index octets.now at) < base))
+        (digit_value (slice_index octets.now at)) }
 {
     if at >= octets.len() {
         return None;
@@ -57,7 +59,8 @@ pub fn digits_at(octets: &[u8], base: u32, before: u128) -> Digits
     ensures digits { 0 < result.used → IsDigits base (take result.used octets.now) }
     ensures none { BeginsWithNone base (drop result.used octets.now) }
     ensures longest { 0 < result.used → GoesNotOn base (drop result.used octets.now) }
-    ensures value { result.value ≡ min (continued base before (take result.used octets.now)) (2 ^ 127) }
+    ensures value { result.value ≡ min (continued base before (take result.used octets.now))
+        (2 ^ 127) }
     ensures count { result.count ≡ length (digits_in (take result.used octets.now)) }
 {
     let mut digits = Digits {
@@ -84,7 +87,8 @@ pub fn digits_at(octets: &[u8], base: u32, before: u128) -> Digits
 pub fn all_digits(octets: &[u8], base: u32, before: u128) -> Option<Digits>
     requires { (2 ≤ base) × (base ≤ 16) × (before ≤ 2 ^ 127) }
     ensures digits { IsSome result ↔ IsDigits base octets.now }
-    ensures value { IfSome result (λ d. d.value ≡ min (continued base before octets.now) (2 ^ 127)) }
+    ensures value { IfSome result (λ d. d.value ≡ min (continued base before octets.now)
+        (2 ^ 127)) }
     ensures count { IfSome result (λ d. d.count ≡ length (digits_in octets.now)) }
 {
     let digits = digits_at(octets, base, before);

@@ -1,4 +1,5 @@
-//! The fields of binary values that are whole numbers (Ion 1.0, "Ion Binary Encoding", basic field formats).
+//! The fields of binary values that are whole numbers (Ion 1.0, "Ion Binary Encoding", basic field
+//! formats).
 ghost use Rattle.std.specs.Prelude.{◌≡◌, ◌<◌, ◌≤◌, ◌+◌, ◌^◌, ◌∷◌, SomeIff, is_ok, length};
 ghost use Rattle.ion_scalar.specs.binary.Fields.{positional, var_uint, var_int, var_rest, uint_field, int_field, signed_of};
 
@@ -6,10 +7,12 @@ use ion_atoms::Reason;
 
 /// Reads the VarUInt at the front of `octets`: its value, and how many octets it takes.
 ///
-/// Each octet holds seven bits, the most significant first, and the highest bit is set on the last octet alone
-/// (Ion 1.0, "Ion Binary Encoding", "VarUInt and VarInt Fields"). Leading zero octets are accepted.
+/// Each octet holds seven bits, the most significant first, and the highest bit is set on the last
+/// octet alone (Ion 1.0, "Ion Binary Encoding", "VarUInt and VarInt Fields"). Leading zero octets
+/// are accepted.
 ///
-/// Answers `TooLarge` once the octets read, the last at most, reach 2^63, else `Incomplete` where no octet ends.
+/// Answers `TooLarge` once the octets read, the last at most, reach 2^63, else `Incomplete` where
+/// no octet ends.
 #[inline(always)]
 pub fn read_var_uint(octets: &[u8]) -> Result<(u64, usize), Reason>
     ensures { result ≡ var_uint octets.now }
@@ -48,7 +51,8 @@ impl Signed {
 /// The bit below the highest of the first octet is the sign; else it is as a VarUInt
 /// (Ion 1.0, "Ion Binary Encoding", "VarUInt and VarInt Fields"). The octet C0 is -0.
 ///
-/// Answers `TooLarge` once the magnitude read, with the last octet at most, reaches 2^63, else `Incomplete` where no octet ends.
+/// Answers `TooLarge` once the magnitude read, with the last octet at most, reaches 2^63, else
+/// `Incomplete` where no octet ends.
 #[inline(always)]
 pub fn read_var_int(octets: &[u8]) -> Result<(Signed, usize), Reason>
     ensures { result ≡ var_int octets.now }
@@ -89,7 +93,8 @@ fn read_rest(front: u64, used: usize, octets: &[u8]) -> Result<(u64, usize), Rea
     Err(Reason::Incomplete)
 }
 
-/// The value of a UInt, which is all of `octets`, big endian (Ion 1.0, "Ion Binary Encoding", "UInt and Int Fields").
+/// The value of a UInt, which is all of `octets`, big endian (Ion 1.0, "Ion Binary Encoding", "UInt
+/// and Int Fields").
 ///
 /// No octets are 0, and leading zero octets are accepted. Answers `TooLarge` from 2^127 on.
 pub fn uint_of(octets: &[u8]) -> Result<u128, Reason>
@@ -113,10 +118,11 @@ pub fn is_uint(octets: &[u8]) -> bool
     uint_of(octets).is_ok()
 }
 
-/// The sign, true if it is negative, and the magnitude of an Int, which is all of `octets`, big endian
-/// (Ion 1.0, "Ion Binary Encoding", "UInt and Int Fields").
+/// The sign, true if it is negative, and the magnitude of an Int, which is all of `octets`, big
+/// endian (Ion 1.0, "Ion Binary Encoding", "UInt and Int Fields").
 ///
-/// The highest bit of the first octet is the sign; no octets are +0. Answers `TooLarge` from the magnitude 2^127 on.
+/// The highest bit of the first octet is the sign; no octets are +0. Answers `TooLarge` from the
+/// magnitude 2^127 on.
 pub fn int_of(octets: &[u8]) -> Result<(bool, u128), Reason>
     ensures { result ≡ int_field octets.now }
 {
@@ -132,7 +138,8 @@ pub fn int_of(octets: &[u8]) -> Result<(bool, u128), Reason>
 /// The number that the digit `front` and behind it the octets make, if it is below 2^127.
 fn fold_octets(front: u128, octets: &[u8]) -> Option<u128>
     requires { front < 2 ^ 127 }
-    ensures { SomeIff result (positional 256 (front ∷ octets.now) < 2 ^ 127) (positional 256 (front ∷ octets.now)) }
+    ensures { SomeIff result (positional 256 (front ∷ octets.now) < 2 ^ 127)
+        (positional 256 (front ∷ octets.now)) }
 {
     let mut value = front;
     for octet in octets {

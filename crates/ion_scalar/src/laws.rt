@@ -1,4 +1,5 @@
-//! What the definitions that this crate's contracts name have to do with the specification. A law is called for its clause alone.
+//! What the definitions that this crate's contracts name have to do with the specification. A law
+//! is called for its clause alone.
 ghost use Rattle.std.specs.Prelude.{◌≡◌, ◌↔◌, ◌≤◌, ◌++◌, ◌+ℤ◌, ℕ, ℤ, pos, Bool, List, Result, Ok, length};
 ghost use Rattle.ion_scalar.specs.binary.Fields.{positional, int_negative, int_magnitude, VarUInt, VarInt, var_uint, var_int, signed_of};
 ghost use Rattle.ion_scalar.specs.binary.Reads.{ReadsVarUInt, ReadsVarInt, ReadsDecimalBody};
@@ -33,12 +34,14 @@ pub fn var_uint_answers()
 
 /// Octets begin with one VarUInt at most.
 pub fn one_var_uint()
-    ensures { (w v x y : List ℕ) (n m : ℕ) → VarUInt w n → VarUInt v m → w ++ x ≡ v ++ y → (n ≡ m) × (length w ≡ length v) }
+    ensures { (w v x y : List ℕ) (n m : ℕ) → VarUInt w n → VarUInt v m → w ++ x ≡ v ++ y → (n ≡ m)
+        × (length w ≡ length v) }
 {}
 
 /// Octets that begin with a VarInt are read as its sign, magnitude and length, whatever follows it.
 pub fn var_int_is_read()
-    ensures { (w rest : List ℕ) (negative : Bool) (n : ℕ) → VarInt w negative n → var_int (w ++ rest) ≡ Ok (signed_of negative n, length w) }
+    ensures { (w rest : List ℕ) (negative : Bool) (n : ℕ) → VarInt w negative n
+        → var_int (w ++ rest) ≡ Ok (signed_of negative n, length w) }
 {}
 
 /// Each answer of reading a VarInt tells what the octets are.
@@ -48,7 +51,8 @@ pub fn var_int_answers()
 
 /// The body of a decimal that is kept is read as that decimal.
 pub fn decimal_is_read()
-    ensures { (body : List ℕ) (d : DecimalParts) → IsDecimalField body d → IsDecimal d → decimal_of_body body ≡ Ok d }
+    ensures { (body : List ℕ) (d : DecimalParts) → IsDecimalField body d → IsDecimal d
+        → decimal_of_body body ≡ Ok d }
 {}
 
 /// Each answer of reading the body of a decimal tells what the octets are.
@@ -58,7 +62,8 @@ pub fn decimal_answers()
 
 /// The body of a timestamp is read as that timestamp.
 pub fn timestamp_is_read()
-    ensures { (body : List ℕ) (t : TimestampParts) → IsTimestampBody body t → timestamp_of_body body ≡ Ok t }
+    ensures { (body : List ℕ) (t : TimestampParts) → IsTimestampBody body t → timestamp_of_body body
+        ≡ Ok t }
 {}
 
 /// Each answer of reading the body of a timestamp tells what the octets are.
@@ -66,23 +71,32 @@ pub fn timestamp_answers()
     ensures { (body : List ℕ) → ReadsTimestampBody body (timestamp_of_body body) }
 {}
 
-/// A minute that is moved by less than a day is one of the years 1 to 9999 just where it lies in them, and then its number is moved by
-/// as much.
+/// A minute that is moved by less than a day is one of the years 1 to 9999 just where it lies in
+/// them, and then its number is moved by as much.
 pub fn moved_by_number()
-    ensures number { (m : Minute) (by : ℤ) → IsMinute m → IsOffset by → InYears (pos (minute_number m) +ℤ by)
+    ensures number { (m : Minute) (by : ℤ) → IsMinute m → IsOffset by
+        → InYears (pos (minute_number m) +ℤ by)
         → IsMinute (moved m by) × (pos (minute_number (moved m by)) ≡ pos (minute_number m) +ℤ by) }
-    ensures years { (m : Minute) (by : ℤ) → IsMinute m → IsOffset by → 1 ≤ (moved m by).date.year → (moved m by).date.year ≤ 9999
+    ensures years { (m : Minute) (by : ℤ) → IsMinute m → IsOffset by → 1 ≤ (moved m by).date.year
+        → (moved m by).date.year ≤ 9999
         → InYears (pos (minute_number m) +ℤ by) }
 {}
 
-/// No spelling of a number has fewer octets than the one that is written; nor has a body of a decimal or of a timestamp.
+/// No spelling of a number has fewer octets than the one that is written; nor has a body of a
+/// decimal or of a timestamp.
 pub fn fewest()
-    ensures var_uint { (w : List ℕ) (n : ℕ) → AreBelow 256 w → VarUInt w n → length (var_uint_octets n) ≤ length w }
-    ensures var_int { (w : List ℕ) (negative : Bool) (n : ℕ) → AreBelow 256 w → VarInt w negative n → length (var_int_octets negative n) ≤ length w }
-    ensures uint { (w : List ℕ) → AreBelow 256 w → length (uint_octets (positional 256 w)) ≤ length w }
-    ensures int { (w : List ℕ) → AreBelow 256 w → length (int_octets (int_negative w) (int_magnitude w)) ≤ length w }
-    ensures decimal { (w : List ℕ) (d : DecimalParts) → AreBelow 256 w → IsDecimalField w d → length (decimal_octets d) ≤ length w }
-    ensures timestamp { (w : List ℕ) (t : TimestampParts) → AreBelow 256 w → IsTimestampBody w t → length (timestamp_octets t) ≤ length w }
+    ensures var_uint { (w : List ℕ) (n : ℕ) → AreBelow 256 w → VarUInt w n
+        → length (var_uint_octets n) ≤ length w }
+    ensures var_int { (w : List ℕ) (negative : Bool) (n : ℕ) → AreBelow 256 w → VarInt w negative n
+        → length (var_int_octets negative n) ≤ length w }
+    ensures uint { (w : List ℕ) → AreBelow 256 w → length (uint_octets (positional 256 w)) ≤ length
+        w }
+    ensures int { (w : List ℕ) → AreBelow 256 w
+        → length (int_octets (int_negative w) (int_magnitude w)) ≤ length w }
+    ensures decimal { (w : List ℕ) (d : DecimalParts) → AreBelow 256 w → IsDecimalField w d
+        → length (decimal_octets d) ≤ length w }
+    ensures timestamp { (w : List ℕ) (t : TimestampParts) → AreBelow 256 w → IsTimestampBody w t
+        → length (timestamp_octets t) ≤ length w }
 {}
 
 /// The descriptors are the printed table.

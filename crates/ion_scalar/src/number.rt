@@ -25,13 +25,15 @@ pub enum Number {
 
 /// The number that a whole token spells.
 ///
-/// Answers `Malformed` for a token of no form and for a day or time that there isn't, `Float` for the forms of a decimal with
-/// `e` or `E` in place of `d`, and `TooLarge` for an int or a coefficient whose magnitude is 2^127 or more, for an exponent
-/// outside -2^31 to 2^31-1, and for a timestamp with more than 38 fraction digits, whether or not there is such a day and time.
-/// These bounds are this project's. Takes no memory.
+/// Answers `Malformed` for a token of no form and for a day or time that there isn't, `Float` for
+/// the forms of a decimal with `e` or `E` in place of `d`, and `TooLarge` for an int or a
+/// coefficient whose magnitude is 2^127 or more, for an exponent outside -2^31 to 2^31-1, and for a
+/// timestamp with more than 38 fraction digits, whether or not there is such a day and time. These
+/// bounds are this project's. Takes no memory.
 pub fn number_of(token: &[u8]) -> Result<Number, Reason>
     ensures answer { ReadsNumber token.now result }
-    ensures only { (answer : Result Number Reason) → ReadsNumber token.now answer → result ≡ answer }
+    ensures only { (answer : Result Number Reason) → ReadsNumber token.now answer
+        → result ≡ answer }
 {
     answer_of(token)
 }
@@ -131,8 +133,10 @@ fn plain_number(negative: bool, body: &[u8]) -> Result<Number, Reason>
 // The int of that sign and magnitude, of which 2^127 stands for all above.
 fn int_number(negative: bool, magnitude: u128) -> Result<Number, Reason>
     requires { magnitude ≤ 2 ^ 127 }
-    ensures ok { IfOk result (λ x. (n : ℕ) → magnitude ≡ min n (2 ^ 127) → (x ≡ numbers.Int (signed negative n)) × Fits x) }
-    ensures err { IfErr result (λ e. (e ≡ TooLarge) × ((n : ℕ) → magnitude ≡ min n (2 ^ 127) → Fits (numbers.Int (signed negative n)) → ⊥)) }
+    ensures ok { IfOk result (λ x. (n : ℕ) → magnitude ≡ min n (2 ^ 127)
+        → (x ≡ numbers.Int (signed negative n)) × Fits x) }
+    ensures err { IfErr result (λ e. (e ≡ TooLarge)
+        × ((n : ℕ) → magnitude ≡ min n (2 ^ 127) → Fits (numbers.Int (signed negative n)) → ⊥)) }
 {
     if magnitude >= 1 << 127 {
         return Err(Reason::TooLarge);
@@ -146,9 +150,11 @@ fn int_number(negative: bool, magnitude: u128) -> Result<Number, Reason>
 
 // The decimal of that sign and tail.
 fn decimal_number(negative: bool, tail: Tail) -> Result<Number, Reason>
-    ensures ok { IfOk result (λ x. (m n : ℕ) → tail.value ≡ min m (2 ^ 127) → tail.written ≡ min n (2 ^ 127)
+    ensures ok { IfOk result (λ x. (m n : ℕ) → tail.value ≡ min m (2 ^ 127)
+        → tail.written ≡ min n (2 ^ 127)
         → (x ≡ decimal_read negative m tail.below n tail.count) × Fits x) }
-    ensures err { IfErr result (λ e. (e ≡ TooLarge) × ((m n : ℕ) → tail.value ≡ min m (2 ^ 127) → tail.written ≡ min n (2 ^ 127)
+    ensures err { IfErr result (λ e. (e ≡ TooLarge)
+        × ((m n : ℕ) → tail.value ≡ min m (2 ^ 127) → tail.written ≡ min n (2 ^ 127)
         → Fits (decimal_read negative m tail.below n tail.count) → ⊥)) }
 {
     let Some(exponent) = power(tail) else {

@@ -1,4 +1,5 @@
-//! Numbers written as octets: always the fewest (Ion 1.0, "Ion Binary Encoding", basic field formats).
+//! Numbers written as octets: always the fewest (Ion 1.0, "Ion Binary Encoding", basic field
+//! formats).
 ghost use Rattle.std.specs.Prelude.{◌≡◌, ℕ, ◌<◌, ◌≤◌, ◌+◌, ◌^◌, ◌++◌, List, OnOk, OnErr, IsOkUnless, Ok, length, vec_len, vec_capacity};
 ghost use Rattle.ion_atoms.specs.declared.refusal.Reason.TheVariants.{Memory};
 ghost use Rattle.ion_scalar.specs.binary.Fields.{var_uint, var_int, uint_field, int_field};
@@ -17,23 +18,26 @@ pub fn put_var_uint(value: u64, out: &mut Vec<u8>) -> Result<(), Reason>
     ensures ok { OnOk result (out.new.items ≡ out.old.items ++ var_uint_octets value) }
     ensures err { OnErr result (out.new.items ≡ out.old.items) }
     ensures memory { IsOkUnless result Memory }
-    ensures full { OnErr result (vec_capacity out.old < vec_len out.old + length (var_uint_octets value)) }
-    ensures again { (rest : List ℕ) → var_uint (var_uint_octets value ++ rest) ≡ Ok (value, length (var_uint_octets value)) }
+    ensures full { OnErr result (vec_capacity out.old < vec_len out.old + length
+        (var_uint_octets value)) }
+    ensures again { (rest : List ℕ) → var_uint (var_uint_octets value ++ rest)
+        ≡ Ok (value, length (var_uint_octets value)) }
 {
     let mut octets = Backward::new();
     var_uint_before(&mut octets, value);
     append(octets.written(), out)
 }
 
-/// Appends `value` as a UInt (Ion 1.0, "Ion Binary Encoding", "UInt and Int Fields"); 0 has no octets.
-/// Answers `Memory`, and leaves `out` as it was, where it has no room and gets none.
+/// Appends `value` as a UInt (Ion 1.0, "Ion Binary Encoding", "UInt and Int Fields"); 0 has no
+/// octets. Answers `Memory`, and leaves `out` as it was, where it has no room and gets none.
 #[tactic(auto, using(crate::specs::binary::laws::Spellings::uint_again))]
 pub fn put_uint(value: u128, out: &mut Vec<u8>) -> Result<(), Reason>
     requires { value < 2 ^ 127 }
     ensures ok { OnOk result (out.new.items ≡ out.old.items ++ uint_octets value) }
     ensures err { OnErr result (out.new.items ≡ out.old.items) }
     ensures memory { IsOkUnless result Memory }
-    ensures full { OnErr result (vec_capacity out.old < vec_len out.old + length (uint_octets value)) }
+    ensures full { OnErr result (vec_capacity out.old < vec_len out.old + length
+        (uint_octets value)) }
     ensures again { uint_field (uint_octets value) ≡ Ok value }
 {
     let mut octets = Backward::new();
@@ -46,26 +50,32 @@ pub fn put_uint(value: u128, out: &mut Vec<u8>) -> Result<(), Reason>
 #[tactic(auto, using(crate::specs::binary::laws::Spellings::var_int_again))]
 pub fn put_var_int(signed: Signed, out: &mut Vec<u8>) -> Result<(), Reason>
     requires { signed.magnitude < 2 ^ 63 }
-    ensures ok { OnOk result (out.new.items ≡ out.old.items ++ var_int_octets signed.negative signed.magnitude) }
+    ensures ok { OnOk result (out.new.items ≡ out.old.items ++ var_int_octets signed.negative
+        signed.magnitude) }
     ensures err { OnErr result (out.new.items ≡ out.old.items) }
     ensures memory { IsOkUnless result Memory }
-    ensures full { OnErr result (vec_capacity out.old < vec_len out.old + length (var_int_octets signed.negative signed.magnitude)) }
-    ensures again { (rest : List ℕ) → var_int (var_int_octets signed.negative signed.magnitude ++ rest) ≡ Ok (signed, length (var_int_octets signed.negative signed.magnitude)) }
+    ensures full { OnErr result (vec_capacity out.old < vec_len out.old + length
+        (var_int_octets signed.negative signed.magnitude)) }
+    ensures again { (rest : List ℕ) → var_int
+        (var_int_octets signed.negative signed.magnitude ++ rest)
+        ≡ Ok (signed, length (var_int_octets signed.negative signed.magnitude)) }
 {
     let mut octets = Backward::new();
     var_int_before(&mut octets, signed);
     append(octets.written(), out)
 }
 
-/// Appends an Int of that sign and magnitude (Ion 1.0, "Ion Binary Encoding", "UInt and Int Fields"); +0 has no octets, -0 has the one octet 80.
-/// Answers `Memory`, and leaves `out` as it was, where it has no room and gets none.
+/// Appends an Int of that sign and magnitude (Ion 1.0, "Ion Binary Encoding", "UInt and Int
+/// Fields"); +0 has no octets, -0 has the one octet 80. Answers `Memory`, and leaves `out` as it
+/// was, where it has no room and gets none.
 #[tactic(auto, using(crate::specs::binary::laws::Spellings::int_again))]
 pub fn put_int(negative: bool, magnitude: u128, out: &mut Vec<u8>) -> Result<(), Reason>
     requires { magnitude < 2 ^ 127 }
     ensures ok { OnOk result (out.new.items ≡ out.old.items ++ int_octets negative magnitude) }
     ensures err { OnErr result (out.new.items ≡ out.old.items) }
     ensures memory { IsOkUnless result Memory }
-    ensures full { OnErr result (vec_capacity out.old < vec_len out.old + length (int_octets negative magnitude)) }
+    ensures full { OnErr result (vec_capacity out.old < vec_len out.old + length
+        (int_octets negative magnitude)) }
     ensures again { int_field (int_octets negative magnitude) ≡ Ok (negative, magnitude) }
 {
     let mut octets = Backward::new();
@@ -73,15 +83,16 @@ pub fn put_int(negative: bool, magnitude: u128, out: &mut Vec<u8>) -> Result<(),
     append(octets.written(), out)
 }
 
-/// Appends the body of a decimal (Ion 1.0, "Ion Binary Encoding", decimal), its exponent and its coefficient; 0d0 has no octets,
-/// a coefficient +0 none behind the exponent, and -0 has the one octet 80.
-/// Answers `Memory`, and leaves `out` as it was, where it has no room and gets none.
+/// Appends the body of a decimal (Ion 1.0, "Ion Binary Encoding", decimal), its exponent and its
+/// coefficient; 0d0 has no octets, a coefficient +0 none behind the exponent, and -0 has the one
+/// octet 80. Answers `Memory`, and leaves `out` as it was, where it has no room and gets none.
 #[tactic(auto, using(crate::specs::binary::laws::Decimal::decimal_again))]
 pub fn put_decimal(decimal: &Decimal, out: &mut Vec<u8>) -> Result<(), Reason>
     ensures ok { OnOk result (out.new.items ≡ out.old.items ++ decimal_octets decimal.now) }
     ensures err { OnErr result (out.new.items ≡ out.old.items) }
     ensures memory { IsOkUnless result Memory }
-    ensures full { OnErr result (vec_capacity out.old < vec_len out.old + length (decimal_octets decimal.now)) }
+    ensures full { OnErr result (vec_capacity out.old < vec_len out.old + length
+        (decimal_octets decimal.now)) }
     ensures again { decimal_of_body (decimal_octets decimal.now) ≡ Ok decimal.now }
 {
     let (negative, magnitude) = (decimal.negative(), decimal.magnitude());

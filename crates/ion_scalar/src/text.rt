@@ -1,4 +1,5 @@
-//! Numbers written as text, each in its one spelling (Ion 1.0, "Ion Text Encoding" and its grammar, ints, decimals and timestamps).
+//! Numbers written as text, each in its one spelling (Ion 1.0, "Ion Text Encoding" and its grammar,
+//! ints, decimals and timestamps).
 ghost use Rattle.std.specs.Prelude.{◌≡◌, ◌<◌, ◌≤◌, ◌+◌, ◌∷◌, ◌++◌, OnOk, OnErr, IsOkUnless, Ok, ◌%◌, ◌/◌, IfSome, Some, length, vec_len, vec_capacity};
 ghost use Rattle.ion_atoms.specs.Timestamps.{IsOffset};
 ghost use Rattle.ion_scalar.specs.text.Timestamps.{IsShort};
@@ -14,14 +15,16 @@ use crate::number::Number;
 use crate::put::append;
 use ion_atoms::{Decimal, Local, Precision, Reason, Timestamp, Whole};
 
-/// Appends the text of `number`: an int in decimal; a decimal as coefficient, `d` and exponent; a timestamp to its precision,
-/// with `T` behind a year or month, `Z` for the offset 0 and `-00:00` for the unknown one.
-/// Answers `Memory`, and leaves `out` as it was, where it has no room and gets none.
+/// Appends the text of `number`: an int in decimal; a decimal as coefficient, `d` and exponent; a
+/// timestamp to its precision, with `T` behind a year or month, `Z` for the offset 0 and `-00:00`
+/// for the unknown one. Answers `Memory`, and leaves `out` as it was, where it has no room and gets
+/// none.
 pub fn put_number(number: &Number, out: &mut Vec<u8>) -> Result<(), Reason>
     ensures ok { OnOk result (out.new.items ≡ out.old.items ++ number_text number.now) }
     ensures err { OnErr result (out.new.items ≡ out.old.items) }
     ensures memory { IsOkUnless result Memory }
-    ensures full { OnErr result (vec_capacity out.old < vec_len out.old + length (number_text number.now)) }
+    ensures full { OnErr result (vec_capacity out.old < vec_len out.old + length
+        (number_text number.now)) }
     ensures again { ReadsNumber (number_text number.now) (Ok number.now) }
 {
     let mut octets = Backward::new();

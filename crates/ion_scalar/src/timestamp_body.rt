@@ -52,17 +52,21 @@ impl Utc {
     }
 }
 
-/// The timestamp whose body is all of `octets`: the offset in minutes as a VarInt, of which -0 is the unknown one, then year, month,
-/// day, hour, minute and second in UTC, each a VarUInt, then an exponent as a VarInt and a coefficient as an Int, the fraction of the
-/// second (Ion 1.0, "Ion Binary Encoding", timestamp). Trailing parts may be absent, but not the year, nor the minute behind an hour.
-/// The value has local fields; below minute precision it has no offset. The coefficient -0 reads as 0. A fraction with the exponent
+/// The timestamp whose body is all of `octets`: the offset in minutes as a VarInt, of which -0 is
+/// the unknown one, then year, month, day, hour, minute and second in UTC, each a VarUInt, then an
+/// exponent as a VarInt and a coefficient as an Int, the fraction of the second (Ion 1.0, "Ion
+/// Binary Encoding", timestamp). Trailing parts may be absent, but not the year, nor the minute
+/// behind an hour. The value has local fields; below minute precision it has no offset. The
+/// coefficient -0 reads as 0. A fraction with the exponent
 /// -d has d digits; with an exponent of 0 or more its coefficient is 0, and it is none.
 ///
-/// The parts are judged from left to right. Answers `TooLarge` for an offset or a field that reaches 2^63, for an exponent below -38
-/// and for a coefficient whose magnitude is 2^127 or more. Answers `Malformed` for a part that does not end, without a year, and for an
-/// hour without a minute, for an offset beyond 1439 minutes, for a field that is no year from 1 to 9999, month, day of that month, hour, minute or second (there is no leap
-/// second), for a coefficient below 0, of more digits than d, or not 0 with an exponent of 0 or more, and last for a local year
-/// outside 1 to 9999. These bounds are this project's. Takes no memory.
+/// The parts are judged from left to right. Answers `TooLarge` for an offset or a field that
+/// reaches 2^63, for an exponent below -38 and for a coefficient whose magnitude is 2^127 or more.
+/// Answers `Malformed` for a part that does not end, without a year, and for an hour without a
+/// minute, for an offset beyond 1439 minutes, for a field that is no year from 1 to 9999, month,
+/// day of that month, hour, minute or second (there is no leap second), for a coefficient below 0,
+/// of more digits than d, or not 0 with an exponent of 0 or more, and last for a local year outside
+/// 1 to 9999. These bounds are this project's. Takes no memory.
 pub fn timestamp_of(octets: &[u8]) -> Result<Timestamp, Reason>
     ensures value { result ≡ timestamp_of_body octets.now }
     ensures answer { ReadsTimestampBody octets.now result }

@@ -1,5 +1,6 @@
-//! Whether octets are the body of a timestamp (Ion 1.0, "Ion Binary Encoding", timestamp), where nobody asks for its parts. Bodies
-//! of the usual form are judged part by part; what is unusual isn't told of them here.
+//! Whether octets are the body of a timestamp (Ion 1.0, "Ion Binary Encoding", timestamp), where
+//! nobody asks for its parts. Bodies of the usual form are judged part by part; what is unusual
+//! isn't told of them here.
 ghost use Rattle.std.specs.Prelude.{◌≡◌, ◌<◌, ◌≤◌, ◌^◌, ℕ, true, Ok, is_ok, IsOkAnd, IfSome, length};
 ghost use Rattle.ion_atoms.specs.declared.calendar.Date.{Date};
 ghost use Rattle.ion_atoms.specs.declared.calendar.Minute.{Minute};
@@ -10,7 +11,8 @@ use crate::fields::int_of;
 use crate::timestamp_body::{field, offset_of, timestamp_of};
 use ion_atoms::calendar::has_day;
 
-/// Whether the octets are the body of a timestamp, that is, whether `timestamp_of` answers one. Takes no memory.
+/// Whether the octets are the body of a timestamp, that is, whether `timestamp_of` answers one.
+/// Takes no memory.
 pub fn is_timestamp_body(octets: &[u8]) -> bool
     ensures { result ≡ is_ok (timestamp_of_body octets.now) }
 {
@@ -66,7 +68,8 @@ fn day_part(year: u16, month: u8, octets: &[u8]) -> Option<u8>
     requires year { (1 ≤ year) × (year ≤ 9999) }
     requires month { (1 ≤ month) × (month ≤ 12) }
     ensures some { IfSome result (λ day. 0 < length octets.now) }
-    ensures read { IfSome result (λ day. read_field 1 (month_length year month) octets.now ≡ Ok (day, 1)) }
+    ensures read { IfSome result (λ day. read_field 1 (month_length year month) octets.now
+        ≡ Ok (day, 1)) }
 {
     match part(1, 31, octets) {
         Some(day) if has_day(year, month, day) => Some(day),
@@ -125,7 +128,8 @@ fn usual_hour(octets: &[u8]) -> bool
 #[inline(always)]
 #[tactic(auto, unfolding(crate::specs::binary::Timestamp::read_behind_hour))]
 fn usual_minute(octets: &[u8]) -> bool
-    ensures { result ≡ true → (date : Date) (hour : ℕ) → IsOkAnd (read_behind_hour date hour octets.now)
+    ensures { result ≡ true → (date : Date) (hour : ℕ)
+        → IsOkAnd (read_behind_hour date hour octets.now)
         (λ utc. utc.minute.date ≡ date) }
 {
     let minute = part(0, 59, octets);
@@ -154,7 +158,8 @@ fn usual_second(octets: &[u8]) -> bool
 #[inline(always)]
 #[tactic(auto, unfolding(crate::specs::binary::Timestamp::read_behind_second))]
 fn usual_fraction(octets: &[u8]) -> bool
-    ensures { result ≡ true → (minute : Minute) (second : ℕ) → IsOkAnd (read_behind_second minute second octets.now)
+    ensures { result ≡ true → (minute : Minute) (second : ℕ)
+        → IsOkAnd (read_behind_second minute second octets.now)
         (λ utc. utc.minute ≡ minute) }
 {
     if octets.is_empty() {

@@ -12,14 +12,16 @@ use crate::timestamp_body::{Utc, ahead_of_utc};
 use ion_atoms::calendar::{Date, Minute};
 use ion_atoms::{Precision, Reason, Timestamp};
 
-/// Appends the body of a timestamp (Ion 1.0, "Ion Binary Encoding", timestamp): the offset, of which the unknown one is the octet C0,
-/// then the fields in UTC up to the precision; d fraction digits are the exponent -d and a coefficient, of which 0 has no octets.
-/// Answers `Memory`, and leaves `out` as it was, where it has no room and gets none.
+/// Appends the body of a timestamp (Ion 1.0, "Ion Binary Encoding", timestamp): the offset, of
+/// which the unknown one is the octet C0, then the fields in UTC up to the precision; d fraction
+/// digits are the exponent -d and a coefficient, of which 0 has no octets. Answers `Memory`, and
+/// leaves `out` as it was, where it has no room and gets none.
 pub fn put_timestamp(timestamp: &Timestamp, out: &mut Vec<u8>) -> Result<(), Reason>
     ensures ok { OnOk result (out.new.items ≡ out.old.items ++ timestamp_octets timestamp.now) }
     ensures err { OnErr result (out.new.items ≡ out.old.items) }
     ensures memory { IsOkUnless result Memory }
-    ensures full { OnErr result (vec_capacity out.old < vec_len out.old + length (timestamp_octets timestamp.now)) }
+    ensures full { OnErr result (vec_capacity out.old < vec_len out.old + length
+        (timestamp_octets timestamp.now)) }
     ensures again { timestamp_of_body (timestamp_octets timestamp.now) ≡ Ok timestamp.now }
 {
     let mut octets = Backward::new();

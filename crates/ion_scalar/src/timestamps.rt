@@ -20,7 +20,11 @@ pub struct Stamp {
 }
 
 fn stamp_of_day(precision: Precision, year: u16, month: u8, day: u8) -> Stamp
-    ensures { result ≡ record { local = (dated precision year month day).local; precision = precision; offset = None } }
+    ensures { result ≡ record {
+      local = (dated precision year month day).local;
+      precision = precision;
+      offset = None;
+    } }
 {
     Stamp {
         local: Local {
@@ -101,7 +105,8 @@ fn month_front(octets: &[u8]) -> Option<(u16, u8)>
 
 /// `YYYY-MM-DD` at the front.
 fn day_front(octets: &[u8]) -> Option<(u16, u8, u8)>
-    ensures { SomeIff result (BeginsWithDay octets.now) (four octets.now 0, two octets.now 5, two octets.now 8) }
+    ensures { SomeIff result (BeginsWithDay octets.now)
+        (four octets.now 0, two octets.now 5, two octets.now 8) }
 {
     if !is_at(octets, 7, b'-') {
         return None;
@@ -167,7 +172,9 @@ fn offset_of(octets: &[u8]) -> Option<Option<i16>>
 /// The offset of a sign and so many minutes; `-00:00` is the unknown one.
 fn signed_offset(sign: u8, minutes: u16) -> Option<Option<i16>>
     requires { minutes ≤ 1439 }
-    ensures { SomeIff result ((sign ≡ 43) ⊎ (sign ≡ 45)) (if sign == 43 then Some (pos minutes) else if minutes == 0 then None else Some (neg_ℤ (pos minutes))) }
+    ensures { SomeIff result ((sign ≡ 43) ⊎ (sign ≡ 45))
+        (if sign == 43 then Some (pos minutes) else if minutes == 0 then None else Some
+        (neg_ℤ (pos minutes))) }
 {
     let ahead = minutes as i16;
     match sign {
@@ -179,7 +186,8 @@ fn signed_offset(sign: u8, minutes: u16) -> Option<Option<i16>>
 }
 
 fn year_token(token: &[u8]) -> Option<Stamp>
-    ensures { SomeIff result (IsYear token.now) (stamp (dated precisions.Year (four token.now 0) 1 1)) }
+    ensures { SomeIff result (IsYear token.now)
+        (stamp (dated precisions.Year (four token.now 0) 1 1)) }
 {
     if token.len() != 5 || !is_at(token, 4, b'T') {
         return None;
@@ -191,7 +199,8 @@ fn year_token(token: &[u8]) -> Option<Stamp>
 }
 
 fn month_token(token: &[u8]) -> Option<Stamp>
-    ensures { SomeIff result (IsMonth token.now) (stamp (dated precisions.Month (four token.now 0) (two token.now 5) 1)) }
+    ensures { SomeIff result (IsMonth token.now)
+        (stamp (dated precisions.Month (four token.now 0) (two token.now 5) 1)) }
 {
     if token.len() != 8 || !is_at(token, 7, b'T') {
         return None;
@@ -203,7 +212,8 @@ fn month_token(token: &[u8]) -> Option<Stamp>
 }
 
 fn day_token(token: &[u8]) -> Option<Stamp>
-    ensures { SomeIff result (IsDay token.now) (stamp (dated precisions.Day (four token.now 0) (two token.now 5) (two token.now 8))) }
+    ensures { SomeIff result (IsDay token.now)
+        (stamp (dated precisions.Day (four token.now 0) (two token.now 5) (two token.now 8))) }
 {
     if token.len() != 10 && (token.len() != 11 || !is_at(token, 10, b'T')) {
         return None;
@@ -216,7 +226,8 @@ fn day_token(token: &[u8]) -> Option<Stamp>
 
 /// A minute or second, and an offset that all of the octets behind it are.
 fn with_offset(local: Local, precision: Precision, octets: &[u8]) -> Option<Stamp>
-    ensures { SomeIff result (IsOffsetToken octets.now) (record { local = local; precision = precision; offset = offset_read octets.now }) }
+    ensures { SomeIff result (IsOffsetToken octets.now)
+        (record { local = local; precision = precision; offset = offset_read octets.now }) }
 {
     let Some(offset) = offset_of(octets) else {
         return None
@@ -231,8 +242,13 @@ fn with_offset(local: Local, precision: Precision, octets: &[u8]) -> Option<Stam
 /// What stands behind the point of a second: digits and an offset.
 fn with_fraction(local: Local, octets: &[u8]) -> Option<Stamp>
     ensures some { IfSome result (λ s. (digits rest : List ℕ) × IsFractionEnd octets.now digits rest
-        × (s ≡ record { local = record local { fraction = min (number 10 digits) (2 ^ 127) }; precision = precisions.Fraction (min (length digits) 39); offset = offset_read rest })) }
-    ensures none { IfNone result ((digits rest : List ℕ) → IsFractionEnd octets.now digits rest → ⊥) }
+        × (s ≡ record {
+          local = record local { fraction = min (number 10 digits) (2 ^ 127) };
+          precision = precisions.Fraction (min (length digits) 39);
+          offset = offset_read rest;
+        })) }
+    ensures none { IfNone result ((digits rest : List ℕ) → IsFractionEnd octets.now digits rest
+        → ⊥) }
 {
     let digits = digits_at(octets, 10, 0);
     if digits.used == 0 || digits.count != digits.used {
@@ -247,8 +263,10 @@ fn with_fraction(local: Local, octets: &[u8]) -> Option<Stamp>
 }
 
 fn time_token(token: &[u8]) -> Option<Stamp>
-    ensures some { IfSome result (λ s. (t : TimestampParts) × IsTimestampToken token.now t × (s ≡ stamp t)) }
-    ensures none { IfNone result (BeginsWithMinute token.now → (t : TimestampParts) → IsTimestampToken token.now t → ⊥) }
+    ensures some { IfSome result (λ s. (t : TimestampParts) × IsTimestampToken token.now t
+        × (s ≡ stamp t)) }
+    ensures none { IfNone result (BeginsWithMinute token.now → (t : TimestampParts)
+        → IsTimestampToken token.now t → ⊥) }
 {
     let Some(minute) = minute_front(token) else {
         return None
@@ -268,7 +286,8 @@ fn time_token(token: &[u8]) -> Option<Stamp>
 
 /// The parts that a whole token spells, if it has a form of a timestamp.
 pub fn stamp_of(token: &[u8]) -> Option<Stamp>
-    ensures some { IfSome result (λ s. (t : TimestampParts) × IsTimestampToken token.now t × (s ≡ stamp t)) }
+    ensures some { IfSome result (λ s. (t : TimestampParts) × IsTimestampToken token.now t
+        × (s ≡ stamp t)) }
     ensures none { IfNone result ((t : TimestampParts) → IsTimestampToken token.now t → ⊥) }
 {
     match token.len() {

@@ -31,7 +31,8 @@ colon_behind t = takes_colon t.place t.lexeme.kind
 -- colon may stand there, behind how many octets it stands, and the octets.
 abbrev pub LexesBefore : (Bool → ℕ → List ℕ → Type 0) → Bool → ℕ → List ℕ → List Placed → Type 0
 LexesBefore rest colon before octets [] = rest colon before octets
-LexesBefore rest colon before octets (t ∷ ts) = (others : List ℕ) × BeginsWith colon before octets t others × LexesBefore rest (colon_behind t) t.lexeme.end others ts
+LexesBefore rest colon before octets (t ∷ ts) = (others : List ℕ) × BeginsWith colon before octets t others
+    × LexesBefore rest (colon_behind t) t.lexeme.end others ts
 
 -- the octets up to the end of the input are these tokens, with blanks between
 abbrev pub Lexes : Bool → ℕ → List ℕ → List Placed → Type 0

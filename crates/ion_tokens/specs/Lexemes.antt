@@ -127,8 +127,10 @@ IsLexeme p colon w r kinds.Word kept = (kept ≡ w) × IsWord w × (begins is_wo
 IsLexeme p colon w r kinds.KindName kept = (w ≡ codes "null." ++ kept) × Each is_word_octet kept × (begins is_word_octet r ≡ false)
 IsLexeme p colon w r kinds.Number kept = (kept ≡ w) × (is_name p ≡ false) × IsNumeric w r
 IsLexeme p colon w r kinds.Operator kept = (kept ≡ w) × (is_sexp p ≡ true) × IsOperator w r
-IsLexeme p colon w r kinds.QuotedSymbol kept = (content : List ℕ) × IsQuoted styles.QuotedSymbol content kept × (w ≡ (single_quote ∷ content) ++ single_quote ∷ []) × (content ≡ [] → begins (λ o. o == single_quote) r ≡ false)
-IsLexeme p colon w r kinds.ShortString kept = (content : List ℕ) × IsQuoted styles.ShortString content kept × (w ≡ (double_quote ∷ content) ++ double_quote ∷ [])
+IsLexeme p colon w r kinds.QuotedSymbol kept = (content : List ℕ) × IsQuoted styles.QuotedSymbol content kept
+    × (w ≡ (single_quote ∷ content) ++ single_quote ∷ []) × (content ≡ [] → begins (λ o. o == single_quote) r ≡ false)
+IsLexeme p colon w r kinds.ShortString kept = (content : List ℕ) × IsQuoted styles.ShortString content kept
+    × (w ≡ (double_quote ∷ content) ++ double_quote ∷ [])
 IsLexeme p colon w r kinds.LongString kept = (content : List ℕ) × IsQuoted styles.LongString content kept × (w ≡ codes "'''" ++ content ++ codes "'''")
 IsLexeme p colon w r kinds.Clob kept = (is_name p ≡ false) × (content : List ℕ) × IsClobContent content kept × (w ≡ codes "{{" ++ content ++ codes "}}")
 IsLexeme p colon w r kinds.Blob kept = (is_name p ≡ false) × (content : List ℕ) × IsBlobContent content kept × (w ≡ codes "{{" ++ content ++ codes "}}")

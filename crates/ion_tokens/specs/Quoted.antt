@@ -9,7 +9,8 @@ use Rattle.ion_tokens.specs.Octets.{hexadecimal_digit, escaped}
 
 -- a character that may stand for itself: no control character but tab, VT and FF
 abbrev pub IsRaw : Style → ℕ → Type 0
-IsRaw s c = IsScalar c × (c ≢ backslash) × (IsTrue (is_long s) ⊎ (c ≢ quote_of s)) × ((c ≡ tab) ⊎ (c ≡ vertical_tab) ⊎ (c ≡ form_feed) ⊎ (space ≤ c)) × (IsTrue (is_clob s) → c < 128)
+IsRaw s c = IsScalar c × (c ≢ backslash) × (IsTrue (is_long s) ⊎ (c ≢ quote_of s)) × ((c ≡ tab) ⊎ (c ≡ vertical_tab) ⊎ (c ≡ form_feed) ⊎ (space ≤ c))
+    × (IsTrue (is_clob s) → c < 128)
 
 -- in base sixteen n and then these digits are the number m
 abbrev pub IsHexAfter : ℕ → List ℕ → ℕ → Type 0
@@ -46,7 +47,8 @@ IsElement s (RawLine _) = IsTrue (is_long s)
 IsElement s (Simple letter meaning) = escaped letter ≡ Some meaning
 IsElement s (Hidden _) = Unit {0}
 IsElement s (Hex letter digits c) = (hex_length letter ≡ Some (length digits)) × IsHexAfter 0 digits c × IsScalar c × (IsTrue (is_clob s) → letter ≡ lower_x)
-IsElement s (Pair first second high low) = (is_clob s ≡ false) × (length first ≡ 4) × (length second ≡ 4) × IsHexAfter 0 first (0xd800 + high) × (high < 1024) × IsHexAfter 0 second (0xdc00 + low) × (low < 1024)
+IsElement s (Pair first second high low) = (is_clob s ≡ false) × (length first ≡ 4) × (length second ≡ 4) × IsHexAfter 0 first (0xd800 + high) × (high < 1024)
+    × IsHexAfter 0 second (0xdc00 + low) × (low < 1024)
 
 abbrev pub spelling : Element → List ℕ
 spelling (Raw c) = encode_utf8 c

@@ -6,9 +6,11 @@ use base64::DecodeAllocError;
 use base64::engine::general_purpose::STANDARD;
 use std::alloc::{AllocError, Global};
 
-/// The octets that a text stands for, if it stands for any: padding is required, and unused bits must be 0.
+/// The octets that a text stands for, if it stands for any: padding is required, and unused bits
+/// must be 0.
 pub fn decoded(alloc: Global, text: &[u8]) -> Result<Option<Vec<u8>>, AllocError>
-    ensures { IfOk result (λ found. MatchOption found (blob_of text.now ≡ None) (λ octets. blob_of text.now ≡ Some octets.items)) }
+    ensures { IfOk result (λ found. MatchOption found (blob_of text.now ≡ None)
+        (λ octets. blob_of text.now ≡ Some octets.items)) }
 {
     match STANDARD.decode(alloc, text) {
         Ok(octets) => Ok(Some(octets)),

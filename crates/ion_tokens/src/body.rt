@@ -75,7 +75,8 @@ fn id_of(word: &[u8]) -> Option<u64>
 
 // Octets as a text, without a copy.
 fn text_of(octets: Vec<u8>) -> Result<Text, Reason>
-    ensures { MatchResult result (λ text. (text ≡ octets.items) × IsUtf8 octets.items) (λ e. (e ≡ BadUtf8) × ¬ (IsUtf8 octets.items)) }
+    ensures { MatchResult result (λ text. (text ≡ octets.items) × IsUtf8 octets.items)
+        (λ e. (e ≡ BadUtf8) × ¬ (IsUtf8 octets.items)) }
 {
     if simdutf8::is_utf8(&octets) {
         Ok(Text::from_string(unsafe { String::from_utf8_unchecked(octets) }))
@@ -135,9 +136,10 @@ fn taken(alloc: Global, octets: &mut Vec<u8>) -> Vec<u8>
     mem::replace(octets, Vec::new(alloc))
 }
 
-/// What a token of that kind says by its octets, which are taken where a text needs them. `lent` is where they stand in
-/// the piece, if they stand there. `Malformed`, `TooLarge` and `Float` for numbers as in `number_of`, `Malformed` for a
-/// name of no kind; `Memory` where a growth was refused.
+/// What a token of that kind says by its octets, which are taken where a text needs them. `lent` is
+/// where they stand in the piece, if they stand there. `Malformed`, `TooLarge` and `Float` for
+/// numbers as in `number_of`, `Malformed` for a name of no kind; `Memory` where a growth was
+/// refused.
 pub fn body_of<'p>(
     alloc: Global,
     kind: TokenKind,

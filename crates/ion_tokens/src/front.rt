@@ -15,7 +15,8 @@ use simdutf8::{compat, is_utf8};
 use std::alloc::AllocError;
 use std::simd::prelude::*;
 
-// An ASCII character that a text in these quotes, long or not, keeps as it is, and no quote; the likely answer comes first.
+// An ASCII character that a text in these quotes, long or not, keeps as it is, and no quote; the
+// likely answer comes first.
 #[inline(always)]
 fn is_between(long: bool, quote: u8, octet: u8) -> bool
     ensures { result ≡ is_between long quote octet }
@@ -91,8 +92,9 @@ fn all_raw(long: bool, quote: u8, octets: &[u8]) -> usize
     at + each_raw(long, quote, &octets[at..])
 }
 
-// How many octets at the front are those of characters that such a text keeps as they are. Where one of them isn't well
-// formed or is cut, the characters before it are counted, so that none of them is gone over again.
+// How many octets at the front are those of characters that such a text keeps as they are. Where
+// one of them isn't well formed or is cut, the characters before it are counted, so that none of
+// them is gone over again.
 #[inline(never)]
 fn characters_between(long: bool, quote: u8, octets: &[u8]) -> usize
     ensures within { result ≤ length octets.now }
@@ -206,8 +208,8 @@ fn plain(style: Style, octets: &[u8]) -> usize
     all_between(is_long(style), quote_of(style), octets)
 }
 
-/// How many octets there are at the front of characters that a quoted text keeps as they are, up to one that isn't well
-/// formed, or isn't whole.
+/// How many octets there are at the front of characters that a quoted text keeps as they are, up to
+/// one that isn't well formed, or isn't whole.
 #[inline(never)]
 pub fn characters(style: Style, octets: &[u8]) -> usize
     ensures within { result ≤ length octets.now }
@@ -264,7 +266,8 @@ impl Machine {
         requires room { self.old.used + length octets.now < 2 ^ 63 }
         requires some { 0 < length octets.now }
         ensures known { IfOk result (λ _. known self.new ≡ gone_on (known self.old) octets.now) }
-        ensures looked { IfOk result (λ _. self.new.looked ≡ min (self.old.looked + length octets.now) (2 ^ 64 - 1)) }
+        ensures looked { IfOk result (λ _. self.new.looked
+            ≡ min (self.old.looked + length octets.now) (2 ^ 64 - 1)) }
     {
         if keeps_them(self.mode) {
             self.kept.extend_from_slice(octets)?;

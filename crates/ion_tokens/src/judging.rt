@@ -27,7 +27,8 @@ fn lent<'p>(piece: &'p [u8], before: u64, lexeme: Lexeme) -> &'p [u8]
 }
 
 impl Machine {
-    // Judges the token that ended last, at the octet `decided`. It needs much room, for which marks are not to pay.
+    // Judges the token that ended last, at the octet `decided`. It needs much room, for which marks
+    // are not to pay.
     #[inline(never)]
     fn judged<'p>(
         &mut self,

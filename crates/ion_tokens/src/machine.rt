@@ -153,7 +153,8 @@ impl Machine {
 
     // A token ended; what was kept of it is set aside.
     fn cut(&mut self, place: Place, kind: TokenKind, end: u64, mode: Mode) -> Lexeme
-        ensures lexeme { lexeme_in result self.new ≡ cut (known self.old) kind self.old.kept.items end }
+        ensures lexeme { lexeme_in result self.new ≡ cut (known self.old) kind self.old.kept.items
+            end }
         ensures known { known self.new ≡ past place kind mode [] end self.old.used }
         ensures looked { self.new.looked ≡ self.old.looked }
     {
@@ -180,7 +181,8 @@ impl Machine {
     // The first brace of a blob's close: its content is decoded.
     fn end_blob(&mut self) -> Result<Taken, AllocError>
         requires { self.old.used < 2 ^ 63 }
-        ensures does { IfOk result (λ taken. outcome_in taken self.new ≡ blob_ends (known self.old) (blob_of self.old.kept.items)) }
+        ensures does { IfOk result (λ taken. outcome_in taken self.new
+            ≡ blob_ends (known self.old) (blob_of self.old.kept.items)) }
         ensures looked { self.new.looked ≡ self.old.looked }
     {
         match decoded(self.alloc, self.kept.as_slice())? {
@@ -196,7 +198,8 @@ impl Machine {
     // A word ended, unless it is `null` and the octet a dot.
     fn end_word(&mut self, place: Place, octet: u8) -> Taken
         requires { self.old.used < 2 ^ 63 }
-        ensures does { outcome_in result self.new ≡ acts place (known self.old) octet Action.EndWord }
+        ensures does { outcome_in result self.new ≡ acts place (known self.old) octet
+            Action.EndWord }
         ensures looked { self.new.looked ≡ self.old.looked }
     {
         if octet == b'.' && self.kept.as_slice() == b"null".as_slice() {
@@ -210,7 +213,8 @@ impl Machine {
 
     // An operator ended before letters of `inf`, which begin a word.
     fn split(&mut self, place: Place, letters: u8) -> Result<Taken, AllocError>
-        ensures does { IfOk result (λ taken. outcome_in taken self.new ≡ split_at place (known self.old) letters) }
+        ensures does { IfOk result (λ taken. outcome_in taken self.new
+            ≡ split_at place (known self.old) letters) }
         ensures looked { self.new.looked ≡ self.old.looked }
     {
         let end = self.used.saturating_sub(u64::from(letters));
@@ -224,7 +228,8 @@ impl Machine {
     // Does what the table says of an octet.
     fn act(&mut self, place: Place, octet: u8, action: Action) -> Result<Taken, AllocError>
         requires { self.old.used < 2 ^ 63 }
-        ensures does { IfOk result (λ taken. outcome_in taken self.new ≡ acts place (known self.old) octet action) }
+        ensures does { IfOk result (λ taken. outcome_in taken self.new
+            ≡ acts place (known self.old) octet action) }
         ensures looked { self.new.looked ≡ self.old.looked }
     {
         match action {
@@ -255,9 +260,11 @@ impl Machine {
     /// Takes up one octet.
     pub fn take_up(&mut self, place: Place, octet: u8) -> Result<Taken, AllocError>
         requires { self.old.used < 2 ^ 63 }
-        ensures does { IfOk result (λ taken. outcome_in taken self.new ≡ feed place (known self.old) octet) }
+        ensures does { IfOk result (λ taken. outcome_in taken self.new
+            ≡ feed place (known self.old) octet) }
         ensures looked { self.new.looked ≡ min (self.old.looked + 1) (2 ^ 64 - 1) }
-        ensures steady { IfOk result (λ taken. IsSteady (known self.old) self.old.looked → StaysSteady (outcome_in taken self.new) self.new.looked) }
+        ensures steady { IfOk result (λ taken. IsSteady (known self.old) self.old.looked
+            → StaysSteady (outcome_in taken self.new) self.new.looked) }
     {
         self.looked = self.looked.saturating_add(1);
         self.act(place, octet, next(place, self.colon, self.mode, octet))
@@ -268,10 +275,13 @@ impl Machine {
     /// Takes up octets of a piece, up to the first token.
     pub fn run(&mut self, place: Place, piece: &[u8]) -> Result<Taken, AllocError>
         requires { self.old.used + length piece.now < 2 ^ 63 }
-        ensures does { IfOk result (λ taken. outcome_in taken self.new ≡ run place piece.now (known self.old)) }
+        ensures does { IfOk result (λ taken. outcome_in taken self.new
+            ≡ run place piece.now (known self.old)) }
         ensures looked { IfOk result (λ taken. self.new.looked
-            ≡ min (self.old.looked + taken_up self.old.used (outcome_in taken self.new)) (2 ^ 64 - 1)) }
-        ensures steady { IfOk result (λ taken. IsSteady (known self.old) self.old.looked → StaysSteady (outcome_in taken self.new) self.new.looked) }
+            ≡ min (self.old.looked + taken_up self.old.used (outcome_in taken self.new))
+            (2 ^ 64 - 1)) }
+        ensures steady { IfOk result (λ taken. IsSteady (known self.old) self.old.looked
+            → StaysSteady (outcome_in taken self.new) self.new.looked) }
     {
         let mut at = 0;
         while at < piece.len() {
@@ -292,10 +302,13 @@ impl Machine {
 }
 
 impl Machine {
-    /// What the end of the input shows: the token that it ends, if one is open, or why the octets are none.
+    /// What the end of the input shows: the token that it ends, if one is open, or why the octets
+    /// are none.
     pub fn end(&mut self, place: Place) -> Result<Option<Lexeme>, Reason>
-        ensures ok { IfOk result (λ found. at_end place (known self.old) ≡ Ok (found_in found self.new)) }
-        ensures err { IfErr result (λ reason. reason ≢ Memory → at_end place (known self.old) ≡ Err reason) }
+        ensures ok { IfOk result (λ found. at_end place (known self.old)
+            ≡ Ok (found_in found self.new)) }
+        ensures err { IfErr result (λ reason. reason ≢ Memory → at_end place (known self.old)
+            ≡ Err reason) }
     {
         match end_of(place, self.mode) {
             End::Blank => Ok(None),

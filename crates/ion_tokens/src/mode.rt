@@ -77,7 +77,8 @@ pub enum Within {
     OneQuote,
     /// Behind two raw quotes of a long text.
     TwoQuotes,
-    /// Inside a character: how many octets are left, and the least and the greatest that may come next.
+    /// Inside a character: how many octets are left, and the least and the greatest that may come
+    /// next.
     Utf8(u8, u8, u8),
     /// Behind a backslash.
     Escape,
@@ -199,7 +200,8 @@ pub enum Action {
     Before(TokenKind, Keep, Mode),
     /// A word ended, unless it is `null` and the octet a dot.
     EndWord,
-    /// An operator ended before so many letters of `inf`, which begin a word; the octet is taken up again.
+    /// An operator ended before so many letters of `inf`, which begin a word; the octet is taken up
+    /// again.
     Split(u8),
     /// The first `}` of a blob: its content is decoded.
     EndBlob,

@@ -1,4 +1,5 @@
-//! Runs of operator characters, and signs before digits and `inf` (Ion 1.0, "Ion Text Encoding", s-expressions).
+//! Runs of operator characters, and signs before digits and `inf` (Ion 1.0, "Ion Text Encoding",
+//! s-expressions).
 ghost use Rattle.std.specs.Prelude.{◌≡◌};
 ghost use Rattle.ion_tokens.specs.machine.Table.{is_other, run_ending, digit_behind, in_operator, in_operator_slash, in_infinity};
 
@@ -74,7 +75,8 @@ pub fn in_operator_slash(octet: u8) -> Action
     }
 }
 
-/// Behind a sign and `i`, `in` or `inf`. Where no float comes of it, an s-expression has an operator and a word there.
+/// Behind a sign and `i`, `in` or `inf`. Where no float comes of it, an s-expression has an
+/// operator and a word there.
 pub fn in_infinity(place: Place, letters: u8, octet: u8) -> Action
     ensures { result ≡ in_infinity place letters octet }
 {

@@ -1,5 +1,5 @@
-//! Blanks and plain tokens that lie whole in memory, read where a scanner rests. What is cut, refused or unusual isn't told
-//! here: the scanner takes it up octet by octet.
+//! Blanks and plain tokens that lie whole in memory, read where a scanner rests. What is cut,
+//! refused or unusual isn't told here: the scanner takes it up octet by octet.
 ghost use Rattle.std.specs.Prelude.{◌≡◌, ◌+◌, ◌-◌, ◌<◌, ◌≤◌, ◌^◌, false, true, length, take, drop, IfSome, IsUtf8};
 ghost use Rattle.ion_tokens.specs.Places.{is_name};
 ghost use Rattle.ion_tokens.specs.machine.Rests.{past_blank, past_token, IsPassed, IsFound};
@@ -60,7 +60,8 @@ pub fn blanks(octets: &[u8]) -> usize
     white(octets)
 }
 
-/// How many octets the word at the front has, if the octet behind it shows its end; `None` also before a dot.
+/// How many octets the word at the front has, if the octet behind it shows its end; `None` also
+/// before a dot.
 pub fn word(octets: &[u8]) -> Option<usize>
     ensures found { IfSome result (λ count. (place : Place) (rest : Rest) →
         IsFound place rest octets.now TokenKind.Word (take count octets.now) count true) }
@@ -76,8 +77,8 @@ pub fn word(octets: &[u8]) -> Option<usize>
     Some(count)
 }
 
-/// How many octets the numeric token at the front has, if the octet behind it shows its end; `None` also before a slash. No
-/// field's name stands there.
+/// How many octets the numeric token at the front has, if the octet behind it shows its end; `None`
+/// also before a slash. No field's name stands there.
 pub fn number(octets: &[u8]) -> Option<usize>
     ensures { IfSome result (λ count. (place : Place) (rest : Rest) → is_name place ≡ false →
         IsFound place rest octets.now TokenKind.Number (take count octets.now) count true) }
@@ -95,7 +96,8 @@ pub fn number(octets: &[u8]) -> Option<usize>
     Some(count)
 }
 
-/// How many octets the short string at the front has, quotes and all, if its characters stand as they are, without escapes.
+/// How many octets the short string at the front has, quotes and all, if its characters stand as
+/// they are, without escapes.
 pub fn short_string(octets: &[u8]) -> Option<usize>
     ensures found { IfSome result (λ count. (place : Place) (rest : Rest) →
         IsFound place rest octets.now TokenKind.ShortString

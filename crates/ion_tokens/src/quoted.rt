@@ -1,4 +1,5 @@
-//! Quoted texts: raw characters and escapes (Ion 1.0, "Ion Text Encoding", strings, symbols and clobs).
+//! Quoted texts: raw characters and escapes (Ion 1.0, "Ion Text Encoding", strings, symbols and
+//! clobs).
 ghost use Rattle.std.specs.Prelude.{◌≡◌, ◌<◌};
 ghost use Rattle.ion_tokens.specs.machine.Table.{is_long, is_clob, quote_of, stands, close, close_long, raw, lead, in_utf8, in_escape, grow, character, after_digits, in_hexadecimal, in_text, is_high, is_low};
 
@@ -55,7 +56,8 @@ fn close_long(style: Style) -> Action
     }
 }
 
-/// An octet that stands for itself, or begins a character, an escape or the close. In a long text CR, and CR with LF, are LF.
+/// An octet that stands for itself, or begins a character, an escape or the close. In a long text
+/// CR, and CR with LF, are LF.
 pub fn raw(style: Style, octet: u8) -> Action
     ensures { result ≡ raw style octet }
 {

@@ -6,17 +6,18 @@ ghost use Rattle.ion_tokens.specs.machine.Machines.{known};
 use crate::begun::{is_idle, shown};
 use crate::machine::{Machine, start_of};
 use crate::mode::{Mode, Place};
+use crate::plain_tokens::Rest;
 use crate::table::next;
 use crate::token::{Begun, Foresight, Scan, Token};
-use crate::plain_tokens::Rest;
 use ion_atoms::{Reason, Refusal};
 use std::alloc::Global;
 use std::fmt::{self, Debug, Formatter};
 
-/// A scanner of Ion text, to which the octets come in pieces of any size (Ion 1.0, "Ion Text Encoding").
+/// A scanner of Ion text, to which the octets come in pieces of any size (Ion 1.0, "Ion Text
+/// Encoding").
 ///
-/// Its tokens, its refusal and the totals of octets used at which the tokens come depend on the octets and the places
-/// alone, and not on how the octets are cut.
+/// Its tokens, its refusal and the totals of octets used at which the tokens come depend on the
+/// octets and the places alone, and not on how the octets are cut.
 #[derive(Drop)]
 pub struct Scanner {
     machine: Machine,
@@ -63,18 +64,20 @@ impl Scanner {
         }
     }
 
-    /// Takes up octets of the piece, up to the next token; without a token it used the whole piece. `place` is where that
-    /// token stands, which changes only after a token.
+    /// Takes up octets of the piece, up to the next token; without a token it used the whole piece.
+    /// `place` is where that token stands, which changes only after a token.
     ///
-    /// A token may be given before the octet that showed its end, where that octet isn't part of it: then `used` doesn't
-    /// count the octet, `left()` says so from then on, and the next piece has to begin with it.
+    /// A token may be given before the octet that showed its end, where that octet isn't part of
+    /// it: then `used` doesn't count the octet, `left()` says so from then on, and the next piece
+    /// has to begin with it.
     ///
-    /// A refusal's offset counts the octets of the document up to the one that decides. `Malformed`, `TooLarge` and
-    /// `Float` come from numbers as in `number_of`, `Malformed` from `null.` without the name of a kind and `Float` from a
-    /// sign with `inf`; `BadEscape`, `BadUtf8` and `BadBase64` from quoted texts and blobs; `Ambiguous` from a run of two or more operator
-    /// characters that ends in `-` before a digit; `Unexpected` from an octet that can't stand there. `Memory` says
-    /// nothing of the octets; its offset is the number of octets that earlier steps used. After a refusal each later call
-    /// answers that refusal.
+    /// A refusal's offset counts the octets of the document up to the one that decides.
+    /// `Malformed`, `TooLarge` and `Float` come from numbers as in `number_of`, `Malformed` from
+    /// `null.` without the name of a kind and `Float` from a sign with `inf`; `BadEscape`,
+    /// `BadUtf8` and `BadBase64` from quoted texts and blobs; `Ambiguous` from a run of two or more
+    /// operator characters that ends in `-` before a digit; `Unexpected` from an octet that can't
+    /// stand there. `Memory` says nothing of the octets; its offset is the number of octets that
+    /// earlier steps used. After a refusal each later call answers that refusal.
     pub fn step<'p>(&mut self, piece: &'p [u8], place: Place) -> Result<Scan<'p>, Refusal>
         requires { (scanned self.old).used + length piece.now < 2 ^ 63 }
         ensures answers { IsNone (failure self.old) →
@@ -130,9 +133,10 @@ impl Scanner {
 
     /// Ends the octets: the token that the end shows to be whole, if one is open.
     ///
-    /// A refusal's offset is the number of octets used, or that of the step that refused before. `Incomplete` comes where
-    /// the open octets are no token and no blank, `Float` from a sign with `inf`, `Malformed`, `TooLarge` and `Float` from
-    /// numbers as in `number_of`, `Malformed` from `null.` without the name of a kind, `Memory` from no octets.
+    /// A refusal's offset is the number of octets used, or that of the step that refused before.
+    /// `Incomplete` comes where the open octets are no token and no blank, `Float` from a sign with
+    /// `inf`, `Malformed`, `TooLarge` and `Float` from numbers as in `number_of`, `Malformed` from
+    /// `null.` without the name of a kind, `Memory` from no octets.
     pub fn finish<'p>(self, place: Place) -> Result<Option<Token<'p>>, Refusal>
         ensures ends { IsNone (failure self) →
             Ends (scanned self).used (at_end place (scanned self)) result }
@@ -203,8 +207,8 @@ impl Scanner {
         self.machine.front(piece)
     }
 
-    /// Takes up octets over which what is open goes on as it is, one at least. It leads where a step over them leads,
-    /// which gives no token there.
+    /// Takes up octets over which what is open goes on as it is, one at least. It leads where a
+    /// step over them leads, which gives no token there.
     ///
     /// `Memory` as in `step`.
     #[tactic(auto, using(crate::proofs::runs::GoesOn::going_led))]
@@ -243,8 +247,8 @@ impl Scanner {
         }
     }
 
-    /// Whether the octet behind those that the last step used ended the token that it gave: the next piece has to
-    /// begin with that octet.
+    /// Whether the octet behind those that the last step used ended the token that it gave: the
+    /// next piece has to begin with that octet.
     pub fn left(&self) -> bool
         ensures { result ≡ left_in self.now }
     {
@@ -258,10 +262,12 @@ impl Scanner {
         self.machine.used
     }
 
-    /// Where a token begins that is open behind the next octet: the open one, or else one that begins there, or
-    /// with a `/` before it; in a comment, at the `/` with which it began or before it.
+    /// Where a token begins that is open behind the next octet: the open one, or else one that
+    /// begins there, or with a `/` before it; in a comment, at the `/` with which it began or
+    /// before it.
     pub fn since(&self) -> u64
-        ensures { result ≡ start_of (scanned self.now).mode (scanned self.now).start (scanned self.now).used }
+        ensures { result ≡ start_of (scanned self.now).mode (scanned self.now).start
+            (scanned self.now).used }
     {
         start_of(self.machine.mode, self.machine.start, self.machine.used)
     }
@@ -273,8 +279,8 @@ impl Scanner {
         self.failed
     }
 
-    /// How many octets were taken up, each as often as it was: unless a call was refused, at least as many as were used and at
-    /// most twice as many.
+    /// How many octets were taken up, each as often as it was: unless a call was refused, at least
+    /// as many as were used and at most twice as many.
     pub fn looked(&self) -> u64
         ensures looks { result ≡ looks self.now }
         ensures each { IsNone (failure self.now) → (scanned self.now).used ≤ result }
@@ -303,7 +309,8 @@ impl Scanner {
         shown(next(place, self.machine.colon, self.machine.mode, octet))
     }
 
-    /// The token that has begun and not ended: none in a blank, behind a `/` that may open a comment, and behind one colon.
+    /// The token that has begun and not ended: none in a blank, behind a `/` that may open a
+    /// comment, and behind one colon.
     pub fn begun(&self) -> Option<Begun>
         ensures begun { result ≡ begun_in (scanned self.now) }
         ensures shows { AlwaysShows (scanned self.now) result }

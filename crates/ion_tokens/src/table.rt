@@ -1,4 +1,5 @@
-//! The scanner's table: what an octet does in each mode (Ion 1.0, "Ion Text Encoding" and its grammar).
+//! The scanner's table: what an octet does in each mode (Ion 1.0, "Ion Text Encoding" and its
+//! grammar).
 ghost use Rattle.std.specs.Prelude.{◌≡◌};
 ghost use Rattle.ion_tokens.specs.machine.Table.{is_sexp, is_name, in_blank, begins_value, in_slash, in_block_star, in_colon, in_word, in_kind_name, in_number, in_number_slash, in_quote, in_quotes, in_brace, next, operator_end, end_of};
 
@@ -194,7 +195,8 @@ fn in_brace(octet: u8) -> Action
     }
 }
 
-/// What an octet does in a place and a mode. `colon` says whether a colon may stand behind the token before.
+/// What an octet does in a place and a mode. `colon` says whether a colon may stand behind the
+/// token before.
 pub fn next(place: Place, colon: bool, mode: Mode, octet: u8) -> Action
     ensures { result ≡ next place colon mode octet }
 {

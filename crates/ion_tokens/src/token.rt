@@ -63,7 +63,8 @@ pub enum Form {
     Other,
 }
 
-/// What an octet shows of a token that may go on: a symbol with `::`, a long string with its next segment.
+/// What an octet shows of a token that may go on: a symbol with `::`, a long string with its next
+/// segment.
 #[derive(Clone, Copy, Debug, PartialEq, Eq)]
 pub enum Foresight {
     /// No token: a blank, or a first colon.

@@ -1,5 +1,5 @@
-//! Tokens of any form that lie whole in memory: those with escapes, typed nulls, clobs and blobs, read by a
-//! machine beside the scanner's.
+//! Tokens of any form that lie whole in memory: those with escapes, typed nulls, clobs and blobs,
+//! read by a machine beside the scanner's.
 ghost use Rattle.std.specs.Prelude.{◌≡◌, ◌≢◌, ◌+◌, ◌<◌, ◌^◌, [], length, Ok, Err, IfOk, IfErr, IfSome};
 ghost use Rattle.ion_atoms.specs.declared.refusal.Reason.TheVariants.{Memory};
 ghost use Rattle.ion_tokens.specs.Bodies.{content};
@@ -9,13 +9,14 @@ ghost use Rattle.ion_tokens.specs.machine.Said.{said};
 use crate::body::body_of;
 use crate::machine::{Lexeme, Machine, Taken, takes_colon};
 use crate::mode::{Mode, Place, TokenKind};
-use crate::token::Body;
 use crate::plain_tokens::Rest;
+use crate::token::Body;
 use ion_atoms::Reason;
 use std::alloc::Global;
 use std::fmt::{self, Debug, Formatter};
 
-/// Reads tokens beside a scanner; it keeps the octets of the last one, and none of a token that it didn't find.
+/// Reads tokens beside a scanner; it keeps the octets of the last one, and none of a token that it
+/// didn't find.
 #[derive(Drop)]
 pub struct TokenReader {
     machine: Machine,
@@ -49,8 +50,9 @@ impl TokenReader {
         }
     }
 
-    /// The token at the front of these octets, where a scanner rests, if its end shows in them. `None` also where it is refused
-    /// or unusual, where a comment stands before it, and where memory runs out. Of a token that isn't found nothing is kept.
+    /// The token at the front of these octets, where a scanner rests, if its end shows in them.
+    /// `None` also where it is refused or unusual, where a comment stands before it, and where
+    /// memory runs out. Of a token that isn't found nothing is kept.
     #[inline(never)]
     pub fn token(&mut self, place: Place, rest: Rest, octets: &[u8]) -> Option<FoundToken>
         requires { rest.used + length octets.now < 2 ^ 63 }

@@ -34,7 +34,8 @@ decimal_with negative magnitude exponent = record { negative = negative; magnitu
 abbrev pub with_coefficient : Signed → List ℕ → Result DecimalParts Reason
 with_coefficient power octets =
     if exponent_fits power then
-    (if nat_lt (int_magnitude octets) (2 ^ 127) then Ok (decimal_with (int_negative octets) (int_magnitude octets) (signed power.negative power.magnitude)) else Err TooLarge)
+    (if nat_lt (int_magnitude octets) (2 ^ 127) then Ok (decimal_with (int_negative octets) (int_magnitude octets) (signed power.negative power.magnitude)) else
+    Err TooLarge)
     else Err TooLarge
 
 abbrev pub with_exponent : List ℕ → Result (Signed × ℕ) Reason → Result DecimalParts Reason

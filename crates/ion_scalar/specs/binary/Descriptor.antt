@@ -10,7 +10,8 @@ use Rattle.ion_scalar.specs.declared.descriptor.Descriptor.{Descriptor}
 use Rattle.ion_scalar.specs.declared.descriptor.Descriptor.TheVariants.{Marker, Null, Truth, Pad, Ordered, Body}
 
 abbrev pub kind : ℕ → Kind
-kind tag = slice_index_or (kinds.Null ∷ kinds.Bool ∷ kinds.Int ∷ kinds.Int ∷ kinds.Float ∷ kinds.Decimal ∷ kinds.Timestamp ∷ kinds.Symbol ∷ kinds.Str ∷ kinds.Clob ∷ kinds.Blob ∷ kinds.List ∷ kinds.Sexp ∷ kinds.Fields ∷ []) tag kinds.Fields
+kind tag = slice_index_or (kinds.Null ∷ kinds.Bool ∷ kinds.Int ∷ kinds.Int ∷ kinds.Float ∷ kinds.Decimal ∷ kinds.Timestamp ∷ kinds.Symbol ∷ kinds.Str
+    ∷ kinds.Clob ∷ kinds.Blob ∷ kinds.List ∷ kinds.Sexp ∷ kinds.Fields ∷ []) tag kinds.Fields
 
 abbrev pub size : ℕ → Size
 size length = if length == 14 then Follows else Known length
@@ -18,7 +19,8 @@ size length = if length == 14 then Follows else Known length
 abbrev pub typed : ℕ → ℕ → Result Descriptor Reason
 typed tag length =
     if tag == 15 then Err Malformed
-    else if tag == 14 then (if length == 0 then Ok Marker else if (length == 1) || (length == 2) || (length == 15) then Err Malformed else Ok (Body tag (size length)))
+    else if tag == 14 then (if length == 0 then Ok Marker else if (length == 1) || (length == 2) || (length == 15) then Err Malformed else Ok
+    (Body tag (size length)))
     else if length == 15 then Ok (Null (kind tag))
     else if tag == 0 then Ok (Pad (size length))
     else if tag == 1 then (if length == 0 then Ok (Truth false) else if length == 1 then Ok (Truth true) else Err Malformed)

@@ -63,7 +63,8 @@ six_bits octet = if is_negative octet then seven_bits octet - 64 else seven_bits
 -- said here that they are octets.
 pub data VarInt : List ℕ → Bool → ℕ → Type 0 where
   short : (octet : ℕ) → 128 ≤ octet → VarInt (octet ∷ []) (is_negative octet) (six_bits octet)
-  long : (octet : ℕ) (digits : List ℕ) (last : ℕ) → octet < 128 → Digits128 digits → positional 128 (six_bits octet ∷ digits ++ last ∷ []) < 2 ^ 63 → VarInt (octet ∷ digits ++ (128 + last) ∷ []) (is_negative octet) (positional 128 (six_bits octet ∷ digits ++ last ∷ []))
+  long : (octet : ℕ) (digits : List ℕ) (last : ℕ) → octet < 128 → Digits128 digits → positional 128 (six_bits octet ∷ digits ++ last ∷ []) < 2 ^ 63
+      → VarInt (octet ∷ digits ++ (128 + last) ∷ []) (is_negative octet) (positional 128 (six_bits octet ∷ digits ++ last ∷ []))
 
 abbrev pub signed_of : Bool → ℕ → Signed
 signed_of negative magnitude = record { negative = negative; magnitude = magnitude }

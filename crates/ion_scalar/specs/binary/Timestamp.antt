@@ -44,7 +44,8 @@ pub record Begins (least most : ℕ) (Behind : ℕ → List ℕ → Type 0) (oct
 -- with the exponent -d the coefficient, 0 or more, has d digits; with any other it is 0, and there is no fraction
 abbrev pub IsFractionOf : Bool → ℕ → List ℕ → Minute → ℕ → Utc → Type 0
 IsFractionOf below power coefficient minute second utc =
-    ((below ≡ true) × (1 ≤ power) × (power ≤ 38) × ((int_negative coefficient ≡ false) ⊎ (int_magnitude coefficient ≡ 0)) × (int_magnitude coefficient < 10 ^ power)
+    ((below ≡ true) × (1 ≤ power) × (power ≤ 38) × ((int_negative coefficient ≡ false) ⊎ (int_magnitude coefficient ≡ 0))
+    × (int_magnitude coefficient < 10 ^ power)
     × (utc ≡ time_known (precisions.Fraction power) minute second (int_magnitude coefficient)))
     ⊎ (((below ≡ false) ⊎ (power ≡ 0)) × (int_magnitude coefficient ≡ 0) × (utc ≡ time_known precisions.Second minute second 0))
 

@@ -15,8 +15,10 @@ seven_bits_octet b h =
       | inr le ↦ rw (le-leb 128 b le) (omega arith)
     ]
 
-pub groups_more : (front : ℕ) (os : List ℕ) (i : ℕ) → i < length os → groups front (take (i + 1) os) ≡ groups front (take i os) * 128 + seven_bits (get_or os i 0)
-groups_more front os i h = ap (λ (ds : List ℕ). positional 128 (front ∷ ds)) (map_more seven_bits os i 0 h) ∙ positional_push 128 (front ∷ map seven_bits (take i os)) (seven_bits (get_or os i 0))
+pub groups_more : (front : ℕ) (os : List ℕ) (i : ℕ) → i < length os → groups front (take (i + 1) os)
+    ≡ groups front (take i os) * 128 + seven_bits (get_or os i 0)
+groups_more front os i h = ap (λ (ds : List ℕ). positional 128 (front ∷ ds)) (map_more seven_bits os i 0 h)
+    ∙ positional_push 128 (front ∷ map seven_bits (take i os)) (seven_bits (get_or os i 0))
 
 groups_mono : (front : ℕ) (xs ys : List ℕ) → groups front xs ≤ groups front (xs ++ ys)
 groups_mono front xs ys = rw (map-append seven_bits xs ys) (positional_mono 128 (front ∷ map seven_bits xs) (map seven_bits ys) (omega arith))
@@ -24,7 +26,8 @@ groups_mono front xs ys = rw (map-append seven_bits xs ys) (positional_mono 128 
 pub groups_take : (front : ℕ) (os : List ℕ) (i j : ℕ) → i ≤ j → groups front (take i os) ≤ groups front (take j os)
 groups_take front os i j h =
     let whole = take-append-drop i (take j os) in
-    let more : groups front (take i (take j os)) ≤ groups front (take j os) = subst (λ (xs : List ℕ). groups front (take i (take j os)) ≤ groups front xs) whole (groups_mono front (take i (take j os)) (drop i (take j os))) in
+    let more : groups front (take i (take j os)) ≤ groups front (take j os) =
+    subst (λ (xs : List ℕ). groups front (take i (take j os)) ≤ groups front xs) whole (groups_mono front (take i (take j os)) (drop i (take j os))) in
     rw (take-take i j os h) at more
 
 abbrev pub GoOn : List ℕ → ℕ → Type 0
@@ -47,7 +50,8 @@ module _ (front used : ℕ) (os : List ℕ) where
       let g = groups_take front os (i + 1) (position_or_len is_last os + 1) (omega arith) in
       rw (le-leb (2 ^ 63) (groups front (up_to_last os)) (omega arith)) refl
 
-  pub ends_at : (i : ℕ) → i < length os → GoOn os i → 128 ≤ get_or os i 0 → groups front (take (i + 1) os) < 2 ^ 63 → var_rest front used os ≡ Ok (groups front (take (i + 1) os), used + i + 1)
+  pub ends_at : (i : ℕ) → i < length os → GoOn os i → 128 ≤ get_or os i 0 → groups front (take (i + 1) os) < 2 ^ 63
+      → var_rest front used os ≡ Ok (groups front (take (i + 1) os), used + i + 1)
   ends_at i h on here small =
       let e = end_at os i (omega arith) on (λ _. here) in
       rw (e, lt-leb (2 ^ 63) (groups front (take (i + 1) os)) small, lt-ltb i (length os) h) refl

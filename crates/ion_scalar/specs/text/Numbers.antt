@@ -31,7 +31,8 @@ Fits (numbers.Timestamp t) = IsShort t.precision
 
 -- the decimal of a coefficient and a written exponent, with so many fraction digits
 abbrev pub decimal_read : Bool → ℕ → Bool → ℕ → ℕ → Number
-decimal_read negative magnitude below written count = numbers.Decimal (record { negative = negative; magnitude = magnitude; exponent = signed below written -ℤ pos count })
+decimal_read negative magnitude below written count = numbers.Decimal
+    (record { negative = negative; magnitude = magnitude; exponent = signed below written -ℤ pos count })
 
 abbrev pub ReadsBehind : Bool → List ℕ → Result Number Reason → Type 0
 ReadsBehind negative body (Ok x) = IsBehind negative body x × Fits x

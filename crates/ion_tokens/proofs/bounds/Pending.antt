@@ -49,7 +49,8 @@ acts_owes p s o (actions.Before kind k m) f =
     let t = ended_well (debt m) (debt s.mode) (unkept m) (unkept s.mode) (is_fresh m) f.is in
     omega arith
 acts_owes p s o actions.EndWord f = one ((o == 46) && bytes_eq s.kept (codes "null")) where
-  one : (b : Bool) → Owes (debt s.mode) s.used (cond b (Next (go_to s modes.KindName [])) (Left (cut s kinds.Word s.kept s.used) (past p kinds.Word modes.Blank [] s.used s.used)))
+  one : (b : Bool) → Owes (debt s.mode) s.used (cond b (Next (go_to s modes.KindName []))
+      (Left (cut s kinds.Word s.kept s.used) (past p kinds.Word modes.Blank [] s.used s.used)))
   one true = omega arith
   one false = let t = le_of 1 (debt s.mode) f.is in omega arith
 acts_owes p s o (actions.Split letters) f = let t = les_of letters (unkept s.mode) 2 (debt s.mode) f.is in omega arith
@@ -57,7 +58,8 @@ acts_owes p s o actions.EndBlob f = blob_owes s (blob_of s.kept)
 acts_owes p s o (actions.Refuse e) f = tt
 
 -- behind one octet more
-owes_next : (x : Outcome) (owed before now used n : ℕ) → used ≡ before + 1 → now ≤ owed + (used - before) → Between x used n → Owes now used x → Owes owed before x
+owes_next : (x : Outcome) (owed before now used n : ℕ) → used ≡ before + 1 → now ≤ owed + (used - before) → Between x used n → Owes now used x
+    → Owes owed before x
 unfolding Owes Between
 owes_next (Next s) owed before now used n e d b h = omega arith
 owes_next (Given l s) owed before now used n e d b h = omega arith
@@ -80,12 +82,16 @@ run_owes p (o ∷ os) s =
     (acts_owes p s o (next p s.colon s.mode o) (table_fits p s.colon s.mode o)) (λ t. run_between p os t) (λ t. run_owes p os t)
 
 -- A step leaves at most as many octets more to take up again as it used.
-pub few_owed : (x : Outcome) (r : Result Scan Refusal) (left : Bool) (owed before : ℕ) (now : Known) → Owes owed before x → Answers before x (answered r left) now
+pub few_owed : (x : Outcome) (r : Result Scan Refusal) (left : Bool) (owed before : ℕ) (now : Known) → Owes owed before x
+    → Answers before x (answered r left) now
     → IfOk r (λ scan. debt now.mode ≤ owed + scan.used)
 unfolding Owes
-few_owed (Next s) (Ok scan) left owed before now h a = let e = ap (λ (t : Known). debt t.mode) a.0.known in let u = ap (λ (t : Known). t.used) a.0.known in let k = a.0.counted in omega arith
-few_owed (Given l s) (Ok scan) left owed before now h a = let e = ap (λ (t : Known). debt t.mode) a.0.known in let u = ap (λ (t : Known). t.used) a.0.known in let k = a.0.counted in omega arith
-few_owed (Left l s) (Ok scan) left owed before now h a = let e = ap (λ (t : Known). debt t.mode) a.0.known in let u = ap (λ (t : Known). t.used) a.0.known in let k = a.0.counted in omega arith
+few_owed (Next s) (Ok scan) left owed before now h a = let e = ap (λ (t : Known). debt t.mode) a.0.known in let u = ap (λ (t : Known). t.used) a.0.known in
+    let k = a.0.counted in omega arith
+few_owed (Given l s) (Ok scan) left owed before now h a = let e = ap (λ (t : Known). debt t.mode) a.0.known in let u = ap (λ (t : Known). t.used) a.0.known in
+    let k = a.0.counted in omega arith
+few_owed (Left l s) (Ok scan) left owed before now h a = let e = ap (λ (t : Known). debt t.mode) a.0.known in let u = ap (λ (t : Known). t.used) a.0.known in
+    let k = a.0.counted in omega arith
 few_owed (Refused at reason) (Ok scan) left owed before now h a = absurd a
 few_owed x (Err r) left owed before now h a = tt
 
@@ -98,7 +104,8 @@ none_fewer None a b e = tt
 none_fewer (Some t) a b e = cc
 
 -- With a token it leaves fewer.
-pub fewer_owed : (x : Outcome) (r : Result Scan Refusal) (left : Bool) (owed before : ℕ) (now : Known) → Owes owed before x → Answers before x (answered r left) now
+pub fewer_owed : (x : Outcome) (r : Result Scan Refusal) (left : Bool) (owed before : ℕ) (now : Known) → Owes owed before x
+    → Answers before x (answered r left) now
     → IfOk r (λ scan. IfSome scan.token (λ _. debt now.mode < owed + scan.used))
 unfolding Owes
 fewer_owed (Next s) (Ok scan) left owed before now h a = none_fewer scan.token _ _ a.1

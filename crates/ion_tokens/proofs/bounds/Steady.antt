@@ -147,7 +147,8 @@ acts_steady p s o (actions.Before kind k m) n f h u =
       within = within_fresh m (unkept s.mode) s.used t.2 t.1 (omega arith);
     }
 acts_steady p s o actions.EndWord n f h u = one ((o == 46) && bytes_eq s.kept (codes "null")) where
-  one : (b : Bool) → StaysSteady (cond b (Next (go_to s modes.KindName [])) (Left (cut s kinds.Word s.kept s.used) (past p kinds.Word modes.Blank [] s.used s.used))) (n + 1)
+  one : (b : Bool) → StaysSteady (cond b (Next (go_to s modes.KindName []))
+      (Left (cut s kinds.Word s.kept s.used) (past p kinds.Word modes.Blank [] s.used s.used))) (n + 1)
   one true = let d = h.twice in let w = h.within in record {
     each = omega arith;
     twice = omega arith;

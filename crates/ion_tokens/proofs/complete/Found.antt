@@ -15,10 +15,14 @@ in_word letters colon start used = record { mode = modes.Word; kept = letters; c
 -- token is left, and an s-expression that ends behind a sign and the front of `inf` isn't closed: `Bare` says that no token follows there.
 pub data FindsUpTo (Rests : Known → List ℕ → Type 0) (Bare : Type 0) : Known → List ℕ → List Placed → Type 0 where
   Nothing : (s : Known) (octets : List ℕ) → Rests s octets → FindsUpTo Rests Bare s octets []
-  Last : (s : Known) (octets : List ℕ) (t : Placed) (s' : Known) → run t.place octets s ≡ Next s' → at_end t.place s' ≡ Ok (Some t.lexeme) → FindsUpTo Rests Bare s octets (t ∷ [])
-  Gives : (s : Known) (octets : List ℕ) (t : Placed) (ts : List Placed) (s' : Known) → run t.place octets s ≡ Given t.lexeme s' → FindsUpTo Rests Bare s' (drop (s'.used - s.used) octets) ts → FindsUpTo Rests Bare s octets (t ∷ ts)
-  Leaves : (s : Known) (octets : List ℕ) (t : Placed) (ts : List Placed) (s' : Known) → run t.place octets s ≡ Left t.lexeme s' → FindsUpTo Rests Bare s' (drop (s'.used - s.used) octets) ts → FindsUpTo Rests Bare s octets (t ∷ ts)
-  Unclosed : (s : Known) (octets : List ℕ) (t : Placed) (ts : List Placed) (s' : Known) (colon : Bool) (letters : List ℕ) → (ts ≡ [] → Bare) → run t.place octets s ≡ Next s'
+  Last : (s : Known) (octets : List ℕ) (t : Placed) (s' : Known) → run t.place octets s ≡ Next s' → at_end t.place s' ≡ Ok (Some t.lexeme)
+      → FindsUpTo Rests Bare s octets (t ∷ [])
+  Gives : (s : Known) (octets : List ℕ) (t : Placed) (ts : List Placed) (s' : Known) → run t.place octets s ≡ Given t.lexeme s'
+      → FindsUpTo Rests Bare s' (drop (s'.used - s.used) octets) ts → FindsUpTo Rests Bare s octets (t ∷ ts)
+  Leaves : (s : Known) (octets : List ℕ) (t : Placed) (ts : List Placed) (s' : Known) → run t.place octets s ≡ Left t.lexeme s'
+      → FindsUpTo Rests Bare s' (drop (s'.used - s.used) octets) ts → FindsUpTo Rests Bare s octets (t ∷ ts)
+  Unclosed : (s : Known) (octets : List ℕ) (t : Placed) (ts : List Placed) (s' : Known) (colon : Bool) (letters : List ℕ) → (ts ≡ [] → Bare)
+      → run t.place octets s ≡ Next s'
       → at_end t.place s' ≡ Err Incomplete → t.lexeme.start ≡ s'.start → t.lexeme.kind ≡ kinds.Operator
       → FindsUpTo Rests Bare (in_word letters colon t.lexeme.end s'.used) [] ts
       → FindsUpTo Rests Bare s octets (t ∷ ts)

@@ -20,7 +20,8 @@ at m kept colon start used = record { mode = m; kept = kept; colon = colon; star
 
 -- over these octets it comes from the one mode to the other, whatever follows
 abbrev pub Moves : Place → Mode → List ℕ → List ℕ → Mode → List ℕ → Type 0
-Moves p m kept os m' kept' = (colon : Bool) (start used : ℕ) (r : List ℕ) → run p (os ++ r) (at m kept colon start used) ≡ run p r (at m' kept' colon start (used + length os))
+Moves p m kept os m' kept' = (colon : Bool) (start used : ℕ) (r : List ℕ) → run p (os ++ r) (at m kept colon start used)
+    ≡ run p r (at m' kept' colon start (used + length os))
 
 pub moves_none : (p : Place) (m : Mode) (kept : List ℕ) → Moves p m kept [] m kept
 moves_none p m kept colon start used r = let none : used ≡ used + length {A = ℕ} [] = omega arith in ap (λ (n : ℕ). run p r (at m kept colon start n)) none
@@ -29,12 +30,14 @@ moves_none p m kept colon start used r = let none : used ≡ used + length {A = 
 abbrev pub Stays : Mode → Type 0
 Stays m = (start used : ℕ) → start_of m start used ≡ start
 
-pub moves_one : (p : Place) (m : Mode) (o : ℕ) (kept : List ℕ) (m' : Mode) (k : Keep) → Stays m → ((colon : Bool) → next p colon m o ≡ actions.Go m' k) → Moves p m kept (o ∷ []) m' (kept_after k kept)
+pub moves_one : (p : Place) (m : Mode) (o : ℕ) (kept : List ℕ) (m' : Mode) (k : Keep) → Stays m → ((colon : Bool) → next p colon m o ≡ actions.Go m' k)
+    → Moves p m kept (o ∷ []) m' (kept_after k kept)
 moves_one p m o kept m' k stays e colon start used r =
     ap (λ a. follow (acts p (at m kept colon start used) o a) (λ t. run p r t)) (e colon)
     ∙ ap (λ (n : ℕ). run p r (at m' (kept_after k kept) colon n (used + 1))) (stays start used)
 
-pub moves_then : (p : Place) (m n l : Mode) (xs ys kept kept' kept'' : List ℕ) → Moves p m kept xs n kept' → Moves p n kept' ys l kept'' → Moves p m kept (xs ++ ys) l kept''
+pub moves_then : (p : Place) (m n l : Mode) (xs ys kept kept' kept'' : List ℕ) → Moves p m kept xs n kept' → Moves p n kept' ys l kept''
+    → Moves p m kept (xs ++ ys) l kept''
 moves_then p m n l xs ys kept kept' kept'' f g colon start used r =
     let longer : (used + length xs) + length ys ≡ used + length (xs ++ ys) = omega (arith, length-append xs ys) in
     ap (λ os. run p os (at m kept colon start used)) (append_assoc xs ys r) ∙ f colon start used (ys ++ r) ∙ g colon start (used + length xs) r
@@ -54,39 +57,50 @@ Opens p colon os m kept = (start used : ℕ) (r : List ℕ) → run p (os ++ r) 
 pub opens_one : (p : Place) (colon : Bool) (o : ℕ) (m : Mode) (k : Keep) → in_blank p colon o ≡ actions.Go m k → Opens p colon (o ∷ []) m (kept_after k [])
 opens_one p colon o m k e start used r = ap (λ a. follow (acts p (blank colon start used) o a) (λ t. run p r t)) e
 
-pub opens_then : (p : Place) (colon : Bool) (xs ys : List ℕ) (m n : Mode) (kept kept' : List ℕ) → Opens p colon xs m kept → Moves p m kept ys n kept' → Opens p colon (xs ++ ys) n kept'
+pub opens_then : (p : Place) (colon : Bool) (xs ys : List ℕ) (m n : Mode) (kept kept' : List ℕ) → Opens p colon xs m kept → Moves p m kept ys n kept'
+    → Opens p colon (xs ++ ys) n kept'
 opens_then p colon xs ys m n kept kept' f g start used r =
     let longer : (used + length xs) + length ys ≡ used + length (xs ++ ys) = omega (arith, length-append xs ys) in
     ap (λ os. run p os (blank colon start used)) (append_assoc xs ys r) ∙ f start used (ys ++ r) ∙ g colon used (used + length xs) r
     ∙ ap (λ (i : ℕ). run p r (at n kept' colon used i)) longer
 
 -- the last octet ends the token
-pub gives : (p : Place) (colon : Bool) (o : ℕ) (m : Mode) (kept : List ℕ) (kind : TokenKind) (k : Keep) (start used : ℕ) (r : List ℕ) → Stays m → next p colon m o ≡ actions.Give kind k
-    → run p (o ∷ r) (at m kept colon start used) ≡ Given (record { start = start; end = used + 1; kind = kind; octets = kept_after k kept }) (past p kind modes.Blank [] (used + 1) (used + 1))
+pub gives : (p : Place) (colon : Bool) (o : ℕ) (m : Mode) (kept : List ℕ) (kind : TokenKind) (k : Keep) (start used : ℕ) (r : List ℕ) → Stays m
+    → next p colon m o ≡ actions.Give kind k
+    → run p (o ∷ r) (at m kept colon start used) ≡ Given (record { start = start; end = used + 1; kind = kind; octets = kept_after k kept })
+    (past p kind modes.Blank [] (used + 1) (used + 1))
 gives p colon o m kept kind k start used r stays e =
     ap (λ a. follow (acts p (at m kept colon start used) o a) (λ t. run p r t)) e
-    ∙ ap (λ (n : ℕ). Given (record { start = n; end = used + 1; kind = kind; octets = kept_after k kept }) (past p kind modes.Blank [] (used + 1) (used + 1))) (stays start used)
+    ∙ ap (λ (n : ℕ). Given (record { start = n; end = used + 1; kind = kind; octets = kept_after k kept }) (past p kind modes.Blank [] (used + 1) (used + 1)))
+    (stays start used)
 
 -- the octet behind the token ends it
-pub leaves : (p : Place) (colon : Bool) (o : ℕ) (m : Mode) (kept : List ℕ) (kind : TokenKind) (k : Keep) (start used : ℕ) (r : List ℕ) → Stays m → next p colon m o ≡ actions.Before kind k modes.Blank
-    → run p (o ∷ r) (at m kept colon start used) ≡ Left (record { start = start; end = used; kind = kind; octets = kept_after k kept }) (past p kind modes.Blank [] used used)
+pub leaves : (p : Place) (colon : Bool) (o : ℕ) (m : Mode) (kept : List ℕ) (kind : TokenKind) (k : Keep) (start used : ℕ) (r : List ℕ) → Stays m
+    → next p colon m o ≡ actions.Before kind k modes.Blank
+    → run p (o ∷ r) (at m kept colon start used) ≡ Left (record { start = start; end = used; kind = kind; octets = kept_after k kept })
+    (past p kind modes.Blank [] used used)
 leaves p colon o m kept kind k start used r stays e =
     let whole : used - 0 ≡ used = omega arith in
     ap (λ a. follow (acts p (at m kept colon start used) o a) (λ t. run p r t)) e
-    ∙ ap (λ (n : ℕ). Left (record { start = n; end = used - 0; kind = kind; octets = kept_after k kept }) (past p kind modes.Blank [] (used - 0) used)) (stays start used)
+    ∙ ap (λ (n : ℕ). Left (record { start = n; end = used - 0; kind = kind; octets = kept_after k kept }) (past p kind modes.Blank [] (used - 0) used))
+    (stays start used)
     ∙ ap (λ (n : ℕ). Left (record { start = start; end = n; kind = kind; octets = kept_after k kept }) (past p kind modes.Blank [] n used)) whole
 
 -- over octets of a class, each of which is kept
-pub moves_each : (p : Place) (m : Mode) (class : ℕ → Bool) (os kept : List ℕ) → Stays m → ((o : ℕ) → class o ≡ true → (colon : Bool) → next p colon m o ≡ actions.Go m (keeps.One o)) → Each class os → Moves p m kept os m (kept ++ os)
+pub moves_each : (p : Place) (m : Mode) (class : ℕ → Bool) (os kept : List ℕ) → Stays m
+    → ((o : ℕ) → class o ≡ true → (colon : Bool) → next p colon m o ≡ actions.Go m (keeps.One o)) → Each class os → Moves p m kept os m (kept ++ os)
 moves_each p m class [] kept stays f h = moves_to p m m [] kept kept (kept ++ []) (sym (append-nil kept)) (moves_none p m kept)
 moves_each p m class (o ∷ os) kept stays f h =
     moves_to p m m (o ∷ os) kept ((kept ++ o ∷ []) ++ os) (kept ++ o ∷ os) (append_assoc kept (o ∷ []) os)
-    (moves_then p m m m (o ∷ []) os kept (kept ++ o ∷ []) ((kept ++ o ∷ []) ++ os) (moves_one p m o kept m (keeps.One o) stays (f o h.0)) (moves_each p m class os (kept ++ o ∷ []) stays f h.1))
+    (moves_then p m m m (o ∷ []) os kept (kept ++ o ∷ []) ((kept ++ o ∷ []) ++ os) (moves_one p m o kept m (keeps.One o) stays (f o h.0))
+    (moves_each p m class os (kept ++ o ∷ []) stays f h.1))
 
 -- over octets of a class, none of which is kept
-pub moves_past : (p : Place) (m : Mode) (class : ℕ → Bool) (os kept : List ℕ) → Stays m → ((o : ℕ) → class o ≡ true → (colon : Bool) → next p colon m o ≡ actions.Go m keeps.Nothing) → Each class os → Moves p m kept os m kept
+pub moves_past : (p : Place) (m : Mode) (class : ℕ → Bool) (os kept : List ℕ) → Stays m
+    → ((o : ℕ) → class o ≡ true → (colon : Bool) → next p colon m o ≡ actions.Go m keeps.Nothing) → Each class os → Moves p m kept os m kept
 moves_past p m class [] kept stays f h = moves_none p m kept
-moves_past p m class (o ∷ os) kept stays f h = moves_then p m m m (o ∷ []) os kept kept kept (moves_one p m o kept m keeps.Nothing stays (f o h.0)) (moves_past p m class os kept stays f h.1)
+moves_past p m class (o ∷ os) kept stays f h = moves_then p m m m (o ∷ []) os kept kept kept (moves_one p m o kept m keeps.Nothing stays (f o h.0))
+    (moves_past p m class os kept stays f h.1)
 
 -- a token's end shows later: over these octets behind it a blank comes to this mode
 abbrev pub Resumes : List ℕ → Mode → List ℕ → Type 0
@@ -99,17 +113,23 @@ lexeme w kind kept used = record { start = used; end = used + length w; kind = k
 -- it takes up already, at an octet that it leaves; or at the end of the input; or the input ends before that shows, in letters that
 -- begin a word.
 pub data Takes (p : Place) (colon : Bool) (w r : List ℕ) (kind : TokenKind) (kept : List ℕ) : Type 0 where
-  Now : ((start used : ℕ) → run p (w ++ r) (blank colon start used) ≡ Given (lexeme w kind kept used) (past p kind modes.Blank [] (used + length w) (used + length w))) → Takes p colon w r kind kept
+  Now : ((start used : ℕ) → run p (w ++ r) (blank colon start used)
+      ≡ Given (lexeme w kind kept used) (past p kind modes.Blank [] (used + length w) (used + length w))) → Takes p colon w r kind kept
   Later : (ahead : List ℕ) (x : ℕ) (rest : List ℕ) (m : Mode) (k : List ℕ) → r ≡ ahead ++ x ∷ rest → Resumes ahead m k
-      → ((start used : ℕ) → run p (w ++ r) (blank colon start used) ≡ Left (lexeme w kind kept used) (past p kind m k (used + length w) ((used + length w) + length ahead))) → Takes p colon w r kind kept
-  AtEnd : r ≡ [] → ((start used : ℕ) → (s : Known) × (run p (w ++ r) (blank colon start used) ≡ Next s) × (at_end p s ≡ Ok (Some (lexeme w kind kept used)))) → Takes p colon w r kind kept
-  Open : begins begins_word r ≡ true → kind ≡ kinds.Operator → Resumes r modes.Word r → ((start used : ℕ) → (s : Known) × (s.start ≡ used) × (run p (w ++ r) (blank colon start used) ≡ Next s) × (at_end p s ≡ Err reasons.Incomplete)) → Takes p colon w r kind kept
+      → ((start used : ℕ) → run p (w ++ r) (blank colon start used)
+      ≡ Left (lexeme w kind kept used) (past p kind m k (used + length w) ((used + length w) + length ahead))) → Takes p colon w r kind kept
+  AtEnd : r ≡ [] → ((start used : ℕ) → (s : Known) × (run p (w ++ r) (blank colon start used) ≡ Next s) × (at_end p s ≡ Ok (Some (lexeme w kind kept used))))
+      → Takes p colon w r kind kept
+  Open : begins begins_word r ≡ true → kind ≡ kinds.Operator → Resumes r modes.Word r
+      → ((start used : ℕ) → (s : Known) × (s.start ≡ used) × (run p (w ++ r) (blank colon start used) ≡ Next s) × (at_end p s ≡ Err reasons.Incomplete))
+      → Takes p colon w r kind kept
 
 pub resumes_none : Resumes [] modes.Blank []
 resumes_none p colon end = let none : end ≡ end + length {A = ℕ} [] = omega arith in ap (λ (n : ℕ). Next (at modes.Blank [] colon end n)) none
 
 -- a token that its last octet ends
-pub takes_now : (p : Place) (colon : Bool) (w : List ℕ) (o : ℕ) (r : List ℕ) (kind : TokenKind) (m : Mode) (kept : List ℕ) (k : Keep) → Stays m → Opens p colon w m kept → ((c : Bool) → next p c m o ≡ actions.Give kind k) → Takes p colon (w ++ o ∷ []) r kind (kept_after k kept)
+pub takes_now : (p : Place) (colon : Bool) (w : List ℕ) (o : ℕ) (r : List ℕ) (kind : TokenKind) (m : Mode) (kept : List ℕ) (k : Keep) → Stays m
+    → Opens p colon w m kept → ((c : Bool) → next p c m o ≡ actions.Give kind k) → Takes p colon (w ++ o ∷ []) r kind (kept_after k kept)
 takes_now p colon w o r kind m kept k stays f e = Now (λ start used.
     let longer : (used + length w) + 1 ≡ used + length (w ++ o ∷ []) = omega (arith, length-append w (o ∷ [])) in
     ap (λ os. run p os (blank colon start used)) (append_assoc w (o ∷ []) r) ∙ f start used (o ∷ r)
@@ -117,7 +137,8 @@ takes_now p colon w o r kind m kept k stays f e = Now (λ start used.
     ∙ ap (λ (n : ℕ). Given (record { start = used; end = n; kind = kind; octets = kept_after k kept }) (past p kind modes.Blank [] n n)) longer)
 
 -- a token that the octet behind it ends
-pub takes_left : (p : Place) (colon : Bool) (w : List ℕ) (x : ℕ) (r : List ℕ) (kind : TokenKind) (m : Mode) (kept : List ℕ) (k : Keep) → Stays m → Opens p colon w m kept → ((c : Bool) → next p c m x ≡ actions.Before kind k modes.Blank) → Takes p colon w (x ∷ r) kind (kept_after k kept)
+pub takes_left : (p : Place) (colon : Bool) (w : List ℕ) (x : ℕ) (r : List ℕ) (kind : TokenKind) (m : Mode) (kept : List ℕ) (k : Keep) → Stays m
+    → Opens p colon w m kept → ((c : Bool) → next p c m x ≡ actions.Before kind k modes.Blank) → Takes p colon w (x ∷ r) kind (kept_after k kept)
 takes_left p colon w x r kind m kept k stays f e = Later [] x r modes.Blank [] refl resumes_none (λ start used.
     let none : used + length w ≡ (used + length w) + length {A = ℕ} [] = omega arith in
     f start used (x ∷ r) ∙ leaves p colon x m kept kind k used (used + length w) r stays (e colon)
@@ -125,5 +146,6 @@ takes_left p colon w x r kind m kept k stays f e = Later [] x r modes.Blank [] r
 
 -- a token that the end of the input ends
 pub takes_end : (p : Place) (colon : Bool) (w : List ℕ) (kind : TokenKind) (m : Mode) (kept kept' : List ℕ) → Opens p colon w m kept
-    → ((start used : ℕ) → at_end p (at m kept colon start used) ≡ Ok (Some (record { start = start; end = used; kind = kind; octets = kept' }))) → Takes p colon w [] kind kept'
+    → ((start used : ℕ) → at_end p (at m kept colon start used) ≡ Ok (Some (record { start = start; end = used; kind = kind; octets = kept' })))
+    → Takes p colon w [] kind kept'
 takes_end p colon w kind m kept kept' f e = AtEnd refl (λ start used. (at m kept colon used (used + length w), f start used [], e used (used + length w)))

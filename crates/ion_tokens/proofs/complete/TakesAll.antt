@@ -23,9 +23,12 @@ takes_lexeme p colon w r kinds.Word kept h = keeping p colon w r kinds.Word kept
 takes_lexeme p colon w r kinds.KindName kept h = spelled p colon w (codes "null." ++ kept) r kinds.KindName kept h.0 (takes_kind p colon kept r h.1 h.2)
 takes_lexeme p colon w r kinds.Number kept h = keeping p colon w r kinds.Number kept w h.0 (takes_number p colon w r h.1 h.2)
 takes_lexeme p colon w r kinds.Operator kept h = keeping p colon w r kinds.Operator kept w h.0 (takes_operator p colon w r h.1 h.2)
-takes_lexeme p colon w r kinds.QuotedSymbol kept h = spelled p colon w ((39 ∷ h.0) ++ 39 ∷ []) r kinds.QuotedSymbol kept h.2 (takes_symbol p colon h.0 kept r h.1 h.3)
+takes_lexeme p colon w r kinds.QuotedSymbol kept h = spelled p colon w ((39 ∷ h.0) ++ 39 ∷ []) r kinds.QuotedSymbol kept h.2
+    (takes_symbol p colon h.0 kept r h.1 h.3)
 takes_lexeme p colon w r kinds.ShortString kept h = spelled p colon w ((34 ∷ h.0) ++ 34 ∷ []) r kinds.ShortString kept h.2 (takes_short p colon h.0 kept r h.1)
-takes_lexeme p colon w r kinds.LongString kept h = spelled p colon w (codes "'''" ++ h.0 ++ codes "'''") r kinds.LongString kept h.2 (takes_long p colon h.0 kept r h.1)
+takes_lexeme p colon w r kinds.LongString kept h = spelled p colon w (codes "'''" ++ h.0 ++ codes "'''") r kinds.LongString kept h.2
+    (takes_long p colon h.0 kept r h.1)
 takes_lexeme p colon w r kinds.Clob kept h = spelled p colon w (codes "{{" ++ h.1 ++ codes "}}") r kinds.Clob kept h.3 (takes_clob p colon h.1 kept r h.0 h.2)
 takes_lexeme p colon w r kinds.Blob kept h = spelled p colon w (codes "{{" ++ h.1 ++ codes "}}") r kinds.Blob kept h.3 (takes_blob p colon h.1 kept r h.0 h.2)
-takes_lexeme p colon w r (kinds.Mark m) kept h = keeping p colon w r (kinds.Mark m) kept [] h.0 (spelled p colon w (mark_spelling m) r (kinds.Mark m) [] h.1 (takes_mark p colon m r h.2 h.3))
+takes_lexeme p colon w r (kinds.Mark m) kept h = keeping p colon w r (kinds.Mark m) kept [] h.0
+    (spelled p colon w (mark_spelling m) r (kinds.Mark m) [] h.1 (takes_mark p colon m r h.2 h.3))

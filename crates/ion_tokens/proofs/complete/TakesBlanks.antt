@@ -27,8 +27,11 @@ passes_then : (p : Place) (colon : Bool) (xs ys : List ℕ) → PassesBlank p co
 passes_then p colon xs ys f g start used =
     let first = f start used in
     let second = g first.0 (used + length xs) in
-    let longer : (used + length xs) + length ys ≡ used + length (xs ++ ys) = omega (arith, length-append xs ys) in
-    (second.0, λ r. ap (λ os. run p os (blank colon start used)) (append_assoc xs ys r) ∙ first.1 (ys ++ r) ∙ second.1 r ∙ ap (λ (n : ℕ). run p r (blank colon second.0 n)) longer)
+    let longer : (used + length xs) + length ys ≡ used + length (xs ++ ys) = omega (arith, length-append xs ys) in (
+      second.0,
+      λ r. ap (λ os. run p os (blank colon start used)) (append_assoc xs ys r) ∙ first.1 (ys ++ r) ∙ second.1 r
+          ∙ ap (λ (n : ℕ). run p r (blank colon second.0 n)) longer,
+    )
 
 passes_opened : (p : Place) (colon : Bool) (os : List ℕ) → Opens p colon os modes.Blank [] → PassesBlank p colon os
 passes_opened p colon os f start used = (used, f start used)
@@ -80,7 +83,8 @@ abbrev GoesOn : Bool → List ℕ → Type 0
 GoesOn true os = HasNoClose (42 ∷ os)
 GoesOn false os = HasNoClose os
 
-block_one : (p : Place) (star star' : Bool) (o : ℕ) → ((c : Bool) → next p c (block_mode star) o ≡ actions.Go (block_mode star') keeps.Nothing) → Moves p (block_mode star) [] (o ∷ []) (block_mode star') []
+block_one : (p : Place) (star star' : Bool) (o : ℕ) → ((c : Bool) → next p c (block_mode star) o ≡ actions.Go (block_mode star') keeps.Nothing)
+    → Moves p (block_mode star) [] (o ∷ []) (block_mode star') []
 block_one p false star' o f = moves_one p modes.BlockComment o [] (block_mode star') keeps.Nothing (λ s u. refl) f
 block_one p true star' o f = moves_one p modes.BlockCommentStar o [] (block_mode star') keeps.Nothing (λ s u. refl) f
 
@@ -91,7 +95,8 @@ block_star : (p : Place) (star : Bool) (c : Bool) → next p c (block_mode star)
 block_star p false c = refl
 block_star p true c = refl
 
-block_other : (p : Place) (star : Bool) (o : ℕ) (c : Bool) → o ≢ 42 → (star ≡ true → o ≢ 47) → next p c (block_mode star) o ≡ actions.Go modes.BlockComment keeps.Nothing
+block_other : (p : Place) (star : Bool) (o : ℕ) (c : Bool) → o ≢ 42 → (star ≡ true → o ≢ 47) → next p c (block_mode star) o
+    ≡ actions.Go modes.BlockComment keeps.Nothing
 block_other p false o c n h = ap (λ b. go (cond b modes.BlockCommentStar modes.BlockComment)) (not_same o 42 n)
 block_other p true o c n h = rw (not_same o 42 n, not_same o 47 (h refl))
 
@@ -108,15 +113,19 @@ goes_other true o os h = no_close_behind o os h.1
 goes_other false o os h = no_close_behind o os h
 
 block_moves : (p : Place) (os : List ℕ) (star : Bool) → GoesOn star os → Moves p (block_mode star) [] (os ++ codes "*/") modes.Blank []
-block_moves p [] star h = moves_then p (block_mode star) modes.BlockCommentStar modes.Blank (42 ∷ []) (47 ∷ []) [] [] [] (block_one p star true 42 (λ c. block_star p star c))
+block_moves p [] star h = moves_then p (block_mode star) modes.BlockCommentStar modes.Blank (42 ∷ []) (47 ∷ []) [] [] []
+    (block_one p star true 42 (λ c. block_star p star c))
     (moves_one p modes.BlockCommentStar 47 [] modes.Blank keeps.Nothing (λ s u. refl) (λ c. refl))
 block_moves p (o ∷ os) star h = ⊎_elim (λ i. starred i (block_moves p os true))
-    (λ n. moves_then p (block_mode star) modes.BlockComment modes.Blank (o ∷ []) (os ++ codes "*/") [] [] [] (block_one p star false o (λ c. block_other p star o c n (no_slash star o os h)))
+    (λ n. moves_then p (block_mode star) modes.BlockComment modes.Blank (o ∷ []) (os ++ codes "*/") [] [] []
+    (block_one p star false o (λ c. block_other p star o c n (no_slash star o os h)))
     (block_moves p os false (goes_other star o os h))) (eq_or o 42)
   where
-    starred : o ≡ 42 → (HasNoClose (42 ∷ os) → Moves p modes.BlockCommentStar [] (os ++ codes "*/") modes.Blank []) → Moves p (block_mode star) [] (o ∷ os ++ codes "*/") modes.Blank []
+    starred : o ≡ 42 → (HasNoClose (42 ∷ os) → Moves p modes.BlockCommentStar [] (os ++ codes "*/") modes.Blank [])
+        → Moves p (block_mode star) [] (o ∷ os ++ codes "*/") modes.Blank []
     starred i f = subst (λ (x : ℕ). Moves p (block_mode star) [] (x ∷ os ++ codes "*/") modes.Blank []) (sym i)
-        (moves_then p (block_mode star) modes.BlockCommentStar modes.Blank (42 ∷ []) (os ++ codes "*/") [] [] [] (block_one p star true 42 (λ c. block_star p star c))
+        (moves_then p (block_mode star) modes.BlockCommentStar modes.Blank (42 ∷ []) (os ++ codes "*/") [] [] []
+        (block_one p star true 42 (λ c. block_star p star c))
         (f (goes_star star os (subst (λ (x : ℕ). GoesOn star (x ∷ os)) i h))))
 
 passes_piece : (p : Place) (colon : Bool) (b : BlankPiece) → IsBlankPiece b → PassesBlank p colon (blank_spelling b)
@@ -130,13 +139,15 @@ passes_piece p colon (BlockComment os) h = passes_opened p colon (codes "/*" ++ 
 
 passes_pieces : (p : Place) (colon : Bool) (bs : List BlankPiece) → AllByRecursion IsBlankPiece bs → PassesBlank p colon (flat_map blank_spelling bs)
 passes_pieces p colon [] h = passes_none p colon
-passes_pieces p colon (b ∷ bs) h = passes_then p colon (blank_spelling b) (flat_map blank_spelling bs) (passes_piece p colon b h.0) (passes_pieces p colon bs h.1)
+passes_pieces p colon (b ∷ bs) h = passes_then p colon (blank_spelling b) (flat_map blank_spelling bs) (passes_piece p colon b h.0)
+    (passes_pieces p colon bs h.1)
 
 pub passes_blank : (p : Place) (colon : Bool) (w : List ℕ) → IsBlank w → PassesBlank p colon w
 passes_blank p colon w b = subst (λ l. PassesBlank p colon l) (sym b.spelled) (passes_pieces p colon b.pieces b.each)
 
 -- at the end of the input a blank is no token
-pub last_blank : (p : Place) (colon : Bool) (w : List ℕ) (start used : ℕ) → IsLastBlank w → (s : Known) × (run p w (blank colon start used) ≡ Next s) × (at_end p s ≡ Ok None)
+pub last_blank : (p : Place) (colon : Bool) (w : List ℕ) (start used : ℕ) → IsLastBlank w → (s : Known) × (run p w (blank colon start used) ≡ Next s)
+    × (at_end p s ≡ Ok None)
 last_blank p colon w start used (inl b) =
     let f = passes_blank p colon w b start used in
     (blank colon f.0 (used + length w), ap (λ l. run p l (blank colon start used)) (sym (append-nil w)) ∙ f.1 [], refl)
@@ -146,6 +157,7 @@ last_blank p colon w start used (inr c) =
     let rest : List ℕ = codes "//" ++ c.octets in
     let now : ℕ = used + length c.front in (
       at modes.LineComment [] colon now (now + length rest),
-      ap (λ l. run p l (blank colon start used)) (c.cut ∙ append_assoc c.front (codes "//") c.octets) ∙ f.1 rest ∙ ap (λ l. run p l (blank colon f.0 now)) (sym (append-nil rest)) ∙ line f.0 now [],
+      ap (λ l. run p l (blank colon start used)) (c.cut ∙ append_assoc c.front (codes "//") c.octets) ∙ f.1 rest
+          ∙ ap (λ l. run p l (blank colon f.0 now)) (sym (append-nil rest)) ∙ line f.0 now [],
       refl,
     )

@@ -34,7 +34,8 @@ abbrev lob : Lob → Mode
 lob l = modes.Lob l
 
 pub opens_lob : (p : Place) (colon : Bool) → is_name p ≡ false → Opens p colon (123 ∷ 123 ∷ []) (lob lobs.Start) []
-opens_lob p colon n = opens_then p colon (123 ∷ []) (123 ∷ []) modes.Brace (lob lobs.Start) [] [] (opens_brace p colon n) (moves_one p modes.Brace 123 [] (lob lobs.Start) keeps.Nothing (λ s u. refl) (λ c. refl))
+opens_lob p colon n = opens_then p colon (123 ∷ []) (123 ∷ []) modes.Brace (lob lobs.Start) [] [] (opens_brace p colon n)
+    (moves_one p modes.Brace 123 [] (lob lobs.Start) keeps.Nothing (λ s u. refl) (λ c. refl))
 
 start_white : (o : ℕ) → is_white o ≡ true → lob_start o ≡ actions.Go (lob lobs.Start) keeps.Nothing
 start_white o h = rw h
@@ -80,8 +81,10 @@ Begins _ = ⊥
 
 -- the quotes that open a segment
 three_quotes : (p : Place) (l : Lob) (kept : List ℕ) → Begins l → Moves p (lob l) kept (39 ∷ 39 ∷ 39 ∷ []) (modes.Text styles.LongClob within.Plain) kept
-three_quotes p lobs.Start kept b = λ colon start used r. let three : ((used + 1) + 1) + 1 ≡ used + 3 = omega arith in ap (λ (n : ℕ). run p r (at (modes.Text styles.LongClob within.Plain) kept colon start n)) three
-three_quotes p lobs.AfterLong kept b = λ colon start used r. let three : ((used + 1) + 1) + 1 ≡ used + 3 = omega arith in ap (λ (n : ℕ). run p r (at (modes.Text styles.LongClob within.Plain) kept colon start n)) three
+three_quotes p lobs.Start kept b = λ colon start used r. let three : ((used + 1) + 1) + 1 ≡ used + 3 = omega arith in
+    ap (λ (n : ℕ). run p r (at (modes.Text styles.LongClob within.Plain) kept colon start n)) three
+three_quotes p lobs.AfterLong kept b = λ colon start used r. let three : ((used + 1) + 1) + 1 ≡ used + 3 = omega arith in
+    ap (λ (n : ℕ). run p r (at (modes.Text styles.LongClob within.Plain) kept colon start n)) three
 three_quotes p lobs.StartQuote kept b = absurd b
 three_quotes p lobs.StartQuotes kept b = absurd b
 three_quotes p lobs.Base64 kept b = absurd b
@@ -94,17 +97,22 @@ three_quotes p lobs.ClobClose kept b = absurd b
 segment_cut : (text white : List ℕ) → (39 ∷ 39 ∷ 39 ∷ []) ++ (((text ++ 39 ∷ 39 ∷ []) ++ 39 ∷ []) ++ white) ≡ codes "'''" ++ text ++ codes "'''" ++ white
 segment_cut text white = ap (λ l. 39 ∷ 39 ∷ 39 ∷ (l ++ white)) (append_assoc text (39 ∷ 39 ∷ []) (39 ∷ []))
 
-segment_moves : (p : Place) (l : Lob) (kept : List ℕ) (g : Segment) → Begins l → IsSegment g → Moves p (lob l) kept (segment_spelling g) (lob lobs.AfterLong) (kept ++ g.octets)
+segment_moves : (p : Place) (l : Lob) (kept : List ℕ) (g : Segment) → Begins l → IsSegment g
+    → Moves p (lob l) kept (segment_spelling g) (lob lobs.AfterLong) (kept ++ g.octets)
 segment_moves p l kept g b (q, w) =
     let end : List ℕ = kept ++ g.octets in
     let open_end : List ℕ = (end ++ 39 ∷ []) ++ 39 ∷ [] in
     subst (λ os. Moves p (lob l) kept os (lob lobs.AfterLong) end) (segment_cut g.content g.white)
-    (moves_then p (lob l) (modes.Text styles.LongClob within.Plain) (lob lobs.AfterLong) (39 ∷ 39 ∷ 39 ∷ []) (((g.content ++ 39 ∷ 39 ∷ []) ++ 39 ∷ []) ++ g.white) kept kept end
+    (moves_then p (lob l) (modes.Text styles.LongClob within.Plain) (lob lobs.AfterLong) (39 ∷ 39 ∷ 39 ∷ [])
+    (((g.content ++ 39 ∷ 39 ∷ []) ++ 39 ∷ []) ++ g.white) kept kept end
     (three_quotes p l kept b)
-    (moves_then p (modes.Text styles.LongClob within.Plain) (lob lobs.AfterLong) (lob lobs.AfterLong) ((g.content ++ 39 ∷ 39 ∷ []) ++ 39 ∷ []) g.white kept end end
-    (moves_then p (modes.Text styles.LongClob within.Plain) (modes.Text styles.LongClob within.TwoQuotes) (lob lobs.AfterLong) (g.content ++ 39 ∷ 39 ∷ []) (39 ∷ []) kept open_end end
+    (moves_then p (modes.Text styles.LongClob within.Plain) (lob lobs.AfterLong) (lob lobs.AfterLong) ((g.content ++ 39 ∷ 39 ∷ []) ++ 39 ∷ []) g.white kept end
+    end
+    (moves_then p (modes.Text styles.LongClob within.Plain) (modes.Text styles.LongClob within.TwoQuotes) (lob lobs.AfterLong) (g.content ++ 39 ∷ 39 ∷ [])
+    (39 ∷ []) kept open_end end
     (long_content p styles.LongClob g.content g.octets kept refl q)
-    (moves_to p (modes.Text styles.LongClob within.TwoQuotes) (lob lobs.AfterLong) (39 ∷ []) open_end (kept_after keeps.DropQuotes open_end) end (drops_two end 39 39)
+    (moves_to p (modes.Text styles.LongClob within.TwoQuotes) (lob lobs.AfterLong) (39 ∷ []) open_end (kept_after keeps.DropQuotes open_end) end
+    (drops_two end 39 39)
     (moves_one p (modes.Text styles.LongClob within.TwoQuotes) 39 open_end (lob lobs.AfterLong) keeps.DropQuotes (λ s u. refl) (λ c. refl))))
     (moves_past p (lob lobs.AfterLong) is_white g.white end (λ s u. refl) (λ o h c. long_white o h) w)))
 
@@ -112,11 +120,14 @@ segments_move : (p : Place) (l : Lob) (kept : List ℕ) (g : Segment) (gs : List
     → Moves p (lob l) kept (flat_map segment_spelling (g ∷ gs)) (lob lobs.AfterLong) (kept ++ flat_map (λ (s : Segment). s.octets) (g ∷ gs))
 segments_move p l kept g [] b h hs =
     subst (λ os. Moves p (lob l) kept os (lob lobs.AfterLong) (kept ++ (g.octets ++ []))) (sym (append-nil (segment_spelling g)))
-    (moves_to p (lob l) (lob lobs.AfterLong) (segment_spelling g) kept (kept ++ g.octets) (kept ++ (g.octets ++ [])) (ap (λ x. kept ++ x) (sym (append-nil g.octets))) (segment_moves p l kept g b h))
+    (moves_to p (lob l) (lob lobs.AfterLong) (segment_spelling g) kept (kept ++ g.octets) (kept ++ (g.octets ++ []))
+    (ap (λ x. kept ++ x) (sym (append-nil g.octets))) (segment_moves p l kept g b h))
 segments_move p l kept g (g' ∷ gs) b h hs =
     let octets : Segment → List ℕ = λ (s : Segment). s.octets in
-    moves_to p (lob l) (lob lobs.AfterLong) (flat_map segment_spelling (g ∷ g' ∷ gs)) kept ((kept ++ g.octets) ++ flat_map octets (g' ∷ gs)) (kept ++ (g.octets ++ flat_map octets (g' ∷ gs))) (append_assoc kept g.octets (flat_map octets (g' ∷ gs)))
-    (moves_then p (lob l) (lob lobs.AfterLong) (lob lobs.AfterLong) (segment_spelling g) (flat_map segment_spelling (g' ∷ gs)) kept (kept ++ g.octets) ((kept ++ g.octets) ++ flat_map octets (g' ∷ gs))
+    moves_to p (lob l) (lob lobs.AfterLong) (flat_map segment_spelling (g ∷ g' ∷ gs)) kept ((kept ++ g.octets) ++ flat_map octets (g' ∷ gs))
+    (kept ++ (g.octets ++ flat_map octets (g' ∷ gs))) (append_assoc kept g.octets (flat_map octets (g' ∷ gs)))
+    (moves_then p (lob l) (lob lobs.AfterLong) (lob lobs.AfterLong) (segment_spelling g) (flat_map segment_spelling (g' ∷ gs)) kept (kept ++ g.octets)
+    ((kept ++ g.octets) ++ flat_map octets (g' ∷ gs))
     (segment_moves p l kept g b h) (segments_move p lobs.AfterLong (kept ++ g.octets) g' gs tt hs.0 hs.1))
 
 long_moves : (p : Place) (before : List ℕ) (gs : List Segment) → Each is_white before → gs ≢ [] → AllByRecursion IsSegment gs
@@ -130,19 +141,25 @@ long_moves p before (g ∷ gs) b some h =
     (segments_move p lobs.Start [] g gs tt h.0 h.1))
     (moves_one p (lob lobs.AfterLong) 125 octets (lob lobs.ClobClose) keeps.Nothing (λ s u. refl) (λ c. refl))
 
-clob_moves : (p : Place) (content octets : List ℕ) → IsClobContent content octets → Moves p (lob lobs.Start) [] (content ++ 125 ∷ []) (lob lobs.ClobClose) octets
-clob_moves p content octets (ShortText before text after b q a e) = subst (λ l. Moves p (lob lobs.Start) [] (l ++ 125 ∷ []) (lob lobs.ClobClose) octets) (sym e) (short_moves p before text after octets b q a)
+clob_moves : (p : Place) (content octets : List ℕ) → IsClobContent content octets
+    → Moves p (lob lobs.Start) [] (content ++ 125 ∷ []) (lob lobs.ClobClose) octets
+clob_moves p content octets (ShortText before text after b q a e) =
+    subst (λ l. Moves p (lob lobs.Start) [] (l ++ 125 ∷ []) (lob lobs.ClobClose) octets) (sym e) (short_moves p before text after octets b q a)
 clob_moves p content octets (LongTexts before gs b some h e m) =
-    subst (λ l. Moves p (lob lobs.Start) [] (l ++ 125 ∷ []) (lob lobs.ClobClose) octets) (sym e) (subst (λ x. Moves p (lob lobs.Start) [] ((before ++ flat_map segment_spelling gs) ++ 125 ∷ []) (lob lobs.ClobClose) x) (sym m) (long_moves p before gs b some h))
+    subst (λ l. Moves p (lob lobs.Start) [] (l ++ 125 ∷ []) (lob lobs.ClobClose) octets) (sym e)
+    (subst (λ x. Moves p (lob lobs.Start) [] ((before ++ flat_map segment_spelling gs) ++ 125 ∷ []) (lob lobs.ClobClose) x) (sym m)
+    (long_moves p before gs b some h))
 
 lob_cut : (content : List ℕ) → (123 ∷ 123 ∷ (content ++ 125 ∷ [])) ++ 125 ∷ [] ≡ codes "{{" ++ content ++ codes "}}"
 lob_cut content = ap (λ l. 123 ∷ 123 ∷ l) (append_assoc content (125 ∷ []) (125 ∷ []))
 
-pub takes_clob : (p : Place) (colon : Bool) (content octets r : List ℕ) → is_name p ≡ false → IsClobContent content octets → Takes p colon (codes "{{" ++ content ++ codes "}}") r kinds.Clob octets
+pub takes_clob : (p : Place) (colon : Bool) (content octets r : List ℕ) → is_name p ≡ false → IsClobContent content octets
+    → Takes p colon (codes "{{" ++ content ++ codes "}}") r kinds.Clob octets
 takes_clob p colon content octets r n h =
     subst (λ l. Takes p colon l r kinds.Clob octets) (lob_cut content)
     (takes_now p colon (123 ∷ 123 ∷ (content ++ 125 ∷ [])) 125 r kinds.Clob (lob lobs.ClobClose) octets keeps.Nothing (λ s u. refl)
-    (opens_then p colon (123 ∷ 123 ∷ []) (content ++ 125 ∷ []) (lob lobs.Start) (lob lobs.ClobClose) [] octets (opens_lob p colon n) (clob_moves p content octets h))
+    (opens_then p colon (123 ∷ 123 ∷ []) (content ++ 125 ∷ []) (lob lobs.Start) (lob lobs.ClobClose) [] octets (opens_lob p colon n)
+    (clob_moves p content octets h))
     (λ c. refl))
 
 -- blobs
@@ -165,10 +182,12 @@ base_moves : (p : Place) (os kept : List ℕ) → Each AnyBlob os → Moves p (l
 unfolding solid
 base_moves p [] kept h = moves_to p (lob lobs.Base64) (lob lobs.Base64) [] kept kept (kept ++ []) (sym (append-nil kept)) (moves_none p (lob lobs.Base64) kept)
 base_moves p (o ∷ os) kept h = by (is_white o) refl h.0 (λ k. base_moves p os k h.1) where
-  by : (b : Bool) → is_white o ≡ b → (b || is_base64 o) ≡ true → ((k : List ℕ) → Moves p (lob lobs.Base64) k os (lob lobs.Base64) (k ++ solid os)) → Moves p (lob lobs.Base64) kept (o ∷ os) (lob lobs.Base64) (kept ++ cond (not b) (o ∷ solid os) (solid os))
+  by : (b : Bool) → is_white o ≡ b → (b || is_base64 o) ≡ true → ((k : List ℕ) → Moves p (lob lobs.Base64) k os (lob lobs.Base64) (k ++ solid os))
+      → Moves p (lob lobs.Base64) kept (o ∷ os) (lob lobs.Base64) (kept ++ cond (not b) (o ∷ solid os) (solid os))
   by true e g f = moves_then p (lob lobs.Base64) (lob lobs.Base64) (lob lobs.Base64) (o ∷ []) os kept kept (kept ++ solid os)
       (moves_one p (lob lobs.Base64) o kept (lob lobs.Base64) keeps.Nothing (λ s u. refl) (λ c. base_white o e)) (f kept)
-  by false e g f = moves_to p (lob lobs.Base64) (lob lobs.Base64) (o ∷ os) kept ((kept ++ o ∷ []) ++ solid os) (kept ++ o ∷ solid os) (append_assoc kept (o ∷ []) (solid os))
+  by false e g f = moves_to p (lob lobs.Base64) (lob lobs.Base64) (o ∷ os) kept ((kept ++ o ∷ []) ++ solid os) (kept ++ o ∷ solid os)
+      (append_assoc kept (o ∷ []) (solid os))
       (moves_then p (lob lobs.Base64) (lob lobs.Base64) (lob lobs.Base64) (o ∷ []) os kept (kept ++ o ∷ []) ((kept ++ o ∷ []) ++ solid os)
       (moves_one p (lob lobs.Base64) o kept (lob lobs.Base64) (keeps.One o) (λ s u. refl) (λ c. base_more o g)) (f (kept ++ o ∷ [])))
 
@@ -199,7 +218,8 @@ start_moves p (o ∷ os) h = by (is_white o) refl h.0 (start_moves p os h.1) whe
         (moves_one p (lob lobs.Start) o [] (lob lobs.Base64) (keeps.One o) (λ s u. refl) (λ c. base_first o g)) (base_moves p os (o ∷ []) h.1),
   )
 
-blob_closes : (p : Place) (l : Lob) (kept octets : List ℕ) → LobEnds l → blob_of kept ≡ Some octets → Moves p (lob l) kept (125 ∷ []) (lob lobs.BlobClose) octets
+blob_closes : (p : Place) (l : Lob) (kept octets : List ℕ) → LobEnds l → blob_of kept ≡ Some octets
+    → Moves p (lob l) kept (125 ∷ []) (lob lobs.BlobClose) octets
 blob_closes p lobs.Start kept octets h e = λ colon start used r. ap (λ x. follow (blob_ends (at (lob lobs.Start) kept colon start used) x) (λ t. run p r t)) e
 blob_closes p lobs.Base64 kept octets h e = λ colon start used r. ap (λ x. follow (blob_ends (at (lob lobs.Base64) kept colon start used) x) (λ t. run p r t)) e
 blob_closes p lobs.StartQuote kept octets h e = absurd h
@@ -216,12 +236,14 @@ pub blob_known : (text octets : List ℕ) → IsBase64 text octets → blob_of t
 unfolding blob_of decoded_of
 blob_known text octets h = ap result_ok (ap (decode_of standard) h.spelled ∙ decode_of-encode_of standard octets refl (octet_at octets h.octets_are))
 
-pub takes_blob : (p : Place) (colon : Bool) (content octets r : List ℕ) → is_name p ≡ false → IsBlobContent content octets → Takes p colon (codes "{{" ++ content ++ codes "}}") r kinds.Blob octets
+pub takes_blob : (p : Place) (colon : Bool) (content octets r : List ℕ) → is_name p ≡ false → IsBlobContent content octets
+    → Takes p colon (codes "{{" ++ content ++ codes "}}") r kinds.Blob octets
 unfolding solid
 takes_blob p colon content octets r n h =
     let m = start_moves p content h.0 in
     subst (λ l. Takes p colon l r kinds.Blob octets) (lob_cut content)
     (takes_now p colon (123 ∷ 123 ∷ (content ++ 125 ∷ [])) 125 r kinds.Blob (lob lobs.BlobClose) octets keeps.Nothing (λ s u. refl)
     (opens_then p colon (123 ∷ 123 ∷ []) (content ++ 125 ∷ []) (lob lobs.Start) (lob lobs.BlobClose) [] octets (opens_lob p colon n)
-    (moves_then p (lob lobs.Start) (lob m.0) (lob lobs.BlobClose) content (125 ∷ []) [] (solid content) octets m.2 (blob_closes p m.0 (solid content) octets m.1 (blob_known (solid content) octets h.1))))
+    (moves_then p (lob lobs.Start) (lob m.0) (lob lobs.BlobClose) content (125 ∷ []) [] (solid content) octets m.2
+    (blob_closes p m.0 (solid content) octets m.1 (blob_known (solid content) octets h.1))))
     (λ c. refl))

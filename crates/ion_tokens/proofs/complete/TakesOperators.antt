@@ -47,16 +47,19 @@ op_after_slash c h n m = grind (arith, nat_tests)
 -- how the run goes on over these octets
 data OpTo (front : List ℕ) (e : Ending) (os r : List ℕ) : Type 0 where
   InRun : (e' : Ending) → EndsAs e' (front ++ os) → Moves places.Sexp (modes.Operator e) front os (modes.Operator e') (front ++ os) → OpTo front e os r
-  InSlash : (kept : List ℕ) → front ++ os ≡ kept ++ 47 ∷ [] → begins_comment (47 ∷ r) ≡ false → Moves places.Sexp (modes.Operator e) front os modes.OperatorSlash kept → OpTo front e os r
+  InSlash : (kept : List ℕ) → front ++ os ≡ kept ++ 47 ∷ [] → begins_comment (47 ∷ r) ≡ false
+      → Moves places.Sexp (modes.Operator e) front os modes.OperatorSlash kept → OpTo front e os r
 
-op_behind : (front xs ys r : List ℕ) (e e1 : Ending) → Moves places.Sexp (modes.Operator e) front xs (modes.Operator e1) (front ++ xs) → OpTo (front ++ xs) e1 ys r → OpTo front e (xs ++ ys) r
+op_behind : (front xs ys r : List ℕ) (e e1 : Ending) → Moves places.Sexp (modes.Operator e) front xs (modes.Operator e1) (front ++ xs)
+    → OpTo (front ++ xs) e1 ys r → OpTo front e (xs ++ ys) r
 op_behind front xs ys r e e1 m (InRun e' h n) = InRun e' (subst (λ l. EndsAs e' l) (append_assoc front xs ys) h)
     (moves_to places.Sexp (modes.Operator e) (modes.Operator e') (xs ++ ys) front ((front ++ xs) ++ ys) (front ++ (xs ++ ys)) (append_assoc front xs ys)
     (moves_then places.Sexp (modes.Operator e) (modes.Operator e1) (modes.Operator e') xs ys front (front ++ xs) ((front ++ xs) ++ ys) m n))
 op_behind front xs ys r e e1 m (InSlash kept h c n) = InSlash kept (sym (append_assoc front xs ys) ∙ h) c
     (moves_then places.Sexp (modes.Operator e) (modes.Operator e1) modes.OperatorSlash xs ys front (front ++ xs) kept m n)
 
-op_one : (front : List ℕ) (e : Ending) (o : ℕ) → is_operator_octet o ≡ true → o ≢ 47 → Moves places.Sexp (modes.Operator e) front (o ∷ []) (modes.Operator (run_ending o)) (front ++ o ∷ [])
+op_one : (front : List ℕ) (e : Ending) (o : ℕ) → is_operator_octet o ≡ true → o ≢ 47
+    → Moves places.Sexp (modes.Operator e) front (o ∷ []) (modes.Operator (run_ending o)) (front ++ o ∷ [])
 op_one front e o h n = moves_one places.Sexp (modes.Operator e) o front (modes.Operator (run_ending o)) (keeps.One o) (λ s u. refl) (λ c. op_step e o h n)
 
 slash_one : (front : List ℕ) (e : Ending) → Moves places.Sexp (modes.Operator e) front (47 ∷ []) modes.OperatorSlash front
@@ -65,9 +68,12 @@ slash_one front e = moves_one places.Sexp (modes.Operator e) 47 front modes.Oper
 two_kept : (front : List ℕ) (a b : ℕ) → (front ++ a ∷ []) ++ b ∷ [] ≡ front ++ a ∷ b ∷ []
 two_kept front a b = append_assoc front (a ∷ []) (b ∷ [])
 
-op_two : (front : List ℕ) (e : Ending) (c : ℕ) → is_operator_octet c ≡ true → c ≢ 47 → c ≢ 42 → Moves places.Sexp (modes.Operator e) front (47 ∷ c ∷ []) (modes.Operator (run_ending c)) (front ++ 47 ∷ c ∷ [])
-op_two front e c h n m = moves_to places.Sexp (modes.Operator e) (modes.Operator (run_ending c)) (47 ∷ c ∷ []) front ((front ++ 47 ∷ []) ++ c ∷ []) (front ++ 47 ∷ c ∷ []) (two_kept front 47 c)
-    (moves_then places.Sexp (modes.Operator e) modes.OperatorSlash (modes.Operator (run_ending c)) (47 ∷ []) (c ∷ []) front front ((front ++ 47 ∷ []) ++ c ∷ []) (slash_one front e)
+op_two : (front : List ℕ) (e : Ending) (c : ℕ) → is_operator_octet c ≡ true → c ≢ 47 → c ≢ 42
+    → Moves places.Sexp (modes.Operator e) front (47 ∷ c ∷ []) (modes.Operator (run_ending c)) (front ++ 47 ∷ c ∷ [])
+op_two front e c h n m = moves_to places.Sexp (modes.Operator e) (modes.Operator (run_ending c)) (47 ∷ c ∷ []) front ((front ++ 47 ∷ []) ++ c ∷ [])
+    (front ++ 47 ∷ c ∷ []) (two_kept front 47 c)
+    (moves_then places.Sexp (modes.Operator e) modes.OperatorSlash (modes.Operator (run_ending c)) (47 ∷ []) (c ∷ []) front front ((front ++ 47 ∷ []) ++ c ∷ [])
+    (slash_one front e)
     (moves_one places.Sexp modes.OperatorSlash c front (modes.Operator (run_ending c)) (keeps.Two 47 c) (λ s u. refl) (λ b. op_after_slash c h n m)))
 
 or_false : (a b : Bool) → (a || b) ≡ false → (a ≡ false) × (b ≡ false)
@@ -79,39 +85,52 @@ no_comment : (c : ℕ) → ((c == 47) || (c == 42)) ≡ false → (c ≢ 47) × 
 no_comment c h = (grind (arith, nat_tests), grind (arith, nat_tests))
 
 op_moves : (os front r : List ℕ) (e : Ending) → EndsAs e front → Each is_operator_octet os → comment_within os r ≡ false → OpTo front e os r
-op_moves [] front r e h each apart = InRun e (subst (λ l. EndsAs e l) (sym (append-nil front)) h) (moves_to places.Sexp (modes.Operator e) (modes.Operator e) [] front front (front ++ []) (sym (append-nil front)) (moves_none places.Sexp (modes.Operator e) front))
+op_moves [] front r e h each apart = InRun e (subst (λ l. EndsAs e l) (sym (append-nil front)) h)
+    (moves_to places.Sexp (modes.Operator e) (modes.Operator e) [] front front (front ++ []) (sym (append-nil front))
+    (moves_none places.Sexp (modes.Operator e) front))
 op_moves (o ∷ []) front r e h each apart = ⊎_elim
-    (λ (i : o ≡ 47). subst (λ (x : ℕ). OpTo front e (x ∷ []) r) (sym i) (InSlash front refl (or_false (begins_comment (47 ∷ r)) false (subst (λ (x : ℕ). comment_within (x ∷ []) r ≡ false) i apart)).0 (slash_one front e)))
+    (λ (i : o ≡ 47). subst (λ (x : ℕ). OpTo front e (x ∷ []) r) (sym i)
+    (InSlash front refl (or_false (begins_comment (47 ∷ r)) false (subst (λ (x : ℕ). comment_within (x ∷ []) r ≡ false) i apart)).0 (slash_one front e)))
     (λ n. InRun (run_ending o) (run_ends front o) (op_one front e o each.0 n)) (eq_or o 47)
 op_moves (o ∷ c ∷ os) front r e h each apart = ⊎_elim
     (λ i. slash i (op_moves os (front ++ 47 ∷ c ∷ []) r (run_ending c)))
-    (λ n. op_behind front (o ∷ []) (c ∷ os) r e (run_ending o) (op_one front e o each.0 n) (op_moves (c ∷ os) (front ++ o ∷ []) r (run_ending o) (run_ends front o) each.1 (or_false (begins_comment (o ∷ c ∷ os ++ r)) (comment_within (c ∷ os) r) apart).1))
+    (λ n. op_behind front (o ∷ []) (c ∷ os) r e (run_ending o) (op_one front e o each.0 n)
+    (op_moves (c ∷ os) (front ++ o ∷ []) r (run_ending o) (run_ends front o) each.1
+    (or_false (begins_comment (o ∷ c ∷ os ++ r)) (comment_within (c ∷ os) r) apart).1))
     (eq_or o 47)
   where
-    slash : o ≡ 47 → (EndsAs (run_ending c) (front ++ 47 ∷ c ∷ []) → Each is_operator_octet os → comment_within os r ≡ false → OpTo (front ++ 47 ∷ c ∷ []) (run_ending c) os r) → OpTo front e (o ∷ c ∷ os) r
+    slash : o ≡ 47 → (EndsAs (run_ending c) (front ++ 47 ∷ c ∷ []) → Each is_operator_octet os → comment_within os r ≡ false
+        → OpTo (front ++ 47 ∷ c ∷ []) (run_ending c) os r) → OpTo front e (o ∷ c ∷ os) r
     slash i f =
         let within : comment_within (47 ∷ c ∷ os) r ≡ false = subst (λ (x : ℕ). comment_within (x ∷ c ∷ os) r ≡ false) i apart in
-        let parts : (((c == 47) || (c == 42)) ≡ false) × (comment_within (c ∷ os) r ≡ false) = or_false ((c == 47) || (c == 42)) (comment_within (c ∷ os) r) within in
+        let parts : (((c == 47) || (c == 42)) ≡ false) × (comment_within (c ∷ os) r ≡ false) =
+        or_false ((c == 47) || (c == 42)) (comment_within (c ∷ os) r) within in
         let n : (c ≢ 47) × (c ≢ 42) = no_comment c parts.0 in
         let last : EndsAs (run_ending c) (front ++ 47 ∷ c ∷ []) = subst (λ l. EndsAs (run_ending c) l) (two_kept front 47 c) (run_ends (front ++ 47 ∷ []) c) in
         subst (λ (x : ℕ). OpTo front e (x ∷ c ∷ os) r) (sym i)
-        (op_behind front (47 ∷ c ∷ []) os r e (run_ending c) (op_two front e c each.1.0 n.0 n.1) (f last each.1.1 (or_false (begins_comment (c ∷ os ++ r)) (comment_within os r) parts.1).1))
+        (op_behind front (47 ∷ c ∷ []) os r e (run_ending c) (op_two front e c each.1.0 n.0 n.1)
+        (f last each.1.1 (or_false (begins_comment (c ∷ os ++ r)) (comment_within os r) parts.1).1))
 
 -- what ends a run
 abbrev Run : Bool → List ℕ → Ending → Type 0
 Run colon w e = Opens places.Sexp colon w (modes.Operator e) w
 
-digit_ends : (e : Ending) (x : ℕ) → is_digit x ≡ true → (e ≡ endings.Plus) ⊎ (e ≡ endings.Other) → in_operator places.Sexp e x ≡ actions.Before kinds.Operator keeps.Nothing modes.Blank
+digit_ends : (e : Ending) (x : ℕ) → is_digit x ≡ true → (e ≡ endings.Plus) ⊎ (e ≡ endings.Other) → in_operator places.Sexp e x
+    ≡ actions.Before kinds.Operator keeps.Nothing modes.Blank
 digit_ends e x d (inl i) = subst (λ e. in_operator places.Sexp e x ≡ actions.Before kinds.Operator keeps.Nothing modes.Blank) (sym i) (rw d)
 digit_ends e x d (inr i) = subst (λ e. in_operator places.Sexp e x ≡ actions.Before kinds.Operator keeps.Nothing modes.Blank) (sym i) (rw d)
 
-other_ends : (e : Ending) (x : ℕ) → is_digit x ≡ false → x ≢ 105 → x ≢ 47 → is_operator_octet x ≡ false → in_operator places.Sexp e x ≡ actions.Before kinds.Operator keeps.Nothing modes.Blank
+other_ends : (e : Ending) (x : ℕ) → is_digit x ≡ false → x ≢ 105 → x ≢ 47 → is_operator_octet x ≡ false → in_operator places.Sexp e x
+    ≡ actions.Before kinds.Operator keeps.Nothing modes.Blank
 other_ends e x d i s o = by (is_digit x) (x == 105) (x == 47) (is_operator_octet x) d (not_is x 105 i) (not_is x 47 s) o where
   not_is : (a b : ℕ) → a ≢ b → (a == b) ≡ false
   not_is a b n = grind (arith, nat_tests)
 
   by : (d i s o : Bool) → d ≡ false → i ≡ false → s ≡ false → o ≡ false
-      → cond d (Rattle.ion_tokens.specs.machine.Table.digit_behind places.Sexp e x) (cond (i && not (Rattle.ion_tokens.specs.machine.Table.is_other e)) (Rattle.ion_tokens.specs.machine.Table.go (modes.Infinity 1)) (cond s (Rattle.ion_tokens.specs.machine.Table.go modes.OperatorSlash) (cond o (Rattle.ion_tokens.specs.machine.Table.add (modes.Operator (run_ending x)) x) (Rattle.ion_tokens.specs.machine.Table.before kinds.Operator))))
+      → cond d (Rattle.ion_tokens.specs.machine.Table.digit_behind places.Sexp e x)
+      (cond (i && not (Rattle.ion_tokens.specs.machine.Table.is_other e)) (Rattle.ion_tokens.specs.machine.Table.go (modes.Infinity 1))
+      (cond s (Rattle.ion_tokens.specs.machine.Table.go modes.OperatorSlash)
+      (cond o (Rattle.ion_tokens.specs.machine.Table.add (modes.Operator (run_ending x)) x) (Rattle.ion_tokens.specs.machine.Table.before kinds.Operator))))
       ≡ actions.Before kinds.Operator keeps.Nothing modes.Blank
   by false false false false a b c d = refl
   by true i s o a b c d = absurd (true≢false a)
@@ -124,7 +143,8 @@ abbrev Read : Bool → List ℕ → List ℕ → Type 0
 Read colon w r = Takes places.Sexp colon w r kinds.Operator w
 
 -- behind a sign stands the front of `inf`, which turns out to be a word
-takes_split : (colon : Bool) (w ahead : List ℕ) (n x : ℕ) (rest : List ℕ) → Opens places.Sexp colon (w ++ ahead) (modes.Infinity n) w → in_infinity places.Sexp n x ≡ actions.Split n → n ≡ length ahead
+takes_split : (colon : Bool) (w ahead : List ℕ) (n x : ℕ) (rest : List ℕ) → Opens places.Sexp colon (w ++ ahead) (modes.Infinity n) w
+    → in_infinity places.Sexp n x ≡ actions.Split n → n ≡ length ahead
     → take n (codes "inf") ≡ ahead → Resumes ahead modes.Word ahead → Read colon w (ahead ++ x ∷ rest)
 takes_split colon w ahead n x rest f e size letters resumes = Later ahead x rest modes.Word ahead refl resumes (λ start used.
     let longer : used + length (w ++ ahead) ≡ (used + length w) + length ahead = omega (arith, length-append w ahead) in
@@ -132,7 +152,8 @@ takes_split colon w ahead n x rest f e size letters resumes = Later ahead x rest
     ap (λ os. run places.Sexp os (blank colon start used)) (sym (append_assoc w ahead (x ∷ rest))) ∙ f start used (x ∷ rest)
     ∙ ap (λ (i : ℕ). run places.Sexp (x ∷ rest) (at (modes.Infinity n) w colon used i)) longer
     ∙ ap (λ a. follow (acts places.Sexp (at (modes.Infinity n) w colon used ((used + length w) + length ahead)) x a) (λ t. run places.Sexp rest t)) e
-    ∙ (λ i. Left (record { start = used; end = back i; kind = kinds.Operator; octets = w }) (past places.Sexp kinds.Operator modes.Word (letters i) (back i) ((used + length w) + length ahead))))
+    ∙ (λ i. Left (record { start = used; end = back i; kind = kinds.Operator; octets = w })
+    (past places.Sexp kinds.Operator modes.Word (letters i) (back i) ((used + length w) + length ahead))))
 
 resumes_i : Resumes (105 ∷ []) modes.Word (105 ∷ [])
 resumes_i p colon end = refl
@@ -141,7 +162,8 @@ resumes_in : Resumes (105 ∷ 110 ∷ []) modes.Word (105 ∷ 110 ∷ [])
 resumes_in p colon end = let two : (end + 1) + 1 ≡ end + 2 = omega arith in ap (λ (n : ℕ). Next (at modes.Word (105 ∷ 110 ∷ []) colon end n)) two
 
 resumes_inf : Resumes (105 ∷ 110 ∷ 102 ∷ []) modes.Word (105 ∷ 110 ∷ 102 ∷ [])
-resumes_inf p colon end = let three : ((end + 1) + 1) + 1 ≡ end + 3 = omega arith in ap (λ (n : ℕ). Next (at modes.Word (105 ∷ 110 ∷ 102 ∷ []) colon end n)) three
+resumes_inf p colon end = let three : ((end + 1) + 1) + 1 ≡ end + 3 = omega arith in
+    ap (λ (n : ℕ). Next (at modes.Word (105 ∷ 110 ∷ 102 ∷ []) colon end n)) three
 
 not_same : (a b : ℕ) → a ≢ b → (a == b) ≡ false
 not_same a b n = grind (arith, nat_tests)
@@ -161,19 +183,24 @@ i_opens endings.Minus n = refl
 i_opens endings.Plus n = refl
 i_opens endings.Other n = absurd (n refl)
 
-letter_on : (w : List ℕ) (n m x : ℕ) → in_infinity places.Sexp n x ≡ actions.Go (modes.Infinity m) keeps.Nothing → Moves places.Sexp (modes.Infinity n) w (x ∷ []) (modes.Infinity m) w
+letter_on : (w : List ℕ) (n m x : ℕ) → in_infinity places.Sexp n x ≡ actions.Go (modes.Infinity m) keeps.Nothing
+    → Moves places.Sexp (modes.Infinity n) w (x ∷ []) (modes.Infinity m) w
 letter_on w n m x e = moves_one places.Sexp (modes.Infinity n) x w (modes.Infinity m) keeps.Nothing (λ s u. refl) (λ c. e)
 
-takes_infinity : (colon : Bool) (w : List ℕ) (e : Ending) (rest : List ℕ) → Run colon w e → e ≢ endings.Other → begins_infinity (105 ∷ rest) ≡ false → Read colon w (105 ∷ rest)
+takes_infinity : (colon : Bool) (w : List ℕ) (e : Ending) (rest : List ℕ) → Run colon w e → e ≢ endings.Other → begins_infinity (105 ∷ rest) ≡ false
+    → Read colon w (105 ∷ rest)
 takes_infinity colon w e rest f n h = one rest h where
   opens1 : Opens places.Sexp colon (w ++ 105 ∷ []) (modes.Infinity 1) w
-  opens1 = opens_then places.Sexp colon w (105 ∷ []) (modes.Operator e) (modes.Infinity 1) w w f (moves_one places.Sexp (modes.Operator e) 105 w (modes.Infinity 1) keeps.Nothing (λ s u. refl) (λ c. i_opens e n))
+  opens1 = opens_then places.Sexp colon w (105 ∷ []) (modes.Operator e) (modes.Infinity 1) w w f
+      (moves_one places.Sexp (modes.Operator e) 105 w (modes.Infinity 1) keeps.Nothing (λ s u. refl) (λ c. i_opens e n))
 
   opens2 : Opens places.Sexp colon (w ++ 105 ∷ 110 ∷ []) (modes.Infinity 2) w
-  opens2 = subst (λ l. Opens places.Sexp colon l (modes.Infinity 2) w) (append_assoc w (105 ∷ []) (110 ∷ [])) (opens_then places.Sexp colon (w ++ 105 ∷ []) (110 ∷ []) (modes.Infinity 1) (modes.Infinity 2) w w opens1 (letter_on w 1 2 110 refl))
+  opens2 = subst (λ l. Opens places.Sexp colon l (modes.Infinity 2) w) (append_assoc w (105 ∷ []) (110 ∷ []))
+      (opens_then places.Sexp colon (w ++ 105 ∷ []) (110 ∷ []) (modes.Infinity 1) (modes.Infinity 2) w w opens1 (letter_on w 1 2 110 refl))
 
   opens3 : Opens places.Sexp colon (w ++ 105 ∷ 110 ∷ 102 ∷ []) (modes.Infinity 3) w
-  opens3 = subst (λ l. Opens places.Sexp colon l (modes.Infinity 3) w) (append_assoc w (105 ∷ 110 ∷ []) (102 ∷ [])) (opens_then places.Sexp colon (w ++ 105 ∷ 110 ∷ []) (102 ∷ []) (modes.Infinity 2) (modes.Infinity 3) w w opens2 (letter_on w 2 3 102 refl))
+  opens3 = subst (λ l. Opens places.Sexp colon l (modes.Infinity 3) w) (append_assoc w (105 ∷ 110 ∷ []) (102 ∷ []))
+      (opens_then places.Sexp colon (w ++ 105 ∷ 110 ∷ []) (102 ∷ []) (modes.Infinity 2) (modes.Infinity 3) w w opens2 (letter_on w 2 3 102 refl))
 
   three : (rest : List ℕ) → begins_infinity (105 ∷ 110 ∷ 102 ∷ rest) ≡ false → Read colon w (105 ∷ 110 ∷ 102 ∷ rest)
   three [] h = absurd (true≢false h)
@@ -181,13 +208,25 @@ takes_infinity colon w e rest f n h = one rest h where
       (λ none. absurd (true≢false (sym (ap not none) ∙ h))) (bool_cases (is_word_octet x))
 
   two : (rest : List ℕ) → begins_infinity (105 ∷ 110 ∷ rest) ≡ false → Read colon w (105 ∷ 110 ∷ rest)
-  two [] h = Open refl refl resumes_in (λ start used. (at (modes.Infinity 2) w colon used (used + length (w ++ 105 ∷ 110 ∷ [])), refl, ap (λ l. run places.Sexp l (blank colon start used)) (sym (append-nil (w ++ 105 ∷ 110 ∷ []))) ∙ opens2 start used [], refl))
-  two (x ∷ rest) h = ⊎_elim (λ (i : x ≡ 102). subst (λ (y : ℕ). Read colon w (105 ∷ 110 ∷ y ∷ rest)) (sym i) (three rest (subst (λ (y : ℕ). begins_infinity (105 ∷ 110 ∷ y ∷ rest) ≡ false) i h)))
+  two [] h = Open refl refl resumes_in (λ start used. (
+    at (modes.Infinity 2) w colon used (used + length (w ++ 105 ∷ 110 ∷ [])),
+    refl,
+    ap (λ l. run places.Sexp l (blank colon start used)) (sym (append-nil (w ++ 105 ∷ 110 ∷ []))) ∙ opens2 start used [],
+    refl,
+  ))
+  two (x ∷ rest) h = ⊎_elim (λ (i : x ≡ 102). subst (λ (y : ℕ). Read colon w (105 ∷ 110 ∷ y ∷ rest)) (sym i)
+      (three rest (subst (λ (y : ℕ). begins_infinity (105 ∷ 110 ∷ y ∷ rest) ≡ false) i h)))
       (λ n. takes_split colon w (105 ∷ 110 ∷ []) 2 x rest opens2 (split_two x n) refl refl resumes_in) (eq_or x 102)
 
   one : (rest : List ℕ) → begins_infinity (105 ∷ rest) ≡ false → Read colon w (105 ∷ rest)
-  one [] h = Open refl refl resumes_i (λ start used. (at (modes.Infinity 1) w colon used (used + length (w ++ 105 ∷ [])), refl, ap (λ l. run places.Sexp l (blank colon start used)) (sym (append-nil (w ++ 105 ∷ []))) ∙ opens1 start used [], refl))
-  one (x ∷ rest) h = ⊎_elim (λ (i : x ≡ 110). subst (λ (y : ℕ). Read colon w (105 ∷ y ∷ rest)) (sym i) (two rest (subst (λ (y : ℕ). begins_infinity (105 ∷ y ∷ rest) ≡ false) i h)))
+  one [] h = Open refl refl resumes_i (λ start used. (
+    at (modes.Infinity 1) w colon used (used + length (w ++ 105 ∷ [])),
+    refl,
+    ap (λ l. run places.Sexp l (blank colon start used)) (sym (append-nil (w ++ 105 ∷ []))) ∙ opens1 start used [],
+    refl,
+  ))
+  one (x ∷ rest) h = ⊎_elim (λ (i : x ≡ 110). subst (λ (y : ℕ). Read colon w (105 ∷ y ∷ rest)) (sym i)
+      (two rest (subst (λ (y : ℕ). begins_infinity (105 ∷ y ∷ rest) ≡ false) i h)))
       (λ n. takes_split colon w (105 ∷ []) 1 x rest opens1 (split_one x n) refl refl resumes_i) (eq_or x 110)
 
 op_slash_ends : (x : ℕ) → ((x == 47) || (x == 42)) ≡ true → in_operator_slash x ≡ actions.Before kinds.Operator keeps.Nothing modes.Slash
@@ -210,7 +249,8 @@ run_read : (colon : Bool) (w : List ℕ) (e : Ending) (r : List ℕ) → Run col
 run_read colon w e [] f h o = takes_end places.Sexp colon w kinds.Operator (modes.Operator e) w w f (λ start used. refl)
 run_read colon w e (x ∷ rest) f h o =
     ⊎_elim (λ d. digit e f h d) (λ d.
-    ⊎_elim (λ (i : x ≡ 105). subst (λ (y : ℕ). Read colon w (y ∷ rest)) (sym i) (letter e f h (λ s. subst (λ (y : ℕ). begins_infinity (y ∷ rest) ≡ false) i (o.no_float s)))) (λ i.
+    ⊎_elim (λ (i : x ≡ 105). subst (λ (y : ℕ). Read colon w (y ∷ rest)) (sym i)
+    (letter e f h (λ s. subst (λ (y : ℕ). begins_infinity (y ∷ rest) ≡ false) i (o.no_float s)))) (λ i.
     ⊎_elim (λ (s : x ≡ 47). subst (λ (y : ℕ). Read colon w (y ∷ rest)) (sym s) (comment_ends colon w e rest f (slash s o.longest))) (λ s.
     left d i s o.longest)
     (eq_or x 47)) (eq_or x 105)) (bool_cases (is_digit x))
@@ -224,11 +264,13 @@ run_read colon w e (x ∷ rest) f h o =
     digit endings.Plus f h d = left_by endings.Plus f (digit_ends endings.Plus x d (inl refl))
     digit endings.Other f h d = left_by endings.Other f (digit_ends endings.Other x d (inr refl))
 
-    letter : (e : Ending) → Run colon w e → EndsAs e w → (ends (λ o. (o == 43) || (o == 45)) w ≡ true → begins_infinity (105 ∷ rest) ≡ false) → Read colon w (105 ∷ rest)
+    letter : (e : Ending) → Run colon w e → EndsAs e w → (ends (λ o. (o == 43) || (o == 45)) w ≡ true → begins_infinity (105 ∷ rest) ≡ false)
+        → Read colon w (105 ∷ rest)
     letter endings.LoneMinus f h g = takes_infinity colon w endings.LoneMinus rest f (λ i. cc) (g h.1)
     letter endings.Minus f h g = takes_infinity colon w endings.Minus rest f (λ i. cc) (g h.1)
     letter endings.Plus f h g = takes_infinity colon w endings.Plus rest f (λ i. cc) (g h)
-    letter endings.Other f h g = takes_left places.Sexp colon w 105 rest kinds.Operator (modes.Operator endings.Other) w keeps.Nothing (λ s u. refl) f (λ c. refl)
+    letter endings.Other f h g = takes_left places.Sexp colon w 105 rest kinds.Operator (modes.Operator endings.Other) w keeps.Nothing (λ s u. refl) f
+        (λ c. refl)
 
     slash : x ≡ 47 → (is_operator_octet x ≡ false) ⊎ (begins_comment (x ∷ rest) ≡ true) → begins_comment (47 ∷ rest) ≡ true
     slash s (inl n) = absurd (true≢false (subst (λ (y : ℕ). is_operator_octet y ≡ false) s n))
@@ -242,23 +284,32 @@ run_read colon w e (x ∷ rest) f h o =
 slash_left : (x : ℕ) → x ≢ 47 → x ≢ 42 → is_operator_octet x ≡ false → in_operator_slash x ≡ actions.Before kinds.Operator (keeps.One 47) modes.Blank
 slash_left x n m o = rw (o, not_same x 47 n, not_same x 42 m)
 
-after_slash : (r : List ℕ) (x : ℕ) (rest : List ℕ) → r ≡ x ∷ rest → begins_comment (47 ∷ r) ≡ false → (begins is_operator_octet r ≡ false) ⊎ (begins_comment r ≡ true) → (x ≢ 47) × (x ≢ 42) × (is_operator_octet x ≡ false)
+after_slash : (r : List ℕ) (x : ℕ) (rest : List ℕ) → r ≡ x ∷ rest → begins_comment (47 ∷ r) ≡ false → (begins is_operator_octet r ≡ false)
+    ⊎ (begins_comment r ≡ true) → (x ≢ 47) × (x ≢ 42) × (is_operator_octet x ≡ false)
 after_slash r x rest e c l =
     let none : ((x == 47) || (x == 42)) ≡ false = subst (λ l. begins_comment (47 ∷ l) ≡ false) e c in
-    let n : (x ≢ 47) × (x ≢ 42) = no_comment x none in
-    (n.0, n.1, ⊎_elim (λ h. subst (λ l. begins is_operator_octet l ≡ false) e h) (λ h. absurd (n.0 (comment_first x rest (subst (λ l. begins_comment l ≡ true) e h)))) l)
+    let n : (x ≢ 47) × (x ≢ 42) = no_comment x none in (
+      n.0,
+      n.1,
+      ⊎_elim (λ h. subst (λ l. begins is_operator_octet l ≡ false) e h)
+          (λ h. absurd (n.0 (comment_first x rest (subst (λ l. begins_comment l ≡ true) e h)))) l,
+    )
 
-slash_read : (colon : Bool) (w kept r : List ℕ) → w ≡ kept ++ 47 ∷ [] → Opens places.Sexp colon w modes.OperatorSlash kept → begins_comment (47 ∷ r) ≡ false → IsOperator w r → Read colon w r
-slash_read colon w kept [] e f c o = subst (λ l. Takes places.Sexp colon w [] kinds.Operator l) (sym e) (takes_end places.Sexp colon w kinds.Operator modes.OperatorSlash kept (kept ++ 47 ∷ []) f (λ start used. refl))
+slash_read : (colon : Bool) (w kept r : List ℕ) → w ≡ kept ++ 47 ∷ [] → Opens places.Sexp colon w modes.OperatorSlash kept → begins_comment (47 ∷ r) ≡ false
+    → IsOperator w r → Read colon w r
+slash_read colon w kept [] e f c o = subst (λ l. Takes places.Sexp colon w [] kinds.Operator l) (sym e)
+    (takes_end places.Sexp colon w kinds.Operator modes.OperatorSlash kept (kept ++ 47 ∷ []) f (λ start used. refl))
 slash_read colon w kept (x ∷ r) e f c o =
     let n = after_slash (x ∷ r) x r refl c o.longest in
-    subst (λ l. Takes places.Sexp colon w (x ∷ r) kinds.Operator l) (sym e) (takes_left places.Sexp colon w x r kinds.Operator modes.OperatorSlash kept (keeps.One 47) (λ s u. refl) f (λ b. slash_left x n.0 n.1 n.2))
+    subst (λ l. Takes places.Sexp colon w (x ∷ r) kinds.Operator l) (sym e)
+    (takes_left places.Sexp colon w x r kinds.Operator modes.OperatorSlash kept (keeps.One 47) (λ s u. refl) f (λ b. slash_left x n.0 n.1 n.2))
 
 -- how a run begins
 first_ending : ℕ → Ending
 first_ending o = cond (o == 45) endings.LoneMinus (cond (o == 43) endings.Plus endings.Other)
 
-op_first : (colon : Bool) (o : ℕ) → is_operator_octet o ≡ true → o ≢ 47 → in_blank places.Sexp colon o ≡ actions.Go (modes.Operator (first_ending o)) (keeps.One o)
+op_first : (colon : Bool) (o : ℕ) → is_operator_octet o ≡ true → o ≢ 47 → in_blank places.Sexp colon o
+    ≡ actions.Go (modes.Operator (first_ending o)) (keeps.One o)
 unfolding first_ending
 op_first colon o h n = grind (arith, nat_tests)
 
@@ -284,14 +335,17 @@ opens_slashed colon c h n m = λ start used r.
     ∙ (λ i. run places.Sexp r (at (modes.Operator (run_ending c)) (47 ∷ c ∷ []) colon (one i) (two i)))
 
 run_on : (colon : Bool) (front os r : List ℕ) (e : Ending) → Run colon front e → OpTo front e os r → IsOperator (front ++ os) r → Read colon (front ++ os) r
-run_on colon front os r e f (InRun e' h m) o = run_read colon (front ++ os) e' r (opens_then places.Sexp colon front os (modes.Operator e) (modes.Operator e') front (front ++ os) f m) h o
-run_on colon front os r e f (InSlash kept h c m) o = slash_read colon (front ++ os) kept r h (opens_then places.Sexp colon front os (modes.Operator e) modes.OperatorSlash front kept f m) c o
+run_on colon front os r e f (InRun e' h m) o = run_read colon (front ++ os) e' r
+    (opens_then places.Sexp colon front os (modes.Operator e) (modes.Operator e') front (front ++ os) f m) h o
+run_on colon front os r e f (InSlash kept h c m) o = slash_read colon (front ++ os) kept r h
+    (opens_then places.Sexp colon front os (modes.Operator e) modes.OperatorSlash front kept f m) c o
 
 lone_slash : (colon : Bool) (r : List ℕ) → IsOperator (47 ∷ []) r → Read colon (47 ∷ []) r
 lone_slash colon [] o = AtEnd refl (λ start used. (
   at modes.Slash [] colon used (used + 1),
   refl,
-  let one : (used + 1) - 1 ≡ used = omega arith in ap (λ (n : ℕ). Ok (Some (record { start = n; end = used + 1; kind = kinds.Operator; octets = 47 ∷ [] }))) one,
+  let one : (used + 1) - 1 ≡ used = omega arith in ap (λ (n : ℕ). Ok (Some (record { start = n; end = used + 1; kind = kinds.Operator; octets = 47 ∷ [] })))
+      one,
 ))
 lone_slash colon (x ∷ r) o =
     let n = after_slash (x ∷ r) x r refl (or_false (begins_comment (47 ∷ x ∷ r)) false o.apart).0 o.longest in
@@ -300,7 +354,8 @@ lone_slash colon (x ∷ r) o =
     let whole : (used + 1) - 0 ≡ used + 1 = omega arith in
     let none : used + 1 ≡ (used + 1) + 0 = omega arith in
     ap (λ a. follow (acts places.Sexp (at modes.Slash [] colon used (used + 1)) x a) (λ t. run places.Sexp r t)) (slash_lone x n.0 n.1 n.2)
-    ∙ (λ i. Left (record { start = one i; end = whole i; kind = kinds.Operator; octets = 47 ∷ [] }) (past places.Sexp kinds.Operator modes.Blank [] (whole i) (none i))))
+    ∙ (λ i. Left (record { start = one i; end = whole i; kind = kinds.Operator; octets = 47 ∷ [] })
+    (past places.Sexp kinds.Operator modes.Blank [] (whole i) (none i))))
   where
     slash_lone : (x : ℕ) → x ≢ 47 → x ≢ 42 → is_operator_octet x ≡ false → in_slash places.Sexp x ≡ actions.Before kinds.Operator (keeps.One 47) modes.Blank
     slash_lone x n m o = rw (o, not_same x 47 n, not_same x 42 m)
@@ -309,18 +364,23 @@ in_sexp : (colon : Bool) (w r : List ℕ) → IsOperator w r → Read colon w r
 in_sexp colon [] r o = absurd (o.some refl)
 in_sexp colon (x ∷ []) r o = ⊎_elim
     (λ (i : x ≡ 47). subst (λ (y : ℕ). Read colon (y ∷ []) r) (sym i) (lone_slash colon r (subst (λ (y : ℕ). IsOperator (y ∷ []) r) i o)))
-    (λ n. run_read colon (x ∷ []) (first_ending x) r (opens_one places.Sexp colon x (modes.Operator (first_ending x)) (keeps.One x) (op_first colon x o.each.0 n)) (first_ends x) o) (eq_or x 47)
+    (λ n. run_read colon (x ∷ []) (first_ending x) r (opens_one places.Sexp colon x (modes.Operator (first_ending x)) (keeps.One x)
+    (op_first colon x o.each.0 n)) (first_ends x) o) (eq_or x 47)
 in_sexp colon (x ∷ c ∷ os) r o = ⊎_elim
     (λ (i : x ≡ 47). subst (λ (y : ℕ). Read colon (y ∷ c ∷ os) r) (sym i) (slashed (subst (λ (y : ℕ). IsOperator (y ∷ c ∷ os) r) i o)))
-    (λ n. run_on colon (x ∷ []) (c ∷ os) r (first_ending x) (opens_one places.Sexp colon x (modes.Operator (first_ending x)) (keeps.One x) (op_first colon x o.each.0 n))
-    (op_moves (c ∷ os) (x ∷ []) r (first_ending x) (first_ends x) o.each.1 (or_false (begins_comment (x ∷ c ∷ os ++ r)) (comment_within (c ∷ os) r) o.apart).1) o) (eq_or x 47)
+    (λ n. run_on colon (x ∷ []) (c ∷ os) r (first_ending x)
+    (opens_one places.Sexp colon x (modes.Operator (first_ending x)) (keeps.One x) (op_first colon x o.each.0 n))
+    (op_moves (c ∷ os) (x ∷ []) r (first_ending x) (first_ends x) o.each.1 (or_false (begins_comment (x ∷ c ∷ os ++ r)) (comment_within (c ∷ os) r) o.apart).1)
+    o) (eq_or x 47)
   where
     slashed : IsOperator (47 ∷ c ∷ os) r → Read colon (47 ∷ c ∷ os) r
     slashed o =
-        let parts : (((c == 47) || (c == 42)) ≡ false) × (comment_within (c ∷ os) r ≡ false) = or_false ((c == 47) || (c == 42)) (comment_within (c ∷ os) r) o.apart in
+        let parts : (((c == 47) || (c == 42)) ≡ false) × (comment_within (c ∷ os) r ≡ false) =
+        or_false ((c == 47) || (c == 42)) (comment_within (c ∷ os) r) o.apart in
         let n = no_comment c parts.0 in
         run_on colon (47 ∷ c ∷ []) os r (run_ending c) (opens_slashed colon c o.each.1.0 n.0 n.1)
-        (op_moves os (47 ∷ c ∷ []) r (run_ending c) (run_ends (47 ∷ []) c) o.each.1.1 (or_false (begins_comment (c ∷ os ++ r)) (comment_within os r) parts.1).1) o
+        (op_moves os (47 ∷ c ∷ []) r (run_ending c) (run_ends (47 ∷ []) c) o.each.1.1 (or_false (begins_comment (c ∷ os ++ r)) (comment_within os r) parts.1).1)
+        o
 
 sexp_only : (p : Place) → is_sexp p ≡ true → p ≡ places.Sexp
 sexp_only places.Sexp h = refl

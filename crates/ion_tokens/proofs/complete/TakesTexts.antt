@@ -38,7 +38,8 @@ short_close (within.Hexadecimal _ _ _) h = absurd h
 short_close (within.HighSurrogate _) h = absurd h
 short_close (within.HighSurrogateEscape _) h = absurd h
 
-pub takes_short : (p : Place) (colon : Bool) (content octets r : List ℕ) → IsQuoted styles.ShortString content octets → Takes p colon ((34 ∷ content) ++ 34 ∷ []) r kinds.ShortString octets
+pub takes_short : (p : Place) (colon : Bool) (content octets r : List ℕ) → IsQuoted styles.ShortString content octets
+    → Takes p colon ((34 ∷ content) ++ 34 ∷ []) r kinds.ShortString octets
 takes_short p colon content octets r q =
     let c = read_content p styles.ShortString content octets [] q in
     takes_now p colon (34 ∷ content) 34 r kinds.ShortString (modes.Text styles.ShortString c.0) octets keeps.Nothing (λ s u. refl)
@@ -94,7 +95,8 @@ elements_other (e ∷ es) h = let o = element_other e h.0 in begins_front (spell
 no_quote : (o : ℕ) → o ≢ 39 → (o == 39) ≡ false
 no_quote o n = grind (arith, nat_tests)
 
-same_quote : (p : Place) (colon : Bool) (start used o : ℕ) (f : Known → Outcome) (a : Action) → follow (acts p (at modes.Quote [] colon start used) o a) f ≡ follow (acts p (at (modes.Text styles.QuotedSymbol within.Plain) [] colon start used) o a) f
+same_quote : (p : Place) (colon : Bool) (start used o : ℕ) (f : Known → Outcome) (a : Action) → follow (acts p (at modes.Quote [] colon start used) o a) f
+    ≡ follow (acts p (at (modes.Text styles.QuotedSymbol within.Plain) [] colon start used) o a) f
 same_quote p colon start used o f (actions.Go m k) = refl
 same_quote p colon start used o f (actions.Give kind k) = refl
 same_quote p colon start used o f (actions.Before kind k m) = refl
@@ -103,21 +105,25 @@ same_quote p colon start used o f (actions.Split n) = refl
 same_quote p colon start used o f actions.EndBlob = refl
 same_quote p colon start used o f (actions.Refuse e) = refl
 
-pub from_quote : (p : Place) (content octets : List ℕ) (v : Within) → content ≢ [] → BeginsOther content → GoesInText p styles.QuotedSymbol within.Plain [] content v octets → Moves p modes.Quote [] content (modes.Text styles.QuotedSymbol v) octets
+pub from_quote : (p : Place) (content octets : List ℕ) (v : Within) → content ≢ [] → BeginsOther content
+    → GoesInText p styles.QuotedSymbol within.Plain [] content v octets → Moves p modes.Quote [] content (modes.Text styles.QuotedSymbol v) octets
 from_quote p [] octets v some other f = absurd (some refl)
 from_quote p (o ∷ os) octets v some other f = λ colon start used r.
-    ap (λ b. follow (acts p (at modes.Quote [] colon start used) o (cond b (go modes.Quotes) (raw styles.QuotedSymbol o))) (λ t. run p (os ++ r) t)) (no_quote o other)
+    ap (λ b. follow (acts p (at modes.Quote [] colon start used) o (cond b (go modes.Quotes) (raw styles.QuotedSymbol o))) (λ t. run p (os ++ r) t))
+    (no_quote o other)
     ∙ same_quote p colon start used o (λ t. run p (os ++ r) t) (raw styles.QuotedSymbol o) ∙ f colon start used r
 
 quotes_end : (x : ℕ) → (x == 39) ≡ false → (c : Bool) (p : Place) → next p c modes.Quotes x ≡ actions.Before kinds.QuotedSymbol keeps.Nothing modes.Blank
 quotes_end x h c p = rw h
 
 opens_quotes : (p : Place) (colon : Bool) → Opens p colon (39 ∷ 39 ∷ []) modes.Quotes []
-opens_quotes p colon = opens_then p colon (39 ∷ []) (39 ∷ []) modes.Quote modes.Quotes [] [] (opens_quote p colon) (moves_one p modes.Quote 39 [] modes.Quotes keeps.Nothing (λ s u. refl) (λ c. refl))
+opens_quotes p colon = opens_then p colon (39 ∷ []) (39 ∷ []) modes.Quote modes.Quotes [] [] (opens_quote p colon)
+    (moves_one p modes.Quote 39 [] modes.Quotes keeps.Nothing (λ s u. refl) (λ c. refl))
 
 takes_empty : (p : Place) (colon : Bool) (r : List ℕ) → begins (λ o. o == 39) r ≡ false → Takes p colon (39 ∷ 39 ∷ []) r kinds.QuotedSymbol []
 takes_empty p colon [] h = takes_end p colon (39 ∷ 39 ∷ []) kinds.QuotedSymbol modes.Quotes [] [] (opens_quotes p colon) (λ start used. refl)
-takes_empty p colon (x ∷ r) h = takes_left p colon (39 ∷ 39 ∷ []) x r kinds.QuotedSymbol modes.Quotes [] keeps.Nothing (λ s u. refl) (opens_quotes p colon) (λ c. quotes_end x h c p)
+takes_empty p colon (x ∷ r) h = takes_left p colon (39 ∷ 39 ∷ []) x r kinds.QuotedSymbol modes.Quotes [] keeps.Nothing (λ s u. refl) (opens_quotes p colon)
+    (λ c. quotes_end x h c p)
 
 no_octets : (octets : List ℕ) → IsQuoted styles.QuotedSymbol [] octets → octets ≡ []
 no_octets octets q = by q.elements q.each q.spelled q.means where
@@ -127,12 +133,15 @@ no_octets octets q = by q.elements q.each q.spelled q.means where
     at [] n h = n refl
     at (x ∷ xs) n h = cc
 
-  by : (es : List Element) → AllByRecursion (IsElement styles.QuotedSymbol) es → [] ≡ flat_map spelling es → octets ≡ flat_map (Rattle.ion_tokens.specs.Quoted.meaning styles.QuotedSymbol) es → octets ≡ []
+  by : (es : List Element) → AllByRecursion (IsElement styles.QuotedSymbol) es → [] ≡ flat_map spelling es
+      → octets ≡ flat_map (Rattle.ion_tokens.specs.Quoted.meaning styles.QuotedSymbol) es → octets ≡ []
   by [] h s m = m
   by (e ∷ es) h s m = absurd (front e es (element_other e h.0).0 s)
 
-pub takes_symbol : (p : Place) (colon : Bool) (content octets r : List ℕ) → IsQuoted styles.QuotedSymbol content octets → (content ≡ [] → begins (λ o. o == 39) r ≡ false) → Takes p colon ((39 ∷ content) ++ 39 ∷ []) r kinds.QuotedSymbol octets
-takes_symbol p colon [] octets r q h = subst (λ l. Takes p colon (39 ∷ 39 ∷ []) r kinds.QuotedSymbol l) (sym (no_octets octets q)) (takes_empty p colon r (h refl))
+pub takes_symbol : (p : Place) (colon : Bool) (content octets r : List ℕ) → IsQuoted styles.QuotedSymbol content octets
+    → (content ≡ [] → begins (λ o. o == 39) r ≡ false) → Takes p colon ((39 ∷ content) ++ 39 ∷ []) r kinds.QuotedSymbol octets
+takes_symbol p colon [] octets r q h = subst (λ l. Takes p colon (39 ∷ 39 ∷ []) r kinds.QuotedSymbol l) (sym (no_octets octets q))
+    (takes_empty p colon r (h refl))
 takes_symbol p colon (x ∷ content) octets r q h =
     let c = read_content p styles.QuotedSymbol (x ∷ content) octets [] q in
     let P : List ℕ → Type 0 = BeginsOther in
@@ -158,8 +167,10 @@ pub long_content : (p : Place) (s : Style) (content octets kept : List ℕ) → 
     → Moves p (modes.Text s within.Plain) kept (content ++ 39 ∷ 39 ∷ []) (modes.Text s within.TwoQuotes) (((kept ++ octets) ++ 39 ∷ []) ++ 39 ∷ [])
 long_content p s content octets kept l q =
     let c = read_content p s content octets kept q in
-    moves_then p (modes.Text s within.Plain) (modes.Text s c.0) (modes.Text s within.TwoQuotes) content (39 ∷ 39 ∷ []) kept (kept ++ octets) (((kept ++ octets) ++ 39 ∷ []) ++ 39 ∷ []) c.2
-    (moves_then p (modes.Text s c.0) (modes.Text s within.OneQuote) (modes.Text s within.TwoQuotes) (39 ∷ []) (39 ∷ []) (kept ++ octets) ((kept ++ octets) ++ 39 ∷ []) (((kept ++ octets) ++ 39 ∷ []) ++ 39 ∷ [])
+    moves_then p (modes.Text s within.Plain) (modes.Text s c.0) (modes.Text s within.TwoQuotes) content (39 ∷ 39 ∷ []) kept (kept ++ octets)
+    (((kept ++ octets) ++ 39 ∷ []) ++ 39 ∷ []) c.2
+    (moves_then p (modes.Text s c.0) (modes.Text s within.OneQuote) (modes.Text s within.TwoQuotes) (39 ∷ []) (39 ∷ []) (kept ++ octets)
+    ((kept ++ octets) ++ 39 ∷ []) (((kept ++ octets) ++ 39 ∷ []) ++ 39 ∷ [])
     (moves_one p (modes.Text s c.0) 39 (kept ++ octets) (modes.Text s within.OneQuote) (keeps.One 39) (λ a b. refl) (λ b. ended_quote s c.0 l c.1))
     (moves_one p (modes.Text s within.OneQuote) 39 ((kept ++ octets) ++ 39 ∷ []) (modes.Text s within.TwoQuotes) (keeps.One 39) (λ a b. refl) (λ b. refl)))
 
@@ -175,11 +186,14 @@ opens_long p colon = opens_then p colon (39 ∷ 39 ∷ []) (39 ∷ []) modes.Quo
 long_cut : (content : List ℕ) → (39 ∷ 39 ∷ 39 ∷ (content ++ 39 ∷ 39 ∷ [])) ++ 39 ∷ [] ≡ codes "'''" ++ content ++ codes "'''"
 long_cut content = ap (λ l. 39 ∷ 39 ∷ 39 ∷ l) (append_assoc content (39 ∷ 39 ∷ []) (39 ∷ []))
 
-pub takes_long : (p : Place) (colon : Bool) (content octets r : List ℕ) → IsQuoted styles.LongString content octets → Takes p colon (codes "'''" ++ content ++ codes "'''") r kinds.LongString octets
+pub takes_long : (p : Place) (colon : Bool) (content octets r : List ℕ) → IsQuoted styles.LongString content octets
+    → Takes p colon (codes "'''" ++ content ++ codes "'''") r kinds.LongString octets
 takes_long p colon content octets r q =
     subst (λ l. Takes p colon l r kinds.LongString octets) (long_cut content)
     (subst (λ l. Takes p colon ((39 ∷ 39 ∷ 39 ∷ (content ++ 39 ∷ 39 ∷ [])) ++ 39 ∷ []) r kinds.LongString l) (drops_two octets 39 39)
-    (takes_now p colon (39 ∷ 39 ∷ 39 ∷ (content ++ 39 ∷ 39 ∷ [])) 39 r kinds.LongString (modes.Text styles.LongString within.TwoQuotes) ((octets ++ 39 ∷ []) ++ 39 ∷ []) keeps.DropQuotes (λ s u. refl)
-    (opens_then p colon (39 ∷ 39 ∷ 39 ∷ []) (content ++ 39 ∷ 39 ∷ []) (modes.Text styles.LongString within.Plain) (modes.Text styles.LongString within.TwoQuotes) [] ((octets ++ 39 ∷ []) ++ 39 ∷ []) (opens_long p colon)
+    (takes_now p colon (39 ∷ 39 ∷ 39 ∷ (content ++ 39 ∷ 39 ∷ [])) 39 r kinds.LongString (modes.Text styles.LongString within.TwoQuotes)
+    ((octets ++ 39 ∷ []) ++ 39 ∷ []) keeps.DropQuotes (λ s u. refl)
+    (opens_then p colon (39 ∷ 39 ∷ 39 ∷ []) (content ++ 39 ∷ 39 ∷ []) (modes.Text styles.LongString within.Plain)
+    (modes.Text styles.LongString within.TwoQuotes) [] ((octets ++ 39 ∷ []) ++ 39 ∷ []) (opens_long p colon)
     (long_content p styles.LongString content octets [] refl q))
     (λ b. refl)))

@@ -32,7 +32,8 @@ word_ends o h = ap (λ b. cond b (add modes.Word o) actions.EndWord) h
 
 pub opens_word : (p : Place) (colon : Bool) (w : List ℕ) → IsWord w → Opens p colon w modes.Word w
 opens_word p colon [] h = absurd (false≢true h.0)
-opens_word p colon (o ∷ os) h = opens_then p colon (o ∷ []) os modes.Word modes.Word (o ∷ []) (o ∷ os) (opens_one p colon o modes.Word (keeps.One o) (word_first p colon o h.0))
+opens_word p colon (o ∷ os) h = opens_then p colon (o ∷ []) os modes.Word modes.Word (o ∷ []) (o ∷ os)
+    (opens_one p colon o modes.Word (keeps.One o) (word_first p colon o h.0))
     (moves_each p modes.Word is_word_octet os (o ∷ []) (λ s u. refl) (λ x g c. word_more x g) h.1.1)
 
 -- the octet behind isn't the dot of a typed null
@@ -43,14 +44,16 @@ no_dot w x h = by (x == 46) (bytes_eq w (codes "null")) refl h where
   by true false e g = refl
   by true true e g = g ((bytes_eq-Decides w (codes "null")).0 e)
 
-pub takes_word : (p : Place) (colon : Bool) (w r : List ℕ) → IsWord w → begins is_word_octet r ≡ false → (w ≡ codes "null" → begins (λ o. o == 46) r ≡ false) → Takes p colon w r kinds.Word w
+pub takes_word : (p : Place) (colon : Bool) (w r : List ℕ) → IsWord w → begins is_word_octet r ≡ false → (w ≡ codes "null" → begins (λ o. o == 46) r ≡ false)
+    → Takes p colon w r kinds.Word w
 takes_word p colon w [] h ends dot = takes_end p colon w kinds.Word modes.Word w w (opens_word p colon w h) (λ start used. refl)
 takes_word p colon w (x ∷ r) h ends dot = Later [] x r modes.Blank [] refl resumes_none (λ start used.
     let none : used + length w ≡ (used + length w) + length {A = ℕ} [] = omega arith in
     let s : Known = at modes.Word w colon used (used + length w) in
     opens_word p colon w h start used (x ∷ r)
     ∙ ap (λ a. follow (acts p s x a) (λ t. run p r t)) (word_ends x ends)
-    ∙ ap (λ b. follow (cond b (Next (go_to s modes.KindName [])) (Left (cut s kinds.Word w (used + length w)) (past p kinds.Word modes.Blank [] (used + length w) (used + length w)))) (λ t. run p r t)) (no_dot w x dot)
+    ∙ ap (λ b. follow (cond b (Next (go_to s modes.KindName []))
+    (Left (cut s kinds.Word w (used + length w)) (past p kinds.Word modes.Blank [] (used + length w) (used + length w)))) (λ t. run p r t)) (no_dot w x dot)
     ∙ ap (λ (n : ℕ). Left (lexeme w kinds.Word w used) (past p kinds.Word modes.Blank [] (used + length w) n)) none)
 
 -- the name behind `null.`
@@ -71,14 +74,18 @@ opens_kind p colon name h = opens_then p colon (codes "null.") name modes.KindNa
     (opens_then p colon (codes "null") (46 ∷ []) modes.Word modes.KindName (codes "null") [] (opens_word p colon (codes "null") null_word) (dot_moves p))
     (moves_each p modes.KindName is_word_octet name [] (λ s u. refl) (λ x g c. kind_more x g) h)
 
-pub takes_kind : (p : Place) (colon : Bool) (name r : List ℕ) → Each is_word_octet name → begins is_word_octet r ≡ false → Takes p colon (codes "null." ++ name) r kinds.KindName name
-takes_kind p colon name [] h ends = takes_end p colon (codes "null." ++ name) kinds.KindName modes.KindName name name (opens_kind p colon name h) (λ start used. refl)
-takes_kind p colon name (x ∷ r) h ends = takes_left p colon (codes "null." ++ name) x r kinds.KindName modes.KindName name keeps.Nothing (λ s u. refl) (opens_kind p colon name h) (λ c. kind_ends x ends)
+pub takes_kind : (p : Place) (colon : Bool) (name r : List ℕ) → Each is_word_octet name → begins is_word_octet r ≡ false
+    → Takes p colon (codes "null." ++ name) r kinds.KindName name
+takes_kind p colon name [] h ends = takes_end p colon (codes "null." ++ name) kinds.KindName modes.KindName name name (opens_kind p colon name h)
+    (λ start used. refl)
+takes_kind p colon name (x ∷ r) h ends = takes_left p colon (codes "null." ++ name) x r kinds.KindName modes.KindName name keeps.Nothing (λ s u. refl)
+    (opens_kind p colon name h) (λ c. kind_ends x ends)
 
 -- numbers
 number_more : (o : ℕ) → not (is_stop o || (o == 47)) ≡ true → in_number o ≡ actions.Go modes.Number (keeps.One o)
 number_more o h = by (is_stop o) (o == 47) h where
-  by : (b c : Bool) → not (b || c) ≡ true → cond b (before kinds.Number) (cond c (go modes.NumberSlash) (add modes.Number o)) ≡ actions.Go modes.Number (keeps.One o)
+  by : (b c : Bool) → not (b || c) ≡ true → cond b (before kinds.Number) (cond c (go modes.NumberSlash) (add modes.Number o))
+      ≡ actions.Go modes.Number (keeps.One o)
   by false false h = refl
   by true c h = absurd (false≢true h)
   by false true h = absurd (false≢true h)
@@ -98,10 +105,12 @@ minus_digit p o h = rw h
 digits_move : (p : Place) (os kept : List ℕ) → Each (λ o. not (is_stop o || (o == 47))) os → Moves p modes.Number kept os modes.Number (kept ++ os)
 digits_move p os kept h = moves_each p modes.Number (λ o. not (is_stop o || (o == 47))) os kept (λ s u. refl) (λ x g c. number_more x g) h
 
-pub opens_number : (p : Place) (colon : Bool) (w : List ℕ) → is_name p ≡ false → begins_number w ≡ true → Each (λ o. not (is_stop o || (o == 47))) w → Opens p colon w modes.Number w
+pub opens_number : (p : Place) (colon : Bool) (w : List ℕ) → is_name p ≡ false → begins_number w ≡ true → Each (λ o. not (is_stop o || (o == 47))) w
+    → Opens p colon w modes.Number w
 opens_number p colon [] n b h = absurd (false≢true b)
 opens_number p colon (o ∷ os) n b h = by (is_digit o) refl where
-  signed : (x : ℕ) (rest : List ℕ) → x ≡ 45 → begins is_digit rest ≡ true → Each (λ o. not (is_stop o || (o == 47))) rest → Opens p colon (x ∷ rest) modes.Number (x ∷ rest)
+  signed : (x : ℕ) (rest : List ℕ) → x ≡ 45 → begins is_digit rest ≡ true → Each (λ o. not (is_stop o || (o == 47))) rest
+      → Opens p colon (x ∷ rest) modes.Number (x ∷ rest)
   signed x [] e g k = absurd (false≢true g)
   signed x (d ∷ rest) e g k = subst (λ (y : ℕ). Opens p colon (y ∷ d ∷ rest) modes.Number (y ∷ d ∷ rest)) (sym e)
       (opens_then p colon (45 ∷ d ∷ []) rest modes.Number modes.Number (45 ∷ d ∷ []) (45 ∷ d ∷ rest)
@@ -111,7 +120,8 @@ opens_number p colon (o ∷ os) n b h = by (is_digit o) refl where
       (digits_move p rest (45 ∷ d ∷ []) k.1))
 
   by : (c : Bool) → is_digit o ≡ c → Opens p colon (o ∷ os) modes.Number (o ∷ os)
-  by true e = opens_then p colon (o ∷ []) os modes.Number modes.Number (o ∷ []) (o ∷ os) (opens_one p colon o modes.Number (keeps.One o) (digit_first p colon o n e)) (digits_move p os (o ∷ []) h.1)
+  by true e = opens_then p colon (o ∷ []) os modes.Number modes.Number (o ∷ []) (o ∷ os)
+      (opens_one p colon o modes.Number (keeps.One o) (digit_first p colon o n e)) (digits_move p os (o ∷ []) h.1)
   by false e =
       let both : ((o == 45) && begins is_digit os) ≡ true = sym (ap (λ c. c || ((o == 45) && begins is_digit os)) e) ∙ b in
       signed o os (minus (o == 45) (begins is_digit os) refl both) (rest (o == 45) (begins is_digit os) both) h.1
@@ -135,14 +145,16 @@ pub resumes_slash : Resumes (47 ∷ []) modes.Slash []
 resumes_slash p colon end = refl
 
 -- the slash of a comment was taken up already
-pub takes_before_slash : (p : Place) (colon : Bool) (w : List ℕ) (x : ℕ) (r : List ℕ) (kind : TokenKind) (m : Mode) (kept : List ℕ) → Stays m → Opens p colon (w ++ 47 ∷ []) m kept → ((c : Bool) → next p c m x ≡ actions.Before kind keeps.Nothing modes.Slash) → Takes p colon w (47 ∷ x ∷ r) kind kept
+pub takes_before_slash : (p : Place) (colon : Bool) (w : List ℕ) (x : ℕ) (r : List ℕ) (kind : TokenKind) (m : Mode) (kept : List ℕ) → Stays m
+    → Opens p colon (w ++ 47 ∷ []) m kept → ((c : Bool) → next p c m x ≡ actions.Before kind keeps.Nothing modes.Slash) → Takes p colon w (47 ∷ x ∷ r) kind kept
 takes_before_slash p colon w x r kind m kept stays f e = Later (47 ∷ []) x r modes.Slash [] refl resumes_slash (λ start used.
     let longer : used + length (w ++ 47 ∷ []) ≡ (used + length w) + 1 = omega (arith, length-append w (47 ∷ [])) in
     let one : ((used + length w) + 1) - 1 ≡ used + length w = omega arith in
     ap (λ os. run p os (blank colon start used)) (sym (append_assoc w (47 ∷ []) (x ∷ r))) ∙ f start used (x ∷ r)
     ∙ ap (λ (n : ℕ). run p (x ∷ r) (at m kept colon used n)) longer
     ∙ ap (λ a. follow (acts p (at m kept colon used ((used + length w) + 1)) x a) (λ t. run p r t)) (e colon)
-    ∙ ap (λ (n : ℕ). Left (record { start = n; end = ((used + length w) + 1) - 1; kind = kind; octets = kept }) (past p kind modes.Slash [] (((used + length w) + 1) - 1) ((used + length w) + 1))) (stays used ((used + length w) + 1))
+    ∙ ap (λ (n : ℕ). Left (record { start = n; end = ((used + length w) + 1) - 1; kind = kind; octets = kept })
+    (past p kind modes.Slash [] (((used + length w) + 1) - 1) ((used + length w) + 1))) (stays used ((used + length w) + 1))
     ∙ ap (λ (n : ℕ). Left (record { start = used; end = n; kind = kind; octets = kept }) (past p kind modes.Slash [] n ((used + length w) + 1))) one)
 
 pub takes_number : (p : Place) (colon : Bool) (w r : List ℕ) → is_name p ≡ false → IsNumeric w r → Takes p colon w r kinds.Number w
@@ -173,11 +185,16 @@ takes_number p colon w (x ∷ r) n h = ⊎_elim (λ e. cc) (λ e. ⊎_elim stop 
 mark_one : (p : Place) (colon : Bool) (o : ℕ) (m : Mark) (r : List ℕ) → in_blank p colon o ≡ give m → Takes p colon (o ∷ []) r (kinds.Mark m) []
 mark_one p colon o m r e = Now (λ start used. ap (λ a. follow (acts p (blank colon start used) o a) (λ t. run p r t)) e)
 
-value_mark : (p : Place) (colon : Bool) (o : ℕ) (m : Mark) (r : List ℕ) → is_name p ≡ false → ((o ≡ 91) × (m ≡ marks.ListOpen)) ⊎ (((o ≡ 93) × (m ≡ marks.ListClose)) ⊎ (((o ≡ 40) × (m ≡ marks.SexpOpen)) ⊎ ((o ≡ 41) × (m ≡ marks.SexpClose)))) → in_blank p colon o ≡ give m
-value_mark p colon o m r n (inl e) = subst (λ x. in_blank p colon o ≡ give x) (sym e.1) (subst (λ (x : ℕ). in_blank p colon x ≡ give marks.ListOpen) (sym e.0) (rw n))
-value_mark p colon o m r n (inr (inl e)) = subst (λ x. in_blank p colon o ≡ give x) (sym e.1) (subst (λ (x : ℕ). in_blank p colon x ≡ give marks.ListClose) (sym e.0) (rw n))
-value_mark p colon o m r n (inr (inr (inl e))) = subst (λ x. in_blank p colon o ≡ give x) (sym e.1) (subst (λ (x : ℕ). in_blank p colon x ≡ give marks.SexpOpen) (sym e.0) (rw n))
-value_mark p colon o m r n (inr (inr (inr e))) = subst (λ x. in_blank p colon o ≡ give x) (sym e.1) (subst (λ (x : ℕ). in_blank p colon x ≡ give marks.SexpClose) (sym e.0) (rw n))
+value_mark : (p : Place) (colon : Bool) (o : ℕ) (m : Mark) (r : List ℕ) → is_name p ≡ false → ((o ≡ 91) × (m ≡ marks.ListOpen))
+    ⊎ (((o ≡ 93) × (m ≡ marks.ListClose)) ⊎ (((o ≡ 40) × (m ≡ marks.SexpOpen)) ⊎ ((o ≡ 41) × (m ≡ marks.SexpClose)))) → in_blank p colon o ≡ give m
+value_mark p colon o m r n (inl e) = subst (λ x. in_blank p colon o ≡ give x) (sym e.1)
+    (subst (λ (x : ℕ). in_blank p colon x ≡ give marks.ListOpen) (sym e.0) (rw n))
+value_mark p colon o m r n (inr (inl e)) = subst (λ x. in_blank p colon o ≡ give x) (sym e.1)
+    (subst (λ (x : ℕ). in_blank p colon x ≡ give marks.ListClose) (sym e.0) (rw n))
+value_mark p colon o m r n (inr (inr (inl e))) = subst (λ x. in_blank p colon o ≡ give x) (sym e.1)
+    (subst (λ (x : ℕ). in_blank p colon x ≡ give marks.SexpOpen) (sym e.0) (rw n))
+value_mark p colon o m r n (inr (inr (inr e))) = subst (λ x. in_blank p colon o ≡ give x) (sym e.1)
+    (subst (λ (x : ℕ). in_blank p colon x ≡ give marks.SexpClose) (sym e.0) (rw n))
 
 brace_first : (p : Place) (colon : Bool) → is_name p ≡ false → in_blank p colon 123 ≡ actions.Go modes.Brace keeps.Nothing
 brace_first p colon n = rw n
@@ -191,15 +208,19 @@ colon_first p colon c = rw c
 pub opens_colon : (p : Place) (colon : Bool) → colon ≡ true → Opens p colon (58 ∷ []) modes.Colon []
 opens_colon p colon c = opens_one p colon 58 modes.Colon keeps.Nothing (colon_first p colon c)
 
-pub brace_ends : (x : ℕ) → (x == 123) ≡ false → (c : Bool) (p : Place) → next p c modes.Brace x ≡ actions.Before (kinds.Mark marks.FieldsOpen) keeps.Nothing modes.Blank
+pub brace_ends : (x : ℕ) → (x == 123) ≡ false → (c : Bool) (p : Place) → next p c modes.Brace x ≡ actions.Before (kinds.Mark marks.FieldsOpen) keeps.Nothing
+    modes.Blank
 brace_ends x h c p = rw h
 
-pub colon_ends : (x : ℕ) → (x == 58) ≡ false → (c : Bool) (p : Place) → next p c modes.Colon x ≡ actions.Before (kinds.Mark marks.Colon) keeps.Nothing modes.Blank
+pub colon_ends : (x : ℕ) → (x == 58) ≡ false → (c : Bool) (p : Place) → next p c modes.Colon x ≡ actions.Before (kinds.Mark marks.Colon) keeps.Nothing
+    modes.Blank
 colon_ends x h c p = rw h
 
 pub takes_mark : (p : Place) (colon : Bool) (m : Mark) (r : List ℕ) → MarkStands p colon m → MarkEnds m r → Takes p colon (mark_spelling m) r (kinds.Mark m) []
-takes_mark p colon marks.FieldsOpen [] s e = takes_end p colon (123 ∷ []) (kinds.Mark marks.FieldsOpen) modes.Brace [] [] (opens_brace p colon s) (λ start used. refl)
-takes_mark p colon marks.FieldsOpen (x ∷ r) s e = takes_left p colon (123 ∷ []) x r (kinds.Mark marks.FieldsOpen) modes.Brace [] keeps.Nothing (λ s u. refl) (opens_brace p colon s) (λ c. brace_ends x e c p)
+takes_mark p colon marks.FieldsOpen [] s e = takes_end p colon (123 ∷ []) (kinds.Mark marks.FieldsOpen) modes.Brace [] [] (opens_brace p colon s)
+    (λ start used. refl)
+takes_mark p colon marks.FieldsOpen (x ∷ r) s e = takes_left p colon (123 ∷ []) x r (kinds.Mark marks.FieldsOpen) modes.Brace [] keeps.Nothing (λ s u. refl)
+    (opens_brace p colon s) (λ c. brace_ends x e c p)
 takes_mark p colon marks.FieldsClose r s e = mark_one p colon 125 marks.FieldsClose r refl
 takes_mark p colon marks.ListOpen r s e = mark_one p colon 91 marks.ListOpen r (value_mark p colon 91 marks.ListOpen r s (inl (refl, refl)))
 takes_mark p colon marks.ListClose r s e = mark_one p colon 93 marks.ListClose r (value_mark p colon 93 marks.ListClose r s (inr (inl (refl, refl))))
@@ -207,5 +228,7 @@ takes_mark p colon marks.SexpOpen r s e = mark_one p colon 40 marks.SexpOpen r (
 takes_mark p colon marks.SexpClose r s e = mark_one p colon 41 marks.SexpClose r (value_mark p colon 41 marks.SexpClose r s (inr (inr (inr (refl, refl)))))
 takes_mark p colon marks.Comma r s e = mark_one p colon 44 marks.Comma r refl
 takes_mark p colon marks.Colon [] s e = takes_end p colon (58 ∷ []) (kinds.Mark marks.Colon) modes.Colon [] [] (opens_colon p colon s) (λ start used. refl)
-takes_mark p colon marks.Colon (x ∷ r) s e = takes_left p colon (58 ∷ []) x r (kinds.Mark marks.Colon) modes.Colon [] keeps.Nothing (λ s u. refl) (opens_colon p colon s) (λ c. colon_ends x e c p)
-takes_mark p colon marks.Colons r s e = takes_now p colon (58 ∷ []) 58 r (kinds.Mark marks.Colons) modes.Colon [] keeps.Nothing (λ s u. refl) (opens_colon p colon s) (λ c. refl)
+takes_mark p colon marks.Colon (x ∷ r) s e = takes_left p colon (58 ∷ []) x r (kinds.Mark marks.Colon) modes.Colon [] keeps.Nothing (λ s u. refl)
+    (opens_colon p colon s) (λ c. colon_ends x e c p)
+takes_mark p colon marks.Colons r s e = takes_now p colon (58 ∷ []) 58 r (kinds.Mark marks.Colons) modes.Colon [] keeps.Nothing (λ s u. refl)
+    (opens_colon p colon s) (λ c. refl)

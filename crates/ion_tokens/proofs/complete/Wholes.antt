@@ -78,19 +78,23 @@ piece_first (White o) more h = no_letter o h where
 piece_first (LineComment os o) more h = refl
 piece_first (BlockComment os) more h = refl
 
-pieces_first : (bs : List BlankPiece) (more : List ℕ) → AllByRecursion IsBlankPiece bs → begins begins_word more ≡ false → begins begins_word (flat_map blank_spelling bs ++ more) ≡ false
+pieces_first : (bs : List BlankPiece) (more : List ℕ) → AllByRecursion IsBlankPiece bs → begins begins_word more ≡ false
+    → begins begins_word (flat_map blank_spelling bs ++ more) ≡ false
 pieces_first [] more h e = e
-pieces_first (b ∷ bs) more h e = subst (λ l. begins begins_word l ≡ false) (sym (append_assoc (blank_spelling b) (flat_map blank_spelling bs) more)) (piece_first b (flat_map blank_spelling bs ++ more) h.0)
+pieces_first (b ∷ bs) more h e = subst (λ l. begins begins_word l ≡ false) (sym (append_assoc (blank_spelling b) (flat_map blank_spelling bs) more))
+    (piece_first b (flat_map blank_spelling bs ++ more) h.0)
 
 blank_first : (w more : List ℕ) → IsBlank w → begins begins_word more ≡ false → begins begins_word (w ++ more) ≡ false
 blank_first w more b e = subst (λ l. begins begins_word (l ++ more) ≡ false) (sym b.spelled) (pieces_first b.pieces more b.each e)
 
 pub no_word : (w : List ℕ) → IsLastBlank w → begins begins_word w ≡ true → ⊥
 no_word w (inl b) h = true≢false (sym h ∙ ap (begins begins_word) (sym (append-nil w)) ∙ blank_first w [] b refl)
-no_word w (inr c) h = true≢false (sym h ∙ ap (begins begins_word) (c.cut ∙ append_assoc c.front (codes "//") c.octets) ∙ blank_first c.front (codes "//" ++ c.octets) c.blank refl)
+no_word w (inr c) h = true≢false (sym h ∙ ap (begins begins_word) (c.cut ∙ append_assoc c.front (codes "//") c.octets)
+    ∙ blank_first c.front (codes "//" ++ c.octets) c.blank refl)
 
 -- what is left behind a token, some octets before which were taken up already
-left_over : (ahead rest front r : List ℕ) (used now k : ℕ) → ahead ++ rest ≡ front ++ r → used ≡ k + length ahead → now ≡ k + length front → used ≤ now → drop (now - used) rest ≡ r
+left_over : (ahead rest front r : List ℕ) (used now k : ℕ) → ahead ++ rest ≡ front ++ r → used ≡ k + length ahead → now ≡ k + length front → used ≤ now
+    → drop (now - used) rest ≡ r
 left_over ahead rest front r used now k e f g h =
     let n : ℕ = now - used in
     let size : length ahead + n ≡ length front = omega arith in
@@ -102,16 +106,20 @@ module _ (colon : Bool) (k : ℕ) (ahead rest : List ℕ) (s : Known) (reached :
 
   -- the run goes on from where it stands as from the blank
   pub goes_on : (p : Place) (octets : List ℕ) (x : Outcome) → octets ≡ ahead ++ rest → run p octets (at modes.Blank [] colon k k) ≡ x → run p rest s ≡ x
-  goes_on p octets x e h = sym (run_behind p ahead rest (at modes.Blank [] colon k k) s (reached p)) ∙ ap (λ l. run p l (at modes.Blank [] colon k k)) (sym e) ∙ h
+  goes_on p octets x e h = sym (run_behind p ahead rest (at modes.Blank [] colon k k) s (reached p)) ∙ ap (λ l. run p l (at modes.Blank [] colon k k)) (sym e)
+      ∙ h
 
 -- the tokens found from a blank with octets ahead
 abbrev pub FindsFrom : (Bool → ℕ → List ℕ → Type 0) → (Known → List ℕ → Type 0) → Type 0 → List Placed → Type 0
-FindsFrom End Rests Bare ts = (colon : Bool) (k : ℕ) (octets ahead rest : List ℕ) (s : Known) → LexesBefore End colon k octets ts → octets ≡ ahead ++ rest → ((p : Place) → run p ahead (at modes.Blank [] colon k k) ≡ Next s) → FindsUpTo Rests Bare s rest ts
+FindsFrom End Rests Bare ts = (colon : Bool) (k : ℕ) (octets ahead rest : List ℕ) (s : Known) → LexesBefore End colon k octets ts → octets ≡ ahead ++ rest
+    → ((p : Place) → run p ahead (at modes.Blank [] colon k k) ≡ Next s) → FindsUpTo Rests Bare s rest ts
 
-module _ (End : Bool → ℕ → List ℕ → Type 0) (Rests : Known → List ℕ → Type 0) (Bare : Type 0) (bare : (colon : Bool) (before : ℕ) (octets : List ℕ) → End colon before octets → begins begins_word octets ≡ true → Bare) where
+module _ (End : Bool → ℕ → List ℕ → Type 0) (Rests : Known → List ℕ → Type 0) (Bare : Type 0) (bare : (colon : Bool) (before : ℕ) (octets : List ℕ)
+    → End colon before octets → begins begins_word octets ≡ true → Bare) where
   pub find_token : (t : Placed) (ts : List Placed) → FindsFrom End Rests Bare ts → FindsFrom End Rests Bare (t ∷ ts)
   find_token t ts more colon k octets ahead rest s (r, b, lexes) e reached =
-      by t.lexeme.kind t.lexeme.octets (same_lexeme t.lexeme b.token (k + length b.blank) b.start b.end) (takes_lexeme t.place colon b.token r t.lexeme.kind t.lexeme.octets b.is) refl
+      by t.lexeme.kind t.lexeme.octets (same_lexeme t.lexeme b.token (k + length b.blank) b.start b.end)
+      (takes_lexeme t.place colon b.token r t.lexeme.kind t.lexeme.octets b.is) refl
     where
       passed : (now : ℕ) × ((r : List ℕ) → run t.place (b.blank ++ r) (at modes.Blank [] colon k k) ≡ run t.place r (blank colon now (k + length b.blank)))
       passed = passes_blank t.place colon b.blank b.is_blank k k
@@ -123,7 +131,8 @@ module _ (End : Bool → ℕ → List ℕ → Type 0) (Rests : Known → List �
       start = passed.0
 
       from_blank : (x : Outcome) → ((start : ℕ) → run t.place (b.token ++ r) (blank colon start (k + length b.blank)) ≡ x) → run t.place rest s ≡ x
-      from_blank x h = goes_on colon k ahead rest s reached t.place octets x e (ap (λ l. run t.place l (at modes.Blank [] colon k k)) (b.cut ∙ append_assoc b.blank b.token r) ∙ passed.1 (b.token ++ r) ∙ h passed.0)
+      from_blank x h = goes_on colon k ahead rest s reached t.place octets x e
+          (ap (λ l. run t.place l (at modes.Blank [] colon k k)) (b.cut ∙ append_assoc b.blank b.token r) ∙ passed.1 (b.token ++ r) ∙ h passed.0)
 
       end_is : (k + length b.blank) + length b.token ≡ t.lexeme.end
       end_is = sym b.end
@@ -132,38 +141,52 @@ module _ (End : Bool → ℕ → List ℕ → Type 0) (Rests : Known → List �
       behind : (kind : TokenKind) → kind ≡ t.lexeme.kind → (q : Place) (ahead' : List ℕ) (x : Outcome)
           → run q ahead' (at modes.Blank [] (takes_colon t.place kind) ((k + length b.blank) + length b.token) ((k + length b.blank) + length b.token)) ≡ x
           → run q ahead' (at modes.Blank [] (colon_behind t) t.lexeme.end t.lexeme.end) ≡ x
-      behind kind f q ahead' x h = ap (λ (i : ℕ). run q ahead' (at modes.Blank [] (colon_behind t) i i)) b.end ∙ ap (λ k'. run q ahead' (at modes.Blank [] (takes_colon t.place k') ((k + length b.blank) + length b.token) ((k + length b.blank) + length b.token))) (sym f) ∙ h
+      behind kind f q ahead' x h = ap (λ (i : ℕ). run q ahead' (at modes.Blank [] (colon_behind t) i i)) b.end
+          ∙ ap (λ k'. run q ahead' (at modes.Blank [] (takes_colon t.place k') ((k + length b.blank) + length b.token) ((k + length b.blank) + length b.token)))
+          (sym f) ∙ h
 
-      by : (kind : TokenKind) (kept : List ℕ) → t.lexeme ≡ lexeme b.token kind kept (k + length b.blank) → Takes t.place colon b.token r kind kept → kind ≡ t.lexeme.kind → FindsUpTo Rests Bare s rest (t ∷ ts)
+      by : (kind : TokenKind) (kept : List ℕ) → t.lexeme ≡ lexeme b.token kind kept (k + length b.blank) → Takes t.place colon b.token r kind kept
+          → kind ≡ t.lexeme.kind → FindsUpTo Rests Bare s rest (t ∷ ts)
       by kind kept same (Now f) f' =
           let end : ℕ = (k + length b.blank) + length b.token in
           let s' : Known = past t.place kind modes.Blank [] end end in
-          let found : run t.place rest s ≡ Given t.lexeme s' = from_blank (Given t.lexeme s') (λ start. f start (k + length b.blank) ∙ ap (λ l. Given l s') (sym same)) in
+          let found : run t.place rest s ≡ Given t.lexeme s' = from_blank (Given t.lexeme s')
+          (λ start. f start (k + length b.blank) ∙ ap (λ l. Given l s') (sym same)) in
           let less = given_used t.place rest s s' t.lexeme (sym found) in
-          let over : drop (end - s.used) rest ≡ r = left_over ahead rest (b.blank ++ b.token) r s.used end k (sym e ∙ b.cut) (used_is colon k ahead rest s reached t.place) (sym size) (omega (arith, less.0)) in
+          let over : drop (end - s.used) rest ≡ r = left_over ahead rest (b.blank ++ b.token) r s.used end k (sym e ∙ b.cut)
+          (used_is colon k ahead rest s reached t.place) (sym size) (omega (arith, less.0)) in
           Gives s rest t ts s' found (subst (λ l. FindsUpTo Rests Bare s' l ts) (sym over)
           (more (colon_behind t) t.lexeme.end r [] r s' lexes refl (λ q. behind kind f' q [] (Next s') refl)))
       by kind kept same (Later ahead' x rest' m k' cut resumes f) f' =
           let end : ℕ = (k + length b.blank) + length b.token in
           let now : ℕ = end + length ahead' in
           let s' : Known = past t.place kind m k' end now in
-          let found : run t.place rest s ≡ Left t.lexeme s' = from_blank (Left t.lexeme s') (λ start. f start (k + length b.blank) ∙ ap (λ l. Left l s') (sym same)) in
+          let found : run t.place rest s ≡ Left t.lexeme s' = from_blank (Left t.lexeme s')
+          (λ start. f start (k + length b.blank) ∙ ap (λ l. Left l s') (sym same)) in
           let less = left_used t.place rest s s' t.lexeme (sym found) in
-          let whole : ahead ++ rest ≡ ((b.blank ++ b.token) ++ ahead') ++ x ∷ rest' = sym e ∙ b.cut ∙ ap (λ l. (b.blank ++ b.token) ++ l) cut ∙ sym (append_assoc (b.blank ++ b.token) ahead' (x ∷ rest')) in
+          let whole : ahead ++ rest ≡ ((b.blank ++ b.token) ++ ahead') ++ x ∷ rest' = sym e ∙ b.cut ∙ ap (λ l. (b.blank ++ b.token) ++ l) cut
+          ∙ sym (append_assoc (b.blank ++ b.token) ahead' (x ∷ rest')) in
           let longer : now ≡ k + length ((b.blank ++ b.token) ++ ahead') = omega (arith, size, length-append (b.blank ++ b.token) ahead') in
-          let over : drop (now - s.used) rest ≡ x ∷ rest' = left_over ahead rest ((b.blank ++ b.token) ++ ahead') (x ∷ rest') s.used now k whole (used_is colon k ahead rest s reached t.place) longer (omega (arith, less.0)) in
+          let over : drop (now - s.used) rest ≡ x ∷ rest' = left_over ahead rest ((b.blank ++ b.token) ++ ahead') (x ∷ rest') s.used now k whole
+          (used_is colon k ahead rest s reached t.place) longer (omega (arith, less.0)) in
           Leaves s rest t ts s' found (subst (λ l. FindsUpTo Rests Bare s' l ts) (sym over)
-          (more (colon_behind t) t.lexeme.end r ahead' (x ∷ rest') s' lexes cut (λ q. behind kind f' q ahead' (Next s') (resumes q (takes_colon t.place kind) end))))
+          (more (colon_behind t) t.lexeme.end r ahead' (x ∷ rest') s' lexes cut
+          (λ q. behind kind f' q ahead' (Next s') (resumes q (takes_colon t.place kind) end))))
       by kind kept same (AtEnd none f) f' =
           let ended = f start (k + length b.blank) in
           let last : ts ≡ [] = all_found End (colon_behind t) t.lexeme.end ts (subst (λ l. LexesBefore End (colon_behind t) t.lexeme.end l ts) none lexes) in
-          let found : run t.place rest s ≡ Next ended.0 = goes_on colon k ahead rest s reached t.place octets (Next ended.0) e (ap (λ l. run t.place l (at modes.Blank [] colon k k)) (b.cut ∙ append_assoc b.blank b.token r) ∙ passed.1 (b.token ++ r) ∙ ended.1) in
+          let found : run t.place rest s ≡ Next ended.0 = goes_on colon k ahead rest s reached t.place octets (Next ended.0) e
+          (ap (λ l. run t.place l (at modes.Blank [] colon k k)) (b.cut ∙ append_assoc b.blank b.token r) ∙ passed.1 (b.token ++ r) ∙ ended.1) in
           subst (λ l. FindsUpTo Rests Bare s rest (t ∷ l)) (sym last) (Last s rest t ended.0 found (ended.2 ∙ ap (λ l. Ok (Some l)) (sym same)))
       by kind kept same (Open some operator resumes f) f' =
           let ended = f start (k + length b.blank) in
-          let found : run t.place rest s ≡ Next ended.0 = goes_on colon k ahead rest s reached t.place octets (Next ended.0) e (ap (λ l. run t.place l (at modes.Blank [] colon k k)) (b.cut ∙ append_assoc b.blank b.token r) ∙ passed.1 (b.token ++ r) ∙ ended.2) in
+          let found : run t.place rest s ≡ Next ended.0 = goes_on colon k ahead rest s reached t.place octets (Next ended.0) e
+          (ap (λ l. run t.place l (at modes.Blank [] colon k k)) (b.cut ∙ append_assoc b.blank b.token r) ∙ passed.1 (b.token ++ r) ∙ ended.2) in
           let used = next_used t.place (b.token ++ r) (blank colon start (k + length b.blank)) ended.0 (sym ended.2) in
           let all : t.lexeme.end + length r ≡ ended.0.used = omega (arith, used, b.end, length-append b.token r) in
-          let word = more (colon_behind t) t.lexeme.end r r [] (in_word r (colon_behind t) t.lexeme.end (t.lexeme.end + length r)) lexes (sym (append-nil r)) (λ q. resumes q (colon_behind t) t.lexeme.end) in
-          Unclosed s rest t ts ended.0 (colon_behind t) r (λ none. bare (colon_behind t) t.lexeme.end r (subst (λ x. LexesBefore End (colon_behind t) t.lexeme.end r x) none lexes) some) found ended.3 (b.start ∙ sym ended.1) (sym f' ∙ operator)
+          let word = more (colon_behind t) t.lexeme.end r r [] (in_word r (colon_behind t) t.lexeme.end (t.lexeme.end + length r)) lexes (sym (append-nil r))
+          (λ q. resumes q (colon_behind t) t.lexeme.end) in
+          Unclosed s rest t ts ended.0 (colon_behind t) r (λ none.
+          bare (colon_behind t) t.lexeme.end r (subst (λ x. LexesBefore End (colon_behind t) t.lexeme.end r x) none lexes) some) found ended.3
+          (b.start ∙ sym ended.1) (sym f' ∙ operator)
           (subst (λ (n : ℕ). FindsUpTo Rests Bare (in_word r (colon_behind t) t.lexeme.end n) [] ts) all word)

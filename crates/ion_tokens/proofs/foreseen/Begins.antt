@@ -42,7 +42,11 @@ use Rattle.ion_tokens.proofs.foreseen.Reaches.{Reaches, run_reaches, begun_stays
 
 -- what doesn't begin with a quote
 other_if : (f : List ℕ → Bool) (w : List ℕ) → f w ≡ true → ((x : List ℕ) → f (39 ∷ x) ≡ false) → IsForm forms.Other w
-other_if f w h n = (λ e. true≢false (sym h ∙ ap f e ∙ n []), λ e. true≢false (sym h ∙ ap f e ∙ n (39 ∷ [])), λ part e. true≢false (sym h ∙ ap f e ∙ n (39 ∷ 39 ∷ part)))
+other_if f w h n = (
+  λ e. true≢false (sym h ∙ ap f e ∙ n []),
+  λ e. true≢false (sym h ∙ ap f e ∙ n (39 ∷ [])),
+  λ part e. true≢false (sym h ∙ ap f e ∙ n (39 ∷ 39 ∷ part)),
+)
 
 no_quote : ℕ → Bool
 no_quote o = not (o == 39)
@@ -64,7 +68,11 @@ number_begins (o ∷ os) h = first o (begins is_digit os) h where
 
 symbol_form : (part w : List ℕ) → w ≡ 39 ∷ part → begins no_quote part ≡ true → IsForm forms.Other w
 unfolding no_quote
-symbol_form part w e n = (λ f. true≢false (sym n ∙ ap (begins (λ o. not (o == 39))) (tail [] f)), λ f. true≢false (sym n ∙ ap (begins (λ o. not (o == 39))) (tail (39 ∷ []) f)), λ x f. true≢false (sym n ∙ ap (begins (λ o. not (o == 39))) (tail (39 ∷ 39 ∷ x) f))) where
+symbol_form part w e n = (
+  λ f. true≢false (sym n ∙ ap (begins (λ o. not (o == 39))) (tail [] f)),
+  λ f. true≢false (sym n ∙ ap (begins (λ o. not (o == 39))) (tail (39 ∷ []) f)),
+  λ x f. true≢false (sym n ∙ ap (begins (λ o. not (o == 39))) (tail (39 ∷ 39 ∷ x) f)),
+) where
   tail : (x : List ℕ) → w ≡ 39 ∷ x → part ≡ x
   tail x f = ap (λ l. drop 1 l) (sym e ∙ f)
 
@@ -73,17 +81,23 @@ unfolding no_quote
 form_is p colon modes.Word w kept (e, h) i = other_if (begins begins_word) w h.0 (λ x. refl)
 form_is p colon modes.KindName w kept (e, h) i = other_if (begins (λ o. o == 110)) w (ap (begins (λ o. o == 110)) e) (λ x. refl)
 form_is p colon modes.Number w kept (e, n) i = other_if begins_number w n.begun (λ x. refl)
-form_is p colon modes.NumberSlash w kept (e, n) i = other_if (begins no_quote) w (ap (begins no_quote) e ∙ begins_longer no_quote kept (47 ∷ []) (number_begins kept n.begun)) (λ x. refl)
+form_is p colon modes.NumberSlash w kept (e, n) i = other_if (begins no_quote) w
+    (ap (begins no_quote) e ∙ begins_longer no_quote kept (47 ∷ []) (number_begins kept n.begun)) (λ x. refl)
 form_is p colon (modes.Operator x) w kept (e, n, h, s) i = other_if (begins is_operator_octet) w (run_begins w h) (λ x. refl)
-form_is p colon modes.OperatorSlash w kept (e, s, h) i = other_if (begins is_operator_octet) w (ap (begins is_operator_octet) e ∙ begins_longer is_operator_octet kept (47 ∷ []) (run_begins kept h)) (λ x. refl)
-form_is p colon (modes.Infinity n) w kept (e, h, a, b) i = other_if (begins is_operator_octet) w (ap (begins is_operator_octet) e ∙ begins_longer is_operator_octet kept (take n (codes "inf")) (run_begins kept h)) (λ x. refl)
+form_is p colon modes.OperatorSlash w kept (e, s, h) i =
+    other_if (begins is_operator_octet) w (ap (begins is_operator_octet) e ∙ begins_longer is_operator_octet kept (47 ∷ []) (run_begins kept h)) (λ x. refl)
+form_is p colon (modes.Infinity n) w kept (e, h, a, b) i =
+    other_if (begins is_operator_octet) w (ap (begins is_operator_octet) e ∙ begins_longer is_operator_octet kept (take n (codes "inf")) (run_begins kept h))
+    (λ x. refl)
 form_is p colon modes.Quote w kept (e, k) i = inl e
 form_is p colon modes.Quotes w kept (e, k) i = inr e
 form_is p colon (modes.Text styles.ShortString v) w kept (part, h, e) i = other_if (begins (λ o. o == 34)) w (ap (begins (λ o. o == 34)) e) (λ x. refl)
 form_is p colon (modes.Text styles.QuotedSymbol v) w kept (part, h, e, n) i = symbol_form part w e n
 form_is p colon (modes.Text styles.LongString v) w kept (part, h, e) i = (part, e)
-form_is p colon (modes.Text styles.ShortClob v) w kept (n, before, part, b, h, e) i = other_if (begins (λ o. o == 123)) w (ap (begins (λ o. o == 123)) e) (λ x. refl)
-form_is p colon (modes.Text styles.LongClob v) w kept (n, front, kept', part, q, f, h, e, k) i = other_if (begins (λ o. o == 123)) w (ap (begins (λ o. o == 123)) e) (λ x. refl)
+form_is p colon (modes.Text styles.ShortClob v) w kept (n, before, part, b, h, e) i =
+    other_if (begins (λ o. o == 123)) w (ap (begins (λ o. o == 123)) e) (λ x. refl)
+form_is p colon (modes.Text styles.LongClob v) w kept (n, front, kept', part, q, f, h, e, k) i =
+    other_if (begins (λ o. o == 123)) w (ap (begins (λ o. o == 123)) e) (λ x. refl)
 form_is p colon modes.Brace w kept (e, k, n) i = other_if (begins (λ o. o == 123)) w (ap (begins (λ o. o == 123)) e) (λ x. refl)
 form_is p colon (modes.Lob l) w kept (n, inside, e, h) i = other_if (begins (λ o. o == 123)) w (ap (begins (λ o. o == 123)) e) (λ x. refl)
 form_is p colon modes.Colon w kept h i = cc
@@ -94,7 +108,8 @@ form_is p colon modes.BlockComment w kept h i = absurd h
 form_is p colon modes.BlockCommentStar w kept h i = absurd h
 
 -- a / at the end of the token may open a comment
-slash_behind : (p : Place) (colon : Bool) (m : Mode) (w kept : List ℕ) → IsOpen p colon m w kept → (behind m ≡ 0) ⊎ ((behind m ≡ 1) × (front : List ℕ) × (w ≡ front ++ codes "/"))
+slash_behind : (p : Place) (colon : Bool) (m : Mode) (w kept : List ℕ) → IsOpen p colon m w kept → (behind m ≡ 0)
+    ⊎ ((behind m ≡ 1) × (front : List ℕ) × (w ≡ front ++ codes "/"))
 slash_behind p colon modes.NumberSlash w kept (e, n) = inr (refl, kept, e)
 slash_behind p colon modes.OperatorSlash w kept (e, s, h) = inr (refl, kept, e)
 slash_behind p colon modes.Word w kept h = inl refl
@@ -115,7 +130,8 @@ slash_behind p colon modes.BlockComment w kept h = inl refl
 slash_behind p colon modes.BlockCommentStar w kept h = inl refl
 
 -- a token has begun
-open_token : (p : Place) (colon : Bool) (k : ℕ) (m : Mode) (kept : List ℕ) (start : ℕ) (since : List ℕ) → is_idle m ≡ false → InMode p colon k m kept start since → IsBegun p colon k m kept start since
+open_token : (p : Place) (colon : Bool) (k : ℕ) (m : Mode) (kept : List ℕ) (start : ℕ) (since : List ℕ) → is_idle m ≡ false
+    → InMode p colon k m kept start since → IsBegun p colon k m kept start since
 open_token p colon k modes.Word kept start since i h = h
 open_token p colon k modes.KindName kept start since i h = h
 open_token p colon k modes.Number kept start since i h = h
@@ -136,17 +152,29 @@ open_token p colon k modes.BlockComment kept start since i h = cc
 open_token p colon k modes.BlockCommentStar kept start since i h = cc
 
 block_closes : (since front octets : List ℕ) → since ≡ front ++ codes "/*" ++ octets → since ++ codes "*/" ≡ front ++ (codes "/*" ++ octets ++ codes "*/")
-block_closes since front octets e = ap (λ l. l ++ codes "*/") e ∙ append_assoc (front ++ codes "/*") octets (codes "*/") ∙ append_assoc front (codes "/*") (octets ++ codes "*/")
+block_closes since front octets e = ap (λ l. l ++ codes "*/") e ∙ append_assoc (front ++ codes "/*") octets (codes "*/")
+    ∙ append_assoc front (codes "/*") (octets ++ codes "*/")
 
 -- no token has begun
-none_begun : (p : Place) (u : List ℕ) (ts : List Placed) (colon : Bool) (k : ℕ) (m : Mode) (kept : List ℕ) (start : ℕ) (since : List ℕ) → is_idle m ≡ true → InMode p colon k m kept start since → BegunSo p u ts colon k since None
+none_begun : (p : Place) (u : List ℕ) (ts : List Placed) (colon : Bool) (k : ℕ) (m : Mode) (kept : List ℕ) (start : ℕ) (since : List ℕ) → is_idle m ≡ true
+    → InMode p colon k m kept start since → BegunSo p u ts colon k since None
 none_begun p u ts colon k modes.Blank kept start since i (e, b) = inl ([], subst IsBlank (sym (append-nil since)) b)
 none_begun p u ts colon k modes.Slash kept start since i (e, front, b, c) =
-    inl (47 ∷ 10 ∷ [], subst IsBlank (sym (ap (λ l. l ++ 47 ∷ 10 ∷ []) c ∙ append_assoc front (47 ∷ []) (47 ∷ 10 ∷ []))) (blank_more front (LineComment [] 10) b (tt, refl)))
+    inl (
+      47 ∷ 10 ∷ [],
+      subst IsBlank (sym (ap (λ l. l ++ 47 ∷ 10 ∷ []) c ∙ append_assoc front (47 ∷ []) (47 ∷ 10 ∷ [])))
+          (blank_more front (LineComment [] 10) b (tt, refl)),
+    )
 none_begun p u ts colon k modes.LineComment kept start since i (e, c) =
-    inl (10 ∷ [], subst IsBlank (sym (ap (λ l. l ++ 10 ∷ []) c.cut ∙ append_assoc (c.front ++ codes "//") c.octets (10 ∷ []) ∙ append_assoc c.front (codes "//") (c.octets ++ 10 ∷ []))) (blank_more c.front (LineComment c.octets 10) c.blank (c.one_line, refl)))
-none_begun p u ts colon k modes.BlockComment kept start since i (e, c) = inl (codes "*/", subst IsBlank (sym (block_closes since c.front c.octets c.cut)) (blank_more c.front (BlockComment c.octets) c.blank c.no_close))
-none_begun p u ts colon k modes.BlockCommentStar kept start since i (e, c) = inl (codes "*/", subst IsBlank (sym (block_closes since c.front c.octets c.cut)) (blank_more c.front (BlockComment c.octets) c.blank c.no_close))
+    inl (
+      10 ∷ [],
+      subst IsBlank (sym (ap (λ l. l ++ 10 ∷ []) c.cut ∙ append_assoc (c.front ++ codes "//") c.octets (10 ∷ [])
+          ∙ append_assoc c.front (codes "//") (c.octets ++ 10 ∷ []))) (blank_more c.front (LineComment c.octets 10) c.blank (c.one_line, refl)),
+    )
+none_begun p u ts colon k modes.BlockComment kept start since i (e, c) =
+    inl (codes "*/", subst IsBlank (sym (block_closes since c.front c.octets c.cut)) (blank_more c.front (BlockComment c.octets) c.blank c.no_close))
+none_begun p u ts colon k modes.BlockCommentStar kept start since i (e, c) =
+    inl (codes "*/", subst IsBlank (sym (block_closes since c.front c.octets c.cut)) (blank_more c.front (BlockComment c.octets) c.blank c.no_close))
 none_begun p u ts colon k modes.Colon kept start since i h = let (w, kept, flag) = h.is in inr (flag, h.front, h.blank, h.cut ∙ ap (λ l. h.front ++ l) w)
 none_begun p u ts colon k modes.Word kept start since i h = cc
 none_begun p u ts colon k modes.KindName kept start since i h = cc
@@ -232,8 +260,11 @@ colon_idle p s m l k e = by m (ends_at s (end_of p m)) refl e where
   by (modes.Lob t) x f g = let h = f ∙ g in cc
 
 -- what comes of octets behind some that left a token open
-reached : (p : Place) (s0 s : Known) (octets rest : List ℕ) (start end : ℕ) → run p octets s0 ≡ Next s → Reaches start end (Next s) → (q : Place) (x : Outcome) → q ≡ p → run q (octets ++ rest) s0 ≡ x → Reaches start end x
-reached p s0 s octets rest start end ran reaches q x e f = subst (λ y. Reaches start end y) (sym (run_behind p octets rest s0 s ran) ∙ ap (λ q'. run q' (octets ++ rest) s0) (sym e) ∙ f) (run_reaches p rest s start end reaches)
+reached : (p : Place) (s0 s : Known) (octets rest : List ℕ) (start end : ℕ) → run p octets s0 ≡ Next s → Reaches start end (Next s) → (q : Place) (x : Outcome)
+    → q ≡ p → run q (octets ++ rest) s0 ≡ x → Reaches start end x
+reached p s0 s octets rest start end ran reaches q x e f =
+    subst (λ y. Reaches start end y) (sym (run_behind p octets rest s0 s ran) ∙ ap (λ q'. run q' (octets ++ rest) s0) (sym e) ∙ f)
+    (run_reaches p rest s start end reaches)
 
 -- the place in which the first token is looked for
 looked_in : (ts : List Placed) → (q : Place) × LooksIn q ts
@@ -241,7 +272,8 @@ looked_in [] = (places.Top, tt)
 looked_in (t ∷ ts) = (t.place, refl)
 
 -- the next token begins there, and tokens follow it up to there
-covers : (p : Place) (s0 s : Known) (octets rest : List ℕ) (start end : ℕ) → run p octets s0 ≡ Next s → Reaches start end (Next s) → (others : List Placed) → LooksIn p others → Finds s0 (octets ++ rest) others → Covers start end others
+covers : (p : Place) (s0 s : Known) (octets rest : List ℕ) (start end : ℕ) → run p octets s0 ≡ Next s → Reaches start end (Next s) → (others : List Placed)
+    → LooksIn p others → Finds s0 (octets ++ rest) others → Covers start end others
 unfolding Reaches
 covers p s0 s octets rest start end ran reaches [] looks (Nothing _ _ f) =
     let (s', e, n) = f p in
@@ -256,7 +288,8 @@ covers p s0 s octets rest start end ran reaches (t ∷ ts) looks (Gives _ _ _ _ 
 covers p s0 s octets rest start end ran reaches (t ∷ ts) looks (Leaves _ _ _ _ s' e f) =
     let (from, r) = reached p s0 s octets rest start end ran reaches t.place (Left t.lexeme s') looks e in
     let (q, at) = looked_in ts in
-    let more : Reaches t.lexeme.end end (Next s') → Covers t.lexeme.end end ts = λ on. covers q s' s' [] (drop (s'.used - s0.used) (octets ++ rest)) t.lexeme.end end refl on ts at f in
+    let more : Reaches t.lexeme.end end (Next s') → Covers t.lexeme.end end ts =
+    λ on. covers q s' s' [] (drop (s'.used - s0.used) (octets ++ rest)) t.lexeme.end end refl on ts at f in
     (from, by more r)
   where
     by : (Reaches t.lexeme.end end (Next s') → Covers t.lexeme.end end ts)
@@ -289,10 +322,12 @@ begun_holds p s u ts h =
       since = tells.since ++ h.since;
       lexes = subst (λ o. LexesTo false 0 o ts tells.colon tells.end (tells.since ++ h.since)) (sym h.cut) (tells.lexes h.since since.0 since.1);
       longer = λ rest.
-          subst (λ o. LexesTo false 0 o ts tells.colon tells.end ((tells.since ++ h.since) ++ rest)) (sym (ap (λ l. l ++ rest) h.cut ∙ append_assoc h.front h.since rest))
+          subst (λ o. LexesTo false 0 o ts tells.colon tells.end ((tells.since ++ h.since) ++ rest))
+          (sym (ap (λ l. l ++ rest) h.cut ∙ append_assoc h.front h.since rest))
           (subst (λ o. LexesTo false 0 (h.front ++ (h.since ++ rest)) ts tells.colon tells.end o) (sym (append_assoc tells.since h.since rest))
           (tells.lexes (h.since ++ rest) (since.0 ++ rest) (ap (λ l. l ++ rest) since.1 ∙ append_assoc h.left since.0 rest)));
-      holds = subst (λ x. RunSound p tells.colon tells.end tells.since h.since x) h.ran (run_sound p tells.colon tells.end h.since tells.since h.behind (tells.holds p));
+      holds = subst (λ x. RunSound p tells.colon tells.end tells.since h.since x) h.ran
+          (run_sound p tells.colon tells.end h.since tells.since h.behind (tells.holds p));
     }
 
 -- what is known of the token that has begun
@@ -314,11 +349,13 @@ begun_right p s u ts h = (there.colon, there.end, there.since, there.lexes, by (
 
   may_comment : is_idle s.mode ≡ false → behind s.mode ≡ 1 → MayComment p u ts begun
   may_comment i one = by (slash_comments p s u ts h one) where
-    by : EndsBeforeComment p s u ts ⊎ ((rest : List ℕ) (others : List Placed) → LooksIn p others → Lexes false 0 (u ++ rest) (ts ++ others) → ⊥) → MayComment p u ts begun
+    by : EndsBeforeComment p s u ts ⊎ ((rest : List ℕ) (others : List Placed) → LooksIn p others → Lexes false 0 (u ++ rest) (ts ++ others) → ⊥)
+        → MayComment p u ts begun
     by (inl x) = inl (x.lexeme, x.start ∙ begun_stays s.mode s.start s.used i, x.end ∙ ap (λ (n : ℕ). s.used - n) (sym one), x.lexes)
     by (inr never) = inr never
 
-  reaching : (w : List ℕ) → is_idle s.mode ≡ false → (behind s.mode ≡ 0) ⊎ ((behind s.mode ≡ 1) × (front : List ℕ) × (w ≡ front ++ codes "/")) → behind s.mode ≤ s.used
+  reaching : (w : List ℕ) → is_idle s.mode ≡ false → (behind s.mode ≡ 0) ⊎ ((behind s.mode ≡ 1) × (front : List ℕ) × (w ≡ front ++ codes "/"))
+      → behind s.mode ≤ s.used
       → (s.used - behind s.mode ≡ there.end + length there.since)
       ⊎ ((s.used - behind s.mode + 1 ≡ there.end + length there.since) × (front : List ℕ) × (w ≡ front ++ codes "/") × MayComment p u ts begun)
   reaching w i (inl e) less = let used = there.holds.used in inl (omega (arith, e, used))
@@ -329,16 +366,30 @@ begun_right p s u ts h = (there.colon, there.end, there.since, there.lexes, by (
   no_colon i (flag, blank, is_blank, cut) =
       let start : ℕ = there.end + length blank in
       let colon : Lexeme = record { start = start; end = start + 1; kind = kinds.Mark marks.Colon; octets = [] } in
-      let behind = lexes_behind ts (record { place = p; lexeme = colon } ∷ []) false 0 u there.colon there.end there.since there.lexes
-      ([], record { blank = blank; token = codes ":"; is_blank = is_blank; cut = cut ∙ sym (append-nil (blank ++ codes ":")); start = refl; end = refl; is = (refl, refl, flag, refl) }, inl blank_none) in
+      let behind = lexes_behind ts (record { place = p; lexeme = colon } ∷ []) false 0 u there.colon there.end there.since there.lexes (
+        [],
+        record {
+          blank = blank;
+          token = codes ":";
+          is_blank = is_blank;
+          cut = cut ∙ sym (append-nil (blank ++ codes ":"));
+          start = refl;
+          end = refl;
+          is =
+              (refl, refl, flag, refl);
+        },
+        inl blank_none,
+      ) in
       let shown = end_token h.behind s h.front ts (record { place = p; lexeme = colon }) h.left h.since since.0 p h.told since.1 h.ran refl
       (subst (λ o. Lexes false 0 o (ts ++ record { place = p; lexeme = colon } ∷ [])) h.cut behind) in
       true≢false (sym (colon_idle p s s.mode colon refl shown) ∙ i)
 
-  always : is_idle s.mode ≡ false → behind s.mode ≤ s.used → (rest : List ℕ) (others : List Placed) → LooksIn p others → Lexes false 0 (u ++ rest) (ts ++ others) → Covers begun.start begun.end others
+  always : is_idle s.mode ≡ false → behind s.mode ≤ s.used → (rest : List ℕ) (others : List Placed) → LooksIn p others
+      → Lexes false 0 (u ++ rest) (ts ++ others) → Covers begun.start begun.end others
   always i less = λ rest others looks lexes.
       covers p h.behind s h.since rest s.start (s.used - behind s.mode) h.ran (refl, i, omega (arith, less)) others looks
-      (stands_finds h.behind h.front ts h.left (h.since ++ rest) others h.told (since.0 ++ rest) (ap (λ l. l ++ rest) since.1 ∙ append_assoc h.left since.0 rest)
+      (stands_finds h.behind h.front ts h.left (h.since ++ rest) others h.told (since.0 ++ rest)
+      (ap (λ l. l ++ rest) since.1 ∙ append_assoc h.left since.0 rest)
       (subst (λ o. Lexes false 0 o (ts ++ others)) (ap (λ l. l ++ rest) h.cut ∙ append_assoc h.front h.since rest) lexes))
 
   token : is_idle s.mode ≡ false → HasBegun p u ts there.colon there.end there.since begun
@@ -357,7 +408,8 @@ begun_right p s u ts h = (there.colon, there.end, there.since, there.lexes, by (
         start = b.begins;
         reaches = reaching b.token i slash less;
         always = always i less;
-        no_blank = λ rest blank. always i less rest [] tt (lexes_behind ts [] false 0 (u ++ rest) there.colon there.end (there.since ++ rest) (there.longer rest) (inl blank));
+        no_blank = λ rest blank. always i less rest [] tt (lexes_behind ts [] false 0 (u ++ rest) there.colon there.end (there.since ++ rest)
+            (there.longer rest) (inl blank));
         no_colon = no_colon i;
       }
 

@@ -40,7 +40,8 @@ acts_ends p s o (actions.Go m k) = tt
 acts_ends p s o (actions.Give kind k) = refl
 acts_ends p s o (actions.Before kind k m) = tt
 acts_ends p s o actions.EndWord = by ((o == 46) && bytes_eq s.kept (codes "null")) where
-  by : (b : Bool) → Ends s.used (cond b (Next (go_to s modes.KindName [])) (Left (cut s kinds.Word s.kept s.used) (past p kinds.Word modes.Blank [] s.used s.used)))
+  by : (b : Bool) → Ends s.used (cond b (Next (go_to s modes.KindName []))
+      (Left (cut s kinds.Word s.kept s.used) (past p kinds.Word modes.Blank [] s.used s.used)))
   by true = tt
   by false = tt
 acts_ends p s o (actions.Split n) = tt
@@ -69,15 +70,18 @@ module _ (p : Place) (s : Known) (u : List ℕ) (ts : List Placed) (h : Scanned 
 
   pub next_given : (t : Known) (l : Lexeme) → feed p s o ≡ Given l t → NextIs p (u ++ o ∷ []) ts l
   next_given t l e = λ rest others looks lexes.
-      given_next h.behind t h.front ts h.left (h.since ++ o ∷ []) from.0 p l h.told from.1 (behind_since p s u ts [] h (o ∷ []) (Given l t) (ran (Given l t) e)) rest others looks
+      given_next h.behind t h.front ts h.left (h.since ++ o ∷ []) from.0 p l h.told from.1 (behind_since p s u ts [] h (o ∷ []) (Given l t) (ran (Given l t) e))
+      rest others looks
       (subst (λ v. Lexes false 0 v (ts ++ others)) (there p s u ts [] h (o ∷ []) rest) lexes)
 
   pub next_left : (t : Known) (l : Lexeme) → feed p s o ≡ Left l t → NextIs p (u ++ o ∷ []) ts l
   next_left t l e = λ rest others looks lexes.
-      left_next h.behind t h.front ts h.left (h.since ++ o ∷ []) from.0 p l h.told from.1 (behind_since p s u ts [] h (o ∷ []) (Left l t) (ran (Left l t) e)) rest others looks
+      left_next h.behind t h.front ts h.left (h.since ++ o ∷ []) from.0 p l h.told from.1 (behind_since p s u ts [] h (o ∷ []) (Left l t) (ran (Left l t) e))
+      rest others looks
       (subst (λ v. Lexes false 0 v (ts ++ others)) (there p s u ts [] h (o ∷ []) rest) lexes)
 
-  goes : (b : Bool) (f : Form) (begun : Begun) → begun.form ≡ f → ShowsBegun p (u ++ o ∷ []) ts (if b then None else Some begun) → ForeseenSo p u ts o (if b then foresights.Blank else foresight_by f)
+  goes : (b : Bool) (f : Form) (begun : Begun) → begun.form ≡ f → ShowsBegun p (u ++ o ∷ []) ts (if b then None else Some begun)
+      → ForeseenSo p u ts o (if b then foresights.Blank else foresight_by f)
   goes true f begun e k = k
   goes false forms.Other begun e k = tt
   goes false forms.Quote begun e k = inl (begun, (λ n. cc), k)
@@ -99,8 +103,15 @@ module _ (p : Place) (s : Known) (u : List ℕ) (ts : List Placed) (h : Scanned 
   leaves t l kinds.QuotedSymbol i e =
       let q = leaves_quotes p s t o l e i in
       let b = begun_holds p s u ts h in
-      let quotes = in_quotes b.colon b.end s.mode s.kept s.start b.since q.mode b.holds.mode in
-      ((b.colon, b.end, quotes.0, quotes.1, subst (λ w. LexesTo false 0 u ts b.colon b.end w) quotes.2 b.lexes), l, i, q.octets ∙ quotes.3, q.end ∙ used, next_left t l e)
+      let quotes = in_quotes b.colon b.end s.mode s.kept s.start b.since q.mode b.holds.mode in (
+        (b.colon, b.end, quotes.0, quotes.1, subst (λ w. LexesTo false 0 u ts b.colon b.end w) quotes.2 b.lexes),
+        l,
+        i,
+        q.octets ∙ quotes.3,
+        q.end
+            ∙ used,
+        next_left t l e,
+      )
   leaves t l _ i e = tt
 
   -- What an octet shows.
@@ -110,7 +121,8 @@ module _ (p : Place) (s : Known) (u : List ℕ) (ts : List Placed) (h : Scanned 
       by : (x : Outcome) → feed p s o ≡ x → ForeseenSo p u ts o (foresight x)
       by (Next t) e =
           let after : Scanned p t (u ++ o ∷ []) ts [] = goes_on p s u ts [] h (o ∷ []) t (o ∷ [], refl) (ran (Next t) e) in
-          goes (is_idle t.mode) (form_of t.mode) (record { start = t.start; end = t.used - behind t.mode; form = form_of t.mode }) refl (begun_right p t (u ++ o ∷ []) ts after)
+          goes (is_idle t.mode) (form_of t.mode) (record { start = t.start; end = t.used - behind t.mode; form = form_of t.mode }) refl
+          (begun_right p t (u ++ o ∷ []) ts after)
       by (Given l t) e = gives t l l.kind refl e
       by (Left l t) e = leaves t l l.kind refl e
       by (Refused n r) e = tt

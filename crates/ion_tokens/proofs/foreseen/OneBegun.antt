@@ -20,10 +20,12 @@ record SameEnd (colon colon' : Bool) (end end' : ℕ) (rest rest' : List ℕ) : 
   at : end ≡ end'
   octets : rest ≡ rest'
 
-lexes_same : (ts : List Placed) (c c1 c2 : Bool) (k e1 e2 : ℕ) (o o1 o2 : List ℕ) → LexesTo c k o ts c1 e1 o1 → LexesTo c k o ts c2 e2 o2 → SameEnd c1 c2 e1 e2 o1 o2
+lexes_same : (ts : List Placed) (c c1 c2 : Bool) (k e1 e2 : ℕ) (o o1 o2 : List ℕ) → LexesTo c k o ts c1 e1 o1 → LexesTo c k o ts c2 e2 o2
+    → SameEnd c1 c2 e1 e2 o1 o2
 lexes_same [] c c1 c2 k e1 e2 o o1 o2 (a, b, d) (a', b', d') = record { flag = sym a ∙ a'; at = sym b ∙ b'; octets = sym d ∙ d' }
 lexes_same (t ∷ ts) c c1 c2 k e1 e2 o o1 o2 (r, b, l) (q, b', l') =
-    let size : length (b.blank ++ b.token) ≡ length (b'.blank ++ b'.token) = omega (arith, b.start, b.end, b'.start, b'.end, length-append b.blank b.token, length-append b'.blank b'.token) in
+    let size : length (b.blank ++ b.token) ≡ length (b'.blank ++ b'.token) =
+    omega (arith, b.start, b.end, b'.start, b'.end, length-append b.blank b.token, length-append b'.blank b'.token) in
     let same : r ≡ q = same_rest (b.blank ++ b.token) (b'.blank ++ b'.token) r q (sym b.cut ∙ b'.cut) size in
     lexes_same ts (colon_behind t) c1 c2 t.lexeme.end e1 e2 q o1 o2 (subst (λ x. LexesTo (colon_behind t) t.lexeme.end x ts c1 e1 o1) same l) l'
 
@@ -64,7 +66,8 @@ module _ (p : Place) (u : List ℕ) (ts : List Placed) (colon : Bool) (end : ℕ
   same_end : (a b : Begun) → HasBegun p u ts colon end octets a → HasBegun p u ts colon end octets b → GoesOnAs p u ts → a.end ≡ b.end
   same_end a b h k goes = by h.reaches k.reaches where
     by : (a.end ≡ end + length octets) ⊎ ((a.end + 1 ≡ end + length octets) × (front : List ℕ) × (h.token ≡ front ++ codes "/") × MayComment p u ts a)
-        → (b.end ≡ end + length octets) ⊎ ((b.end + 1 ≡ end + length octets) × (front : List ℕ) × (k.token ≡ front ++ codes "/") × MayComment p u ts b) → a.end ≡ b.end
+        → (b.end ≡ end + length octets) ⊎ ((b.end + 1 ≡ end + length octets) × (front : List ℕ) × (k.token ≡ front ++ codes "/") × MayComment p u ts b)
+        → a.end ≡ b.end
     by (inl e) (inl f) = e ∙ sym f
     by (inl e) (inr (f, front, slash, comment)) = absurd (not_less a b h goes comment (omega (arith, e, f)))
     by (inr (e, front, slash, comment)) (inl f) = absurd (not_less b a k goes comment (omega (arith, e, f)))
@@ -95,5 +98,6 @@ pub one_begun : (p : Place) (u : List ℕ) (ts : List Placed) (a b : Option Begu
 one_begun p u ts a b (colon, end, octets, lexes, h) (colon', end', octets', lexes', k) rest others looks goes =
     let same = lexes_same ts false colon colon' 0 end end' u octets octets' lexes lexes' in
     same_shown p u ts colon end octets a b h
-    (subst (λ c. BegunSo p u ts c end octets b) (sym same.flag) (subst (λ (n : ℕ). BegunSo p u ts colon' n octets b) (sym same.at) (subst (λ o. BegunSo p u ts colon' end' o b) (sym same.octets) k)))
+    (subst (λ c. BegunSo p u ts c end octets b) (sym same.flag)
+    (subst (λ (n : ℕ). BegunSo p u ts colon' n octets b) (sym same.at) (subst (λ o. BegunSo p u ts colon' end' o b) (sym same.octets) k)))
     (rest, others, looks, goes)

@@ -33,7 +33,8 @@ table_late = by_rows_where (λ m. not (is_idle m)) (λ sexp m. late (behind m)) 
 unfoldable pub Reaches : ℕ → ℕ → Outcome → Type 0
 Reaches start end (Next s) = (s.start ≡ start) × (is_idle s.mode ≡ false) × (end + behind s.mode ≤ s.used)
 Reaches start end (Given l s) = (l.start ≡ start) × (end ≤ l.end)
-Reaches start end (Left l s) = (l.start ≡ start) × ((end ≤ l.end) ⊎ ((l.kind ≡ kinds.Operator) × (s.start ≡ l.end) × (is_idle s.mode ≡ false) × (end + behind s.mode ≤ s.used)))
+Reaches start end (Left l s) = (l.start ≡ start) × ((end ≤ l.end)
+    ⊎ ((l.kind ≡ kinds.Operator) × (s.start ≡ l.end) × (is_idle s.mode ≡ false) × (end + behind s.mode ≤ s.used)))
 Reaches start end (Refused n e) = Unit {0}
 
 -- where a token has begun, its start stays
@@ -42,7 +43,8 @@ begun_stays modes.Blank start used h = cc
 begun_stays modes.Slash start used h = cc
 begun_stays _ start used h = refl
 
-module _ (p : Place) (s : Known) (o : ℕ) (start end : ℕ) (begun : is_idle s.mode ≡ false) (from : s.start ≡ start) (reached : end + behind s.mode ≤ s.used) where
+module _ (p : Place) (s : Known) (o : ℕ) (start end : ℕ) (begun : is_idle s.mode ≡ false) (from : s.start ≡ start)
+    (reached : end + behind s.mode ≤ s.used) where
   same_start : start_of s.mode s.start s.used ≡ start
   same_start = begun_stays s.mode s.start s.used begun ∙ from
 
@@ -53,15 +55,17 @@ module _ (p : Place) (s : Known) (o : ℕ) (start end : ℕ) (begun : is_idle s.
 
   acts_reaches : (a : Action) → late (behind s.mode) a ≡ true → Reaches start end (acts p s o a)
   unfolding Reaches
-  acts_reaches (actions.Go m k) h = let parts = goes_parts (behind m) (behind s.mode) (is_idle m) h in (same_start, parts.1, omega (arith, reached, parts.0)) where
-    goes_parts : (x y : ℕ) (i : Bool) → (nat_le x (y + 1) && not i) ≡ true → (x ≤ y + 1) × (i ≡ false)
-    goes_parts x y i h = grind (arith, nat_tests)
+  acts_reaches (actions.Go m k) h = let parts = goes_parts (behind m) (behind s.mode) (is_idle m) h in
+      (same_start, parts.1, omega (arith, reached, parts.0)) where
+        goes_parts : (x y : ℕ) (i : Bool) → (nat_le x (y + 1) && not i) ≡ true → (x ≤ y + 1) × (i ≡ false)
+        goes_parts x y i h = grind (arith, nat_tests)
   acts_reaches (actions.Give _ _) h = (same_start, omega (arith, reached))
   acts_reaches (actions.Before _ _ m) h = let less = left_less (left_of m) (behind s.mode) h in (same_start, inl (omega (arith, reached, less))) where
     left_less : (x y : ℕ) → nat_le x y ≡ true → x ≤ y
     left_less x y h = grind (arith, nat_tests)
   acts_reaches actions.EndWord h = by ((o == 46) && bytes_eq s.kept (codes "null")) where
-    by : (b : Bool) → Reaches start end (cond b (Next (go_to s modes.KindName [])) (Left (cut s kinds.Word s.kept s.used) (past p kinds.Word modes.Blank [] s.used s.used)))
+    by : (b : Bool) → Reaches start end (cond b (Next (go_to s modes.KindName []))
+        (Left (cut s kinds.Word s.kept s.used) (past p kinds.Word modes.Blank [] s.used s.used)))
     by true = (same_start, refl, omega (arith, reached))
     by false = (same_start, inl (omega (arith, reached)))
   acts_reaches (actions.Split n) h = (same_start, inr (refl, refl, refl, omega (arith, reached)))
@@ -71,7 +75,8 @@ module _ (p : Place) (s : Known) (o : ℕ) (start end : ℕ) (begun : is_idle s.
   feed_reaches : Reaches start end (feed p s o)
   feed_reaches = acts_reaches (next p s.colon s.mode o) (table_late p s.colon s.mode o (ap not begun))
 
-follow_reaches : (x : Outcome) (f : Known → Outcome) (start end : ℕ) → Reaches start end x → ((s : Known) → Reaches start end (Next s) → Reaches start end (f s)) → Reaches start end (follow x f)
+follow_reaches : (x : Outcome) (f : Known → Outcome) (start end : ℕ) → Reaches start end x
+    → ((s : Known) → Reaches start end (Next s) → Reaches start end (f s)) → Reaches start end (follow x f)
 follow_reaches (Next s) f start end h k = k s h
 follow_reaches (Given l s) f start end h k = h
 follow_reaches (Left l s) f start end h k = h

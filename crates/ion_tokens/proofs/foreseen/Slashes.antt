@@ -60,7 +60,8 @@ module _ (p : Place) (s : Known) (o : ℕ) (has : has_slash s.kept ≡ true) whe
   number_slash_slashed : Slashed (acts p s o (in_number_slash o))
   unfolding Slashed
   number_slash_slashed = by ((o == 47) || (o == 42)) (is_stop o) where
-    by : (b c : Bool) → Slashed (acts p s o (cond b (actions.Before kinds.Number keeps.Nothing modes.Slash) (cond c (actions.Before kinds.Number (keeps.One 47) modes.Blank) (actions.Go modes.Number (keeps.Two 47 o)))))
+    by : (b c : Bool) → Slashed (acts p s o (cond b (actions.Before kinds.Number keeps.Nothing modes.Slash)
+        (cond c (actions.Before kinds.Number (keeps.One 47) modes.Blank) (actions.Go modes.Number (keeps.Two 47 o)))))
     by true c = (refl, has)
     by false true = (refl, has_longer s.kept (47 ∷ []) has)
     by false false = (refl, has_longer (s.kept ++ 47 ∷ []) (o ∷ []) (has_longer s.kept (47 ∷ []) has))
@@ -97,11 +98,13 @@ abbrev NextSlashed : List Placed → Type 0
 NextSlashed [] = ⊥
 NextSlashed (t ∷ ts) = (t.lexeme.kind ≡ kinds.Number) × (has_slash t.lexeme.octets ≡ true)
 
-finds_slashed : (p : Place) (s0 s : Known) (octets rest : List ℕ) → run p octets s0 ≡ Next s → Slashed (Next s) → (others : List Placed) → LooksIn p others → Finds s0 (octets ++ rest) others → NextSlashed others
+finds_slashed : (p : Place) (s0 s : Known) (octets rest : List ℕ) → run p octets s0 ≡ Next s → Slashed (Next s) → (others : List Placed) → LooksIn p others
+    → Finds s0 (octets ++ rest) others → NextSlashed others
 unfolding Slashed
 finds_slashed p s0 s octets rest ran slashed others looks found = by others looks found where
   comes : (q : Place) (x : Outcome) → q ≡ p → run q (octets ++ rest) s0 ≡ x → Slashed x
-  comes q x e f = subst (λ y. Slashed y) (sym (run_behind p octets rest s0 s ran) ∙ ap (λ q'. run q' (octets ++ rest) s0) (sym e) ∙ f) (run_slashed p rest s slashed)
+  comes q x e f = subst (λ y. Slashed y) (sym (run_behind p octets rest s0 s ran) ∙ ap (λ q'. run q' (octets ++ rest) s0) (sym e) ∙ f)
+      (run_slashed p rest s slashed)
 
   by : (others : List Placed) → LooksIn p others → Finds s0 (octets ++ rest) others → NextSlashed others
   by [] looks (Nothing _ _ f) =
@@ -129,7 +132,8 @@ without_slash (o ∷ w) h = by (is_stop o) (o == 47) h.0 (without_slash w h.1) w
 not_slashed : (ts others : List Placed) (colon : Bool) (k : ℕ) (octets : List ℕ) → Lexes colon k octets (ts ++ others) → NextSlashed others → ⊥
 not_slashed [] [] colon k octets lexes slashed = slashed
 not_slashed [] (t ∷ others) colon k octets (rest, b, more) (number, has) =
-    let is : IsLexeme t.place colon b.token rest kinds.Number t.lexeme.octets = subst (λ kind. IsLexeme t.place colon b.token rest kind t.lexeme.octets) number b.is in
+    let is : IsLexeme t.place colon b.token rest kinds.Number t.lexeme.octets =
+    subst (λ kind. IsLexeme t.place colon b.token rest kind t.lexeme.octets) number b.is in
     true≢false (sym has ∙ ap has_slash is.0 ∙ without_slash b.token is.2.each)
 not_slashed (t ∷ ts) others colon k octets (rest, b, more) slashed = not_slashed ts others _ t.lexeme.end rest more slashed
 
@@ -176,7 +180,8 @@ module _ (p : Place) (s : Known) (u : List ℕ) (ts : List Placed) (h : Scanned 
     lexeme = token.lexeme;
     start = refl;
     end = refl;
-    lexes = ends_in_blank now (go_to now modes.LineComment []) u (ts ++ token ∷ []) (47 ∷ []) (47 ∷ []) [] p stands (pass_more ts token h.pass passes) refl refl refl;
+    lexes = ends_in_blank now (go_to now modes.LineComment []) u (ts ++ token ∷ []) (47 ∷ []) (47 ∷ []) [] p stands (pass_more ts token h.pass passes) refl refl
+        refl;
   }
 
 -- A `/` that isn't counted, as a comment may begin with it: a token ends before it, or no document goes on so.
@@ -184,13 +189,15 @@ pub slash_comments : (p : Place) (s : Known) (u : List ℕ) (ts : List Placed) �
     → EndsBeforeComment p s u ts ⊎ ((rest : List ℕ) (others : List Placed) → LooksIn p others → Lexes false 0 (u ++ rest) (ts ++ others) → ⊥)
 unfolding Slashed
 slash_comments p s u ts h one = by s.mode one refl (has_slash s.kept) refl where
-  never : (in_numeric s.mode ≡ true) → has_slash s.kept ≡ true → (rest : List ℕ) (others : List Placed) → LooksIn p others → Lexes false 0 (u ++ rest) (ts ++ others) → ⊥
+  never : (in_numeric s.mode ≡ true) → has_slash s.kept ≡ true → (rest : List ℕ) (others : List Placed) → LooksIn p others
+      → Lexes false 0 (u ++ rest) (ts ++ others) → ⊥
   never number has = λ rest others looks lexes.
       let (more, since) = all_since p s u ts h in
       let there = subst (λ o. Lexes false 0 o (ts ++ others)) (ap (λ l. l ++ rest) h.cut ∙ append_assoc h.front h.since rest) lexes in
       not_slashed ts others false 0 (h.front ++ (h.since ++ rest)) there
       (finds_slashed p h.behind s h.since rest h.ran (number, has) others looks
-      (stands_finds h.behind h.front ts h.left (h.since ++ rest) others h.told (more ++ rest) (ap (λ l. l ++ rest) since ∙ append_assoc h.left more rest) there))
+      (stands_finds h.behind h.front ts h.left (h.since ++ rest) others h.told (more ++ rest) (ap (λ l. l ++ rest) since ∙ append_assoc h.left more rest)
+      there))
 
   by : (m : Mode) → behind m ≡ 1 → s.mode ≡ m → (b : Bool) → has_slash s.kept ≡ b
       → EndsBeforeComment p s u ts ⊎ ((rest : List ℕ) (others : List Placed) → LooksIn p others → Lexes false 0 (u ++ rest) (ts ++ others) → ⊥)

@@ -113,9 +113,11 @@ open_fair p colon s modes.LineComment w h = absurd h
 open_fair p colon s modes.BlockComment w h = absurd h
 open_fair p colon s modes.BlockCommentStar w h = absurd h
 
-mode_fair : (p : Place) (colon : Bool) (k : ℕ) (s : Known) (m : Mode) (since : List ℕ) → InMode p colon k m s.kept s.start since → IsEndFair (ends_at s (end_of p m))
+mode_fair : (p : Place) (colon : Bool) (k : ℕ) (s : Known) (m : Mode) (since : List ℕ) → InMode p colon k m s.kept s.start since
+    → IsEndFair (ends_at s (end_of p m))
 mode_fair p colon k s modes.Blank since h = tt
-mode_fair p colon k s modes.Slash since (none, front, blank, cut) = run_fair p s (keeps.One 47) (subst (λ o. Each is_operator_octet (o ++ 47 ∷ [])) (sym none) (refl, tt))
+mode_fair p colon k s modes.Slash since (none, front, blank, cut) =
+    run_fair p s (keeps.One 47) (subst (λ o. Each is_operator_octet (o ++ 47 ∷ [])) (sym none) (refl, tt))
 mode_fair p colon k s modes.LineComment since h = tt
 mode_fair p colon k s modes.BlockComment since h = refl
 mode_fair p colon k s modes.BlockCommentStar since h = refl

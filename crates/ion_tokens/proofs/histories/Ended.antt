@@ -21,15 +21,25 @@ use Rattle.ion_tokens.proofs.sound.Holds.{Holds}
 use Rattle.ion_tokens.proofs.histories.Escapes.{Escapes, Refuses, Goes, Grows, Escape, escape}
 
 -- tokens end within the octets
-lexes_end : (End : Bool → ℕ → List ℕ → Type 0) (ts : List Placed) (t : Placed) (colon : Bool) (before : ℕ) (octets : List ℕ) → LexesBefore End colon before octets (ts ++ t ∷ []) → t.lexeme.end ≤ before + length octets
-lexes_end End [] t colon before octets (rest, b, l) = omega (arith, b.end, ap length b.cut, length-append (b.blank ++ b.token) rest, length-append b.blank b.token)
-lexes_end End (x ∷ ts) t colon before octets (rest, b, l) = let h = lexes_end End ts t _ x.lexeme.end rest l in omega (arith, h, b.end, ap length b.cut, length-append (b.blank ++ b.token) rest, length-append b.blank b.token)
+lexes_end : (End : Bool → ℕ → List ℕ → Type 0) (ts : List Placed) (t : Placed) (colon : Bool) (before : ℕ) (octets : List ℕ)
+    → LexesBefore End colon before octets (ts ++ t ∷ []) → t.lexeme.end ≤ before + length octets
+lexes_end End [] t colon before octets (rest, b, l) = omega (
+  arith,
+  b.end,
+  ap length b.cut,
+  length-append (b.blank ++ b.token) rest,
+  length-append b.blank b.token,
+)
+lexes_end End (x ∷ ts) t colon before octets (rest, b, l) = let h = lexes_end End ts t _ x.lexeme.end rest l in
+    omega (arith, h, b.end, ap length b.cut, length-append (b.blank ++ b.token) rest, length-append b.blank b.token)
 
 -- the octets used are those taken up
 pub stands_used : (s : Known) (u : List ℕ) (ts : List Placed) (ahead : List ℕ) → Stands s u ts ahead → s.used ≡ length u
 stands_used s u ts ahead Begun = refl
-stands_used s u ts ahead (Gave s0 u0 ts0 ahead0 t octets more0 s' h e f n) = let i = stands_used s0 u0 ts0 ahead0 h in omega (arith, i, n, length-append u0 octets)
-stands_used s u ts ahead (Leaved s0 u0 ts0 ahead0 t octets more0 x s' h e f n) = let i = stands_used s0 u0 ts0 ahead0 h in omega (arith, i, n, length-append u0 octets)
+stands_used s u ts ahead (Gave s0 u0 ts0 ahead0 t octets more0 s' h e f n) = let i = stands_used s0 u0 ts0 ahead0 h in
+    omega (arith, i, n, length-append u0 octets)
+stands_used s u ts ahead (Leaved s0 u0 ts0 ahead0 t octets more0 x s' h e f n) = let i = stands_used s0 u0 ts0 ahead0 h in
+    omega (arith, i, n, length-append u0 octets)
 
 -- a token at the end of the input ends there
 end_used : (s : Known) (e : End) (l : Lexeme) → ends_at s e ≡ Ok (Some l) → l.end ≡ s.used
@@ -45,7 +55,8 @@ lexeme_end (Given l s) = l.end
 lexeme_end _ = 0
 
 -- what is found over the octets and those behind them ends behind them
-not_found : (s : Known) (octets r : List ℕ) (s' : Known) (t : Placed) → run t.place octets s ≡ Next s' → Escapes t.place s' r → t.lexeme.end ≤ s'.used → FindsUpTo (λ s octets. Unit {0}) (Unit {0}) s (octets ++ r) (t ∷ []) → ⊥
+not_found : (s : Known) (octets r : List ℕ) (s' : Known) (t : Placed) → run t.place octets s ≡ Next s' → Escapes t.place s' r → t.lexeme.end ≤ s'.used
+    → FindsUpTo (λ s octets. Unit {0}) (Unit {0}) s (octets ++ r) (t ∷ []) → ⊥
 not_found s octets r s' t e (Refuses n x f) ended found = by found where
   whole : run t.place (octets ++ r) s ≡ Refused n x
   whole = run_behind t.place octets r s s' e ∙ f
@@ -83,7 +94,8 @@ not_found s octets r s' t e (Grows l z f later) ended found = by found where
   by (Unclosed _ _ _ _ s'' _ _ m g h _ _ _) = let k : Given l z ≡ Next s'' = sym whole ∙ g in cc
 
 -- Where octets show no token, none but those told has ended whatever octets follow.
-pub told_all : (s s' : Known) (u : List ℕ) (ts : List Placed) (ahead piece more : List ℕ) (p : Place) → Stands s u ts ahead → AllPass ts → piece ≡ ahead ++ more → run p piece s ≡ Next s'
+pub told_all : (s s' : Known) (u : List ℕ) (ts : List Placed) (ahead piece more : List ℕ) (p : Place) → Stands s u ts ahead → AllPass ts → piece ≡ ahead ++ more
+    → run p piece s ≡ Next s'
     → (t : Placed) → t.place ≡ p → ((r : List ℕ) → AreOctets r → BeginsLexed false 0 (u ++ (piece ++ r)) (ts ++ t ∷ [])) → ⊥
 told_all s s' u ts ahead piece more p h pass cut e t place lexes = by (escape p tells.colon tells.end s' (tells.since ++ piece) holds) where
   tells : HasTold s u ts ahead
@@ -99,5 +111,6 @@ told_all s s' u ts ahead piece more p h pass cut e t place lexes = by (escape p 
 
   by : Escape p s' → ⊥
   by x =
-      let there = stands_found (λ colon before octets. Unit {0}) (λ s octets. Unit {0}) (Unit {0}) begins_completes s u ts ahead (piece ++ x.octets) (t ∷ []) h (more ++ x.octets) (ap (λ l. l ++ x.octets) cut ∙ append_assoc ahead more x.octets) (lexes x.octets x.are) in
+      let there = stands_found (λ colon before octets. Unit {0}) (λ s octets. Unit {0}) (Unit {0}) begins_completes s u ts ahead (piece ++ x.octets) (t ∷ []) h
+      (more ++ x.octets) (ap (λ l. l ++ x.octets) cut ∙ append_assoc ahead more x.octets) (lexes x.octets x.are) in
       not_found s piece x.octets s' t (ap (λ q. run q piece s) place ∙ e) (subst (λ q. Escapes q s' x.octets) (sym place) x.escapes) ended there

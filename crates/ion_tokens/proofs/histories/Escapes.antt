@@ -66,18 +66,19 @@ module _ (colon : Bool) (start used : ℕ) (kept : List ℕ) where
   in_operator_slash places.FieldValue = record { octets = 43 ∷ 43 ∷ []; are = two 43 43 refl refl; escapes = Refuses _ _ refl }
 
   in_infinity : (p : Place) (n : ℕ) → 1 ≤ n → n ≤ 3 → Escape p (at (modes.Infinity n) kept colon start used)
-  in_infinity p n a b = ⊎_elim (λ e. subst P (sym e) first) (λ m. ⊎_elim (λ e. subst P (sym e) second) (λ e. subst P (sym e) third) m) (one_to_three n a b) where
-    P : ℕ → Type 0
-    P n = Escape p (at (modes.Infinity n) kept colon start used)
+  in_infinity p n a b = ⊎_elim (λ e. subst P (sym e) first) (λ m. ⊎_elim (λ e. subst P (sym e) second) (λ e. subst P (sym e) third) m)
+      (one_to_three n a b) where
+        P : ℕ → Type 0
+        P n = Escape p (at (modes.Infinity n) kept colon start used)
 
-    first : P 1
-    first = record { octets = 110 ∷ 102 ∷ 32 ∷ []; are = three 110 102 32 refl refl refl; escapes = Refuses _ _ refl }
+        first : P 1
+        first = record { octets = 110 ∷ 102 ∷ 32 ∷ []; are = three 110 102 32 refl refl refl; escapes = Refuses _ _ refl }
 
-    second : P 2
-    second = record { octets = 102 ∷ 32 ∷ []; are = two 102 32 refl refl; escapes = Refuses _ _ refl }
+        second : P 2
+        second = record { octets = 102 ∷ 32 ∷ []; are = two 102 32 refl refl; escapes = Refuses _ _ refl }
 
-    third : P 3
-    third = record { octets = 32 ∷ []; are = one 32 refl; escapes = Refuses _ _ refl }
+        third : P 3
+        third = record { octets = 32 ∷ []; are = one 32 refl; escapes = Refuses _ _ refl }
 
   -- the second of two NUL is refused, if the first one isn't
   in_utf8 : (p : Place) (s : Style) (left least most : ℕ) → Escapes p (at (modes.Text s (within.Utf8 left least most)) kept colon start used) (0 ∷ 0 ∷ [])
@@ -90,7 +91,8 @@ module _ (colon : Bool) (start used : ℕ) (kept : List ℕ) where
     plain styles.LongClob = refl
 
     by : (b c : Bool) → (n : ℕ) × (e : Reason) × (follow (acts p (at (modes.Text s (within.Utf8 left least most)) kept colon start used) 0
-        (cond b (actions.Refuse reasons.BadUtf8) (cond c (add (modes.Text s within.Plain) 0) (add (modes.Text s (within.Utf8 (left - 1) 0x80 0xbf)) 0)))) (λ t. run p (0 ∷ []) t) ≡ Refused n e)
+        (cond b (actions.Refuse reasons.BadUtf8) (cond c (add (modes.Text s within.Plain) 0) (add (modes.Text s (within.Utf8 (left - 1) 0x80 0xbf)) 0))))
+        (λ t. run p (0 ∷ []) t) ≡ Refused n e)
     by true c = (used + 1, reasons.BadUtf8, refl)
     by false true = (used + 1 + 1, reasons.Unexpected, plain s)
     by false false = (used + 1 + 1, reasons.BadUtf8, refl)
@@ -156,4 +158,5 @@ module _ (p : Place) (colon : Bool) (k : ℕ) (start used : ℕ) (since : List �
   in_mode (modes.Lob l) kept h = in_lob colon start used kept p l
 
 pub escape : (p : Place) (colon : Bool) (k : ℕ) (s : Known) (since : List ℕ) → Holds p colon k s since → Escape p s
-escape p colon k s since h = subst (λ c. Escape p (at s.mode s.kept c s.start s.used)) (sym h.flag) (in_mode p colon k s.start s.used since s.mode s.kept h.mode)
+escape p colon k s since h = subst (λ c. Escape p (at s.mode s.kept c s.start s.used)) (sym h.flag)
+    (in_mode p colon k s.start s.used since s.mode s.kept h.mode)

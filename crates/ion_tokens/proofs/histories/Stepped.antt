@@ -48,7 +48,18 @@ front_is piece octets rest n cut size = ap (λ l. take n l) cut ∙ ap (λ (i : 
 
 -- before any octet
 pub begun_scanned : (p : Place) (s : Known) → s ≡ initial → Scanned p s [] [] []
-begun_scanned p s e = record { behind = initial; front = []; left = []; since = []; told = Begun; pass = tt; ran = ap Next (sym e); cut = refl; next = inl (refl, refl) }
+begun_scanned p s e = record {
+  behind = initial;
+  front = [];
+  left = [];
+  since = [];
+  told = Begun;
+  pass = tt;
+  ran =
+      ap Next (sym e);
+  cut = refl;
+  next = inl (refl, refl);
+}
 
 module _ (p : Place) (s : Known) (u : List ℕ) (ts : List Placed) (ahead : List ℕ) (h : Scanned p s u ts ahead) where
   -- the octets since the last token and those of a piece begin with what was left
@@ -70,7 +81,8 @@ module _ (p : Place) (s : Known) (u : List ℕ) (ts : List Placed) (ahead : List
   behind_since piece x e = run_behind p h.since piece h.behind s h.ran ∙ e
 
   cut_there : (piece rest : List ℕ) → u ++ (piece ++ rest) ≡ h.front ++ ((h.since ++ piece) ++ rest)
-  cut_there piece rest = ap (λ l. l ++ (piece ++ rest)) h.cut ∙ append_assoc h.front h.since (piece ++ rest) ∙ ap (λ l. h.front ++ l) (sym (append_assoc h.since piece rest))
+  cut_there piece rest = ap (λ l. l ++ (piece ++ rest)) h.cut ∙ append_assoc h.front h.since (piece ++ rest)
+      ∙ ap (λ l. h.front ++ l) (sym (append_assoc h.since piece rest))
 
   pub there : (octets rest : List ℕ) → (u ++ octets) ++ rest ≡ h.front ++ ((h.since ++ octets) ++ rest)
   there octets rest = append_assoc u octets rest ∙ cut_there octets rest
@@ -92,7 +104,8 @@ module _ (p : Place) (s : Known) (u : List ℕ) (ts : List Placed) (ahead : List
   since_used = next_used p h.since h.behind s (sym h.ran)
 
   -- behind a token
-  pub told_more : (octets : List ℕ) (t : Placed) (now : Known) (next : List ℕ) → Stands now (h.front ++ (h.since ++ octets)) (ts ++ t ∷ []) next → Passes t.lexeme.kind t.lexeme.octets → (q : Place) → Scanned q now (u ++ octets) (ts ++ t ∷ []) next
+  pub told_more : (octets : List ℕ) (t : Placed) (now : Known) (next : List ℕ) → Stands now (h.front ++ (h.since ++ octets)) (ts ++ t ∷ []) next
+      → Passes t.lexeme.kind t.lexeme.octets → (q : Place) → Scanned q now (u ++ octets) (ts ++ t ∷ []) next
   told_more octets t now next stands pass q = record {
     behind = now;
     front = u ++ octets;
@@ -109,7 +122,8 @@ module _ (p : Place) (s : Known) (u : List ℕ) (ts : List Placed) (ahead : List
   pub scanned_used : s.used ≡ length u
   scanned_used = let stood = stands_used h.behind h.front ts h.left h.told in omega (arith, stood, since_used, ap length h.cut, length-append h.front h.since)
 
-  gave : (piece : List ℕ) (s' : Known) (l : Lexeme) (scan : Stepped) (t : Token) → scan.left ≡ false → Continues piece ahead → run p piece s ≡ Given l s' → s'.used ≡ s.used + scan.used → IsToken l t → Tells p u piece ts scan t s'
+  gave : (piece : List ℕ) (s' : Known) (l : Lexeme) (scan : Stepped) (t : Token) → scan.left ≡ false → Continues piece ahead → run p piece s ≡ Given l s'
+      → s'.used ≡ s.used + scan.used → IsToken l t → Tells p u piece ts scan t s'
   gave piece s' l scan t used_all c e n is = by (given_split p piece s s' l e) where
     by : GivenSplit p piece s s' l → Tells p u piece ts scan t s'
     by x =
@@ -122,17 +136,20 @@ module _ (p : Place) (s : Known) (u : List ℕ) (ts : List Placed) (ahead : List
           lexeme = l;
           is = is;
           longest = λ rest others looks lexes.
-              given_next h.behind s' h.front ts h.left (h.since ++ x.octets) from.0 p l h.told from.1 (behind_since x.octets (Given l s') x.ran) rest others looks
+              given_next h.behind s' h.front ts h.left (h.since ++ x.octets) from.0 p l h.told from.1 (behind_since x.octets (Given l s') x.ran) rest others
+              looks
               (subst (λ o. Lexes false 0 o (ts ++ others)) (ap (λ l. (u ++ l) ++ rest) decide ∙ there x.octets rest) lexes);
           ahead = [];
           left = let whole = ap (λ b. deciding scan.used b) used_all in omega (arith, whole);
           again = (drop scan.used piece, refl);
           scanned = λ q. subst (λ o. Scanned q s' (u ++ o) (ts ++ record { place = p; lexeme = l } ∷ []) []) (sym front)
               (told_more x.octets (record { place = p; lexeme = l }) s' []
-              (Gave h.behind h.front ts h.left (record { place = p; lexeme = l }) (h.since ++ x.octets) from.0 s' h.told from.1 (behind_since x.octets (Given l s') x.ran) (omega (arith, x.used, since_used, length-append h.since x.octets))) is.passes q);
+              (Gave h.behind h.front ts h.left (record { place = p; lexeme = l }) (h.since ++ x.octets) from.0 s' h.told from.1
+              (behind_since x.octets (Given l s') x.ran) (omega (arith, x.used, since_used, length-append h.since x.octets))) is.passes q);
         }
 
-  left : (piece : List ℕ) (s' : Known) (l : Lexeme) (scan : Stepped) (t : Token) → scan.left ≡ true → Continues piece ahead → run p piece s ≡ Left l s' → s'.used ≡ s.used + scan.used → IsToken l t → Tells p u piece ts scan t s'
+  left : (piece : List ℕ) (s' : Known) (l : Lexeme) (scan : Stepped) (t : Token) → scan.left ≡ true → Continues piece ahead → run p piece s ≡ Left l s'
+      → s'.used ≡ s.used + scan.used → IsToken l t → Tells p u piece ts scan t s'
   left piece s' l scan t one_left c e n is = by (left_split p piece s s' l e) where
     by : LeftSplit p piece s s' l → Tells p u piece ts scan t s'
     by x =
@@ -140,51 +157,62 @@ module _ (p : Place) (s : Known) (u : List ℕ) (ts : List Placed) (ahead : List
         let whole : piece ≡ (x.octets ++ x.octet ∷ []) ++ x.rest = x.cut ∙ sym (append_assoc x.octets (x.octet ∷ []) x.rest) in
         let from = from_left piece (x.octets ++ x.octet ∷ []) x.rest c whole (omega (arith, length-append x.octets (x.octet ∷ []))) in
         let front : take scan.used piece ≡ x.octets = front_is piece x.octets (x.octet ∷ x.rest) scan.used x.cut size in
-        let back : drop scan.used piece ≡ x.octet ∷ x.rest = ap (λ l. drop scan.used l) x.cut ∙ ap (λ (n : ℕ). drop n (x.octets ++ x.octet ∷ x.rest)) size ∙ drop-append_seam x.octets (x.octet ∷ x.rest) in
+        let back : drop scan.used piece ≡ x.octet ∷ x.rest = ap (λ l. drop scan.used l) x.cut ∙ ap (λ (n : ℕ). drop n (x.octets ++ x.octet ∷ x.rest)) size
+        ∙ drop-append_seam x.octets (x.octet ∷ x.rest) in
         let longer : scan.used + 1 ≡ length (x.octets ++ x.octet ∷ []) = omega (arith, size, length-append x.octets (x.octet ∷ [])) in
-        let decide : take (deciding scan.used scan.left) piece ≡ x.octets ++ x.octet ∷ [] = ap (λ b. take (deciding scan.used b) piece) one_left ∙ front_is piece (x.octets ++ x.octet ∷ []) x.rest (scan.used + 1) whole longer in
+        let decide : take (deciding scan.used scan.left) piece ≡ x.octets ++ x.octet ∷ [] = ap (λ b. take (deciding scan.used b) piece) one_left
+        ∙ front_is piece (x.octets ++ x.octet ∷ []) x.rest (scan.used + 1) whole longer in
         record {
           lexeme = l;
           is = is;
           longest = λ rest others looks lexes.
-              left_next h.behind s' h.front ts h.left (h.since ++ (x.octets ++ x.octet ∷ [])) from.0 p l h.told from.1 (behind_since (x.octets ++ x.octet ∷ []) (Left l s') x.ran) rest others looks
+              left_next h.behind s' h.front ts h.left (h.since ++ (x.octets ++ x.octet ∷ [])) from.0 p l h.told from.1
+              (behind_since (x.octets ++ x.octet ∷ []) (Left l s') x.ran) rest others looks
               (subst (λ o. Lexes false 0 o (ts ++ others)) (ap (λ l. (u ++ l) ++ rest) decide ∙ there (x.octets ++ x.octet ∷ []) rest) lexes);
           ahead = x.octet ∷ [];
           left = let one = ap (λ b. deciding scan.used b) one_left in omega (arith, one);
           again = (x.rest, back);
           scanned = λ q. subst (λ o. Scanned q s' (u ++ o) (ts ++ record { place = p; lexeme = l } ∷ []) (x.octet ∷ [])) (sym front)
               (told_more x.octets (record { place = p; lexeme = l }) s' (x.octet ∷ [])
-              (Leaved h.behind h.front ts h.left (record { place = p; lexeme = l }) (h.since ++ x.octets) from.0 x.octet s' h.told (append_assoc h.since x.octets (x.octet ∷ []) ∙ from.1)
+              (Leaved h.behind h.front ts h.left (record { place = p; lexeme = l }) (h.since ++ x.octets) from.0 x.octet s' h.told
+              (append_assoc h.since x.octets (x.octet ∷ []) ∙ from.1)
               (ap (λ o. run p o h.behind) (append_assoc h.since x.octets (x.octet ∷ [])) ∙ behind_since (x.octets ++ x.octet ∷ []) (Left l s') x.ran)
               (omega (arith, x.used, since_used, length-append h.since x.octets))) is.passes q);
         }
 
   -- what a step that answers `Ok` says of the octets
-  pub step_goes : (piece : List ℕ) (x : Outcome) (scan : Stepped) (now : Known) → Continues piece ahead → run p piece s ≡ x → Answers s.used x (Ok scan) now → GoesWith p u piece ts scan now scan.token
-  step_goes piece (Next s') scan now c e (uses, none, flag) = subst (λ t. GoesWith p u piece ts scan now t) (sym none) (subst (λ k. Scanned p k (u ++ piece) ts []) (sym uses.known) (goes_on piece s' c e))
-  step_goes piece (Given l s') scan now c e (uses, gives, flag) = subst (λ k. GoesWith p u piece ts scan k scan.token) (sym uses.known) (by scan.token gives) where
-    by : (t : Option Token) → GivesToken l t → GoesWith p u piece ts scan s' t
-    by None h = absurd h
-    by (Some t) h = gave piece s' l scan t flag c e (sym (ap (λ (k : Known). k.used) uses.known) ∙ uses.counted) h
-  step_goes piece (Left l s') scan now c e (uses, gives, flag) = subst (λ k. GoesWith p u piece ts scan k scan.token) (sym uses.known) (by scan.token gives) where
-    by : (t : Option Token) → GivesToken l t → GoesWith p u piece ts scan s' t
-    by None h = absurd h
-    by (Some t) h = left piece s' l scan t flag c e (sym (ap (λ (k : Known). k.used) uses.known) ∙ uses.counted) h
+  pub step_goes : (piece : List ℕ) (x : Outcome) (scan : Stepped) (now : Known) → Continues piece ahead → run p piece s ≡ x → Answers s.used x (Ok scan) now
+      → GoesWith p u piece ts scan now scan.token
+  step_goes piece (Next s') scan now c e (uses, none, flag) =
+      subst (λ t. GoesWith p u piece ts scan now t) (sym none) (subst (λ k. Scanned p k (u ++ piece) ts []) (sym uses.known) (goes_on piece s' c e))
+  step_goes piece (Given l s') scan now c e (uses, gives, flag) =
+      subst (λ k. GoesWith p u piece ts scan k scan.token) (sym uses.known) (by scan.token gives) where
+        by : (t : Option Token) → GivesToken l t → GoesWith p u piece ts scan s' t
+        by None h = absurd h
+        by (Some t) h = gave piece s' l scan t flag c e (sym (ap (λ (k : Known). k.used) uses.known) ∙ uses.counted) h
+  step_goes piece (Left l s') scan now c e (uses, gives, flag) =
+      subst (λ k. GoesWith p u piece ts scan k scan.token) (sym uses.known) (by scan.token gives) where
+        by : (t : Option Token) → GivesToken l t → GoesWith p u piece ts scan s' t
+        by None h = absurd h
+        by (Some t) h = left piece s' l scan t flag c e (sym (ap (λ (k : Known). k.used) uses.known) ∙ uses.counted) h
   step_goes piece (Refused n r) scan now c e a = absurd a
 
   -- a token that says nothing isn't the next one
   says_none : (l : Lexeme) (e : Reason) (others : List Placed) → IsBody l.kind l.octets (Err e) → AllSay others → IsNext l others → ⊥
   says_none l e [] b say next = next
-  says_none l e (t ∷ others) b say next = let same = one_body l.kind l.octets (Ok say.0.0) (Err e) (subst (λ (m : Lexeme). IsBody m.kind m.octets (Ok say.0.0)) next say.0.1) b in cc
+  says_none l e (t ∷ others) b say next = let same = one_body l.kind l.octets (Ok say.0.0) (Err e)
+      (subst (λ (m : Lexeme). IsBody m.kind m.octets (Ok say.0.0)) next say.0.1) b in cc
 
   -- the octets up to a refusal's offset
-  at_offset : (piece octets after rest : List ℕ) (offset : ℕ) → piece ≡ octets ++ after → offset ≡ s.used + length octets → take offset (u ++ piece) ++ rest ≡ h.front ++ ((h.since ++ octets) ++ rest)
+  at_offset : (piece octets after rest : List ℕ) (offset : ℕ) → piece ≡ octets ++ after → offset ≡ s.used + length octets → take offset (u ++ piece) ++ rest
+      ≡ h.front ++ ((h.since ++ octets) ++ rest)
   at_offset piece octets after rest offset cut n =
       let size : offset ≡ length (u ++ octets) = omega (arith, n, scanned_used, length-append u octets) in
       ap (λ l. l ++ rest) (front_is (u ++ piece) (u ++ octets) after offset (ap (λ l. u ++ l) cut ∙ sym (append_assoc u octets after)) size) ∙ there octets rest
 
   -- where a step refuses, no document goes on with the octets up to its offset
-  pub step_refuses : (piece : List ℕ) (x : Outcome) (r : Refusal) (now : Known) → r.reason ≢ reasons.Memory → Continues piece ahead → run p piece s ≡ x → Answers s.used x (Err r) now → NoDocument p (take r.offset (u ++ piece)) ts
+  pub step_refuses : (piece : List ℕ) (x : Outcome) (r : Refusal) (now : Known) → r.reason ≢ reasons.Memory → Continues piece ahead → run p piece s ≡ x
+      → Answers s.used x (Err r) now → NoDocument p (take r.offset (u ++ piece)) ts
   step_refuses piece (Next s') r now n c e a = absurd (a n)
   step_refuses piece (Given l s') r now n c e a = by (given_split p piece s s' l e) where
     by : GivenSplit p piece s s' l → NoDocument p (take r.offset (u ++ piece)) ts
@@ -202,7 +230,8 @@ module _ (p : Place) (s : Known) (u : List ℕ) (ts : List Placed) (ahead : List
         let from = from_left piece octets x.rest c whole (omega (arith, size)) in
         says_none l r.reason others (a n).says say
         (left_next h.behind s' h.front ts h.left (h.since ++ octets) from.0 p l h.told from.1 (behind_since octets (Left l s') x.ran) rest others looks
-        (subst (λ o. Lexes false 0 o (ts ++ others)) (at_offset piece octets x.rest rest r.offset whole (let at = (a n).offset in omega (arith, at, x.used, size))) lexes))
+        (subst (λ o. Lexes false 0 o (ts ++ others)) (at_offset piece octets x.rest rest r.offset whole (let at = (a n).offset in
+        omega (arith, at, x.used, size))) lexes))
   step_refuses piece (Refused k reason) r now n c e a = by (refused_split p piece s k reason e) where
     by : RefusedSplit p piece s k reason → NoDocument p (take r.offset (u ++ piece)) ts
     by x = λ rest others looks say lexes.
@@ -212,8 +241,10 @@ module _ (p : Place) (s : Known) (u : List ℕ) (ts : List Placed) (ahead : List
         let size = length-append last.before (last.octet ∷ []) in
         let from = from_left piece octets last.rest c whole (omega (arith, size)) in
         let at : r.offset ≡ k = ap (λ (q : Refusal). q.offset) (a n) in
-        let ran : run p octets s ≡ Refused k reason = run_behind p last.before (last.octet ∷ []) s last.known last.ran ∙ ap (λ y. follow y (λ t. Next t)) last.fed in
-        refusal_right h.behind h.front ts h.left (h.since ++ octets) from.0 p k reason h.told from.1 (behind_since octets (Refused k reason) ran) rest others looks
+        let ran : run p octets s ≡ Refused k reason = run_behind p last.before (last.octet ∷ []) s last.known last.ran
+        ∙ ap (λ y. follow y (λ t. Next t)) last.fed in
+        refusal_right h.behind h.front ts h.left (h.since ++ octets) from.0 p k reason h.told from.1 (behind_since octets (Refused k reason) ran) rest others
+        looks
         (subst (λ o. Lexes false 0 o (ts ++ others)) (at_offset piece octets last.rest rest r.offset whole (omega (arith, at, x.offset, size))) lexes)
 
 module _ (p : Place) (s : Known) (u : List ℕ) (ts : List Placed) (h : Scanned p s u ts []) where
@@ -227,13 +258,18 @@ module _ (p : Place) (s : Known) (u : List ℕ) (ts : List Placed) (h : Scanned 
   pub end_goes : (x : Result (Option Lexeme) Reason) (token : Option Token) → at_end p s ≡ x → Ends s.used x (Ok token) → EndsSo p u ts token
   end_goes (Ok None) token e a =
       let c = all_since in
-      subst (λ t. EndsSo p u ts t) (sym a) (subst (λ o. Lexes false 0 o ts) (sym h.cut) (ends_in_blank h.behind s h.front ts h.left h.since c.0 p h.told h.pass c.1 h.ran e))
+      subst (λ t. EndsSo p u ts t) (sym a) (subst (λ o. Lexes false 0 o ts) (sym h.cut)
+      (ends_in_blank h.behind s h.front ts h.left h.since c.0 p h.told h.pass c.1 h.ran e))
   end_goes (Ok (Some l)) token e a = by token a where
     by : (t : Option Token) → GivesToken l t → EndsSo p u ts t
     by None k = absurd k
     by (Some t) k =
-        let c = all_since in
-        (l, k, subst (λ o. Lexes false 0 o (ts ++ record { place = p; lexeme = l } ∷ [])) (sym h.cut) (ends_in_token h.behind s h.front ts h.left h.since c.0 p l h.told h.pass c.1 h.ran e k.passes))
+        let c = all_since in (
+          l,
+          k,
+          subst (λ o. Lexes false 0 o (ts ++ record { place = p; lexeme = l } ∷ [])) (sym h.cut)
+              (ends_in_token h.behind s h.front ts h.left h.since c.0 p l h.told h.pass c.1 h.ran e k.passes),
+        )
   end_goes (Err r) token e a = absurd a
 
   at_cut : (others : List Placed) → Lexes false 0 u (ts ++ others) → Lexes false 0 (h.front ++ h.since) (ts ++ others)
@@ -243,7 +279,8 @@ module _ (p : Place) (s : Known) (u : List ℕ) (ts : List Placed) (h : Scanned 
   pub end_refuses : (x : Result (Option Lexeme) Reason) (r : Refusal) → r.reason ≢ reasons.Memory → at_end p s ≡ x → Ends s.used x (Err r) → NoEnd p u ts
   end_refuses x r n e a [] short looks say lexes =
       let c = all_since in
-      let none : at_end p s ≡ Ok None = end_blank h.behind s h.front ts h.left h.since c.0 p h.told c.1 h.ran (subst (λ l. Lexes false 0 (h.front ++ h.since) l) (append-nil ts) (at_cut [] lexes)) in
+      let none : at_end p s ≡ Ok None = end_blank h.behind s h.front ts h.left h.since c.0 p h.told c.1 h.ran
+      (subst (λ l. Lexes false 0 (h.front ++ h.since) l) (append-nil ts) (at_cut [] lexes)) in
       by x (sym e ∙ none) a where
         by : (x : Result (Option Lexeme) Reason) → x ≡ Ok None → Ends s.used x (Err r) → ⊥
         by (Ok None) f b = b n
@@ -259,24 +296,29 @@ module _ (p : Place) (s : Known) (u : List ℕ) (ts : List Placed) (h : Scanned 
 
         by : (x : Result (Option Lexeme) Reason) → x ≡ Ok (Some t.lexeme) → Ends s.used x (Err r) → ⊥
         by (Ok None) f b = cc
-        by (Ok (Some l)) f b = let same : l ≡ t.lexeme = ap lexeme_in f in let says = subst (λ (m : Lexeme). IsBody m.kind m.octets (Err r.reason)) same (b n).says in
+        by (Ok (Some l)) f b = let same : l ≡ t.lexeme = ap lexeme_in f in let says =
+            subst (λ (m : Lexeme). IsBody m.kind m.octets (Err r.reason)) same (b n).says in
             let one = one_body t.lexeme.kind t.lexeme.octets (Ok say.0.0) (Err r.reason) say.0.1 says in cc
         by (Err q) f b = cc
   end_refuses x r n e a (t ∷ o ∷ others) short looks say lexes = absurd (omega arith)
 
 -- the octets used begin with the tokens told
-pub begins_told : (p : Place) (s : Known) (u : List ℕ) (ts : List Placed) (ahead : List ℕ) → Scanned p s u ts ahead → (rest : List ℕ) → Continues rest ahead → BeginsLexed false 0 (u ++ rest) ts
+pub begins_told : (p : Place) (s : Known) (u : List ℕ) (ts : List Placed) (ahead : List ℕ) → Scanned p s u ts ahead → (rest : List ℕ) → Continues rest ahead
+    → BeginsLexed false 0 (u ++ rest) ts
 begins_told p s u ts ahead h rest c =
     let w = whole_piece p s u ts ahead h rest c in
     let t = told_right h.behind h.front ts h.left h.told h.pass (h.since ++ rest) w.0 w.1 in
-    subst (λ o. BeginsLexed false 0 o ts) (sym (ap (λ l. l ++ rest) h.cut ∙ append_assoc h.front h.since rest)) (begins_lexed ts false 0 (h.front ++ (h.since ++ rest)) t.0 t.1 t.2 t.3)
+    subst (λ o. BeginsLexed false 0 o ts) (sym (ap (λ l. l ++ rest) h.cut ∙ append_assoc h.front h.since rest))
+    (begins_lexed ts false 0 (h.front ++ (h.since ++ rest)) t.0 t.1 t.2 t.3)
   where
-    begins_lexed : (ts : List Placed) (colon : Bool) (before : ℕ) (octets : List ℕ) (after : Bool) (end : ℕ) (rest : List ℕ) → LexesTo colon before octets ts after end rest → BeginsLexed colon before octets ts
+    begins_lexed : (ts : List Placed) (colon : Bool) (before : ℕ) (octets : List ℕ) (after : Bool) (end : ℕ) (rest : List ℕ)
+        → LexesTo colon before octets ts after end rest → BeginsLexed colon before octets ts
     begins_lexed [] colon before octets after end rest h = tt
     begins_lexed (t ∷ ts) colon before octets after end rest (others, b, l) = (others, b, begins_lexed ts _ t.lexeme.end others after end rest l)
 
 -- none but the tokens told has ended whatever follows
-pub all_told : (p : Place) (s : Known) (u : List ℕ) (ts : List Placed) → Scanned p s u ts [] → (t : Placed) → t.place ≡ p → ((rest : List ℕ) → AreOctets rest → BeginsLexed false 0 (u ++ rest) (ts ++ t ∷ [])) → ⊥
+pub all_told : (p : Place) (s : Known) (u : List ℕ) (ts : List Placed) → Scanned p s u ts [] → (t : Placed) → t.place ≡ p
+    → ((rest : List ℕ) → AreOctets rest → BeginsLexed false 0 (u ++ rest) (ts ++ t ∷ [])) → ⊥
 all_told p s u ts h t place lexes =
     let c = all_since p s u ts h in
     told_all h.behind s h.front ts h.left h.since c.0 p h.told h.pass c.1 h.ran t place

@@ -32,4 +32,5 @@ each_lane t f p all (x ∷ xs) fits =
 pub masked_by : (t : ℕ → Bool) (f : Bool → ℕ → ℕ) (p : Bool → ℕ → Bool) → ((b : Bool) → T (holds_below (λ x. same (top 7 (f b x)) (p b x)) 256))
     → (v z : List ℕ) → length v ≤ 64 → Each1 (Fits w8) v → z ≡ map (λ x. f (t x) x) v → mask_l (map (top 7) z) % 2 ^ 64 ≡ mask_l (map (λ x. p (t x) x) v)
 masked_by t f p all v z short fits e =
-    ap (λ l. mask_l l % 2 ^ 64) (ap (map (top 7)) e ∙ each_lane t f p all v fits) ∙ mask_l-mod (map (λ x. p (t x) x) v) 64 (omega (arith, length-map v (λ x. p (t x) x)))
+    ap (λ l. mask_l l % 2 ^ 64) (ap (map (top 7)) e ∙ each_lane t f p all v fits)
+    ∙ mask_l-mod (map (λ x. p (t x) x) v) 64 (omega (arith, length-map v (λ x. p (t x) x)))

@@ -32,27 +32,34 @@ module _ (q : ℕ → Bool) where
     by true le f ih = let rest = ih (omega arith) in omega arith
     by false le f ih = absurd (omega arith)
 
-  split : (d : List ℕ) (i n : ℕ) → prefix_len q (drop i d) ≡ cond (eqb (prefix_len q (chunk i n d)) (length (chunk i n d))) (length (chunk i n d) + prefix_len q (drop (i + n) d)) (prefix_len q (chunk i n d))
+  split : (d : List ℕ) (i n : ℕ) → prefix_len q (drop i d) ≡ cond (eqb (prefix_len q (chunk i n d)) (length (chunk i n d)))
+      (length (chunk i n d) + prefix_len q (drop (i + n) d)) (prefix_len q (chunk i n d))
   split d i n = ap (prefix_len q) (chunk-drop i n d) ∙ prefix_len-append q (chunk i n d) (drop (i + n) d)
 
-  through : (d : List ℕ) (i n : ℕ) → i + n ≤ length d → mask_l (map (λ x. not (q x)) (chunk i n d)) ≡ 0 → prefix_len q (drop i d) ≡ n + prefix_len q (drop (i + n) d)
+  through : (d : List ℕ) (i n : ℕ) → i + n ≤ length d → mask_l (map (λ x. not (q x)) (chunk i n d)) ≡ 0
+      → prefix_len q (drop i d) ≡ n + prefix_len q (drop (i + n) d)
   through d i n room none =
       let c = chunk i n d in
-      split d i n ∙ ap (λ b. cond b (length c + prefix_len q (drop (i + n) d)) (prefix_len q c)) (eq-eqb _ _ (same_run c ∙ leading_from_mask_l (λ x. not (q x)) c none))
+      split d i n ∙ ap (λ b. cond b (length c + prefix_len q (drop (i + n) d)) (prefix_len q c))
+      (eq-eqb _ _ (same_run c ∙ leading_from_mask_l (λ x. not (q x)) c none))
       ∙ ap (λ k. k + prefix_len q (drop (i + n) d)) (length-chunk i n d room)
 
-  stops : (d : List ℕ) (i n : ℕ) → i + n ≤ length d → n ≤ 64 → 0 < mask_l (map (λ x. not (q x)) (chunk i n d)) → prefix_len q (drop i d) ≡ count_trailing_zeros 64 (mask_l (map (λ x. not (q x)) (chunk i n d)))
+  stops : (d : List ℕ) (i n : ℕ) → i + n ≤ length d → n ≤ 64 → 0 < mask_l (map (λ x. not (q x)) (chunk i n d))
+      → prefix_len q (drop i d) ≡ count_trailing_zeros 64 (mask_l (map (λ x. not (q x)) (chunk i n d)))
   stops d i n room short some =
       let c = chunk i n d in
-      split d i n ∙ ap (λ b. cond b (length c + prefix_len q (drop (i + n) d)) (prefix_len q c)) (ne_eqb _ _ (λ (e : prefix_len q c ≡ length c). omega (arith, none_marked c e)))
+      split d i n ∙ ap (λ b. cond b (length c + prefix_len q (drop (i + n) d)) (prefix_len q c))
+      (ne_eqb _ _ (λ (e : prefix_len q c ≡ length c). omega (arith, none_marked c e)))
       ∙ same_run c ∙ sym (trailing_mask_l (λ x. not (q x)) 64 c (omega (arith, length-chunk i n d room)) some)
 
   -- none of these lanes ends it
-  pub goes_through : (d : List ℕ) (i n found : ℕ) → GoesOnTo q d i → i + n ≤ length d → found ≡ mask_l (map (λ x. not (q x)) (chunk i n d)) → found ≡ 0 → GoesOnTo q d (i + n)
+  pub goes_through : (d : List ℕ) (i n found : ℕ) → GoesOnTo q d i → i + n ≤ length d → found ≡ mask_l (map (λ x. not (q x)) (chunk i n d)) → found ≡ 0
+      → GoesOnTo q d (i + n)
   goes_through d i n found on room e none = (room, on.1 ∙ (let more = through d i n room (sym e ∙ none) in omega arith))
 
   -- the first that is marked ends it
-  pub stops_at : (d : List ℕ) (i n found : ℕ) → GoesOnTo q d i → i + n ≤ length d → n ≤ 64 → found ≡ mask_l (map (λ x. not (q x)) (chunk i n d)) → 0 < found → i + count_trailing_zeros 64 found ≡ length (take_while q d)
+  pub stops_at : (d : List ℕ) (i n found : ℕ) → GoesOnTo q d i → i + n ≤ length d → n ≤ 64 → found ≡ mask_l (map (λ x. not (q x)) (chunk i n d)) → 0 < found
+      → i + count_trailing_zeros 64 found ≡ length (take_while q d)
   stops_at d i n found on room short e some =
       let run = stops d i n room short (omega arith) ∙ ap (count_trailing_zeros 64) (sym e) in
       omega (arith, length-prefix_len q d)

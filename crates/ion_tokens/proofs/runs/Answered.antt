@@ -9,7 +9,8 @@ use Rattle.ion_tokens.specs.Lexemes.{Lexeme}
 use Rattle.ion_tokens.specs.machine.Steps.{answered, Answers, GivesToken, IsWithin}
 use Rattle.ion_tokens.proofs.runs.Runs.{Between}
 
-pub used_within : (x : Outcome) (r : Result Scan Refusal) (left : Bool) (before n : ℕ) (now : Known) → Between x before n → Answers before x (answered r left) now
+pub used_within : (x : Outcome) (r : Result Scan Refusal) (left : Bool) (before n : ℕ) (now : Known) → Between x before n
+    → Answers before x (answered r left) now
     → IfOk r (λ scan. scan.used ≤ n)
 unfolding Between
 used_within (Next s) (Ok scan) left before n now h a = let e = ap (λ (t : Known). t.used) a.0.known in let k = a.0.counted in omega arith
@@ -22,7 +23,8 @@ gives_some : (l : Lexeme) (t : Option Token) → GivesToken l t → t ≡ None �
 gives_some l None g e = g
 gives_some l (Some t) g e = cc
 
-pub used_whole : (x : Outcome) (r : Result Scan Refusal) (left : Bool) (before n : ℕ) (now : Known) → Between x before n → Answers before x (answered r left) now
+pub used_whole : (x : Outcome) (r : Result Scan Refusal) (left : Bool) (before n : ℕ) (now : Known) → Between x before n
+    → Answers before x (answered r left) now
     → IfOk r (λ scan. scan.token ≡ None → scan.used ≡ n)
 unfolding Between
 used_whole (Next s) (Ok scan) left before n now h a = let e = ap (λ (t : Known). t.used) a.0.known in let k = a.0.counted in λ _. omega arith
@@ -32,11 +34,13 @@ used_whole (Refused at reason) (Ok scan) left before n now h a = absurd a
 used_whole x (Err r) left before n now h a = tt
 
 -- a refusal is at one of the octets of the piece
-pub refused_within : (x : Outcome) (r : Result Scan Refusal) (left : Bool) (before n : ℕ) (now : Known) → Between x before n → Answers before x (answered r left) now
+pub refused_within : (x : Outcome) (r : Result Scan Refusal) (left : Bool) (before n : ℕ) (now : Known) → Between x before n
+    → Answers before x (answered r left) now
     → IfErr r (λ refusal. refusal.reason ≢ Memory → IsWithin before n refusal)
 unfolding Between
 refused_within x (Ok scan) left before n now h a = tt
 refused_within (Next s) (Err r) left before n now h a = λ other. absurd (a other)
 refused_within (Given l s) (Err r) left before n now h a = λ other. let at = (a other).offset in (omega (arith, at, h.0), omega (arith, at, h.1))
 refused_within (Left l s) (Err r) left before n now h a = λ other. let at = (a other).offset in (omega (arith, at, h.0), omega (arith, at, h.1))
-refused_within (Refused k reason) (Err r) left before n now h a = λ other. let at = ap (λ (q : Refusal). q.offset) (a other) in (omega (arith, at, h.0), omega (arith, at, h.1))
+refused_within (Refused k reason) (Err r) left before n now h a = λ other. let at = ap (λ (q : Refusal). q.offset) (a other) in
+    (omega (arith, at, h.0), omega (arith, at, h.1))

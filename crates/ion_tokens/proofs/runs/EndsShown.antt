@@ -36,7 +36,8 @@ pub shown_at : (left : Bool) (p : Place) (octets : List ℕ) (s s' : Known) (l :
 shown_at true p [] s s' l e = cc
 shown_at false p [] s s' l e = cc
 shown_at left p (o ∷ os) s s' l e = by (feed p s o) refl e (λ t. shown_at left p os t s' l) where
-  by : (x : Outcome) → feed p s o ≡ x → follow x (λ t. run p os t) ≡ ended left l s' → ((t : Known) → run p os t ≡ ended left l s' → ShownAt p os t s' l left) → ShownAt p (o ∷ os) s s' l left
+  by : (x : Outcome) → feed p s o ≡ x → follow x (λ t. run p os t) ≡ ended left l s' → ((t : Known) → run p os t ≡ ended left l s' → ShownAt p os t s' l left)
+      → ShownAt p (o ∷ os) s s' l left
   by (Next t) f g more =
       let r = more t g in
       record {
@@ -52,7 +53,8 @@ shown_at left p (o ∷ os) s s' l e = by (feed p s o) refl e (λ t. shown_at lef
   by (Refused n r) f g more = record { n = 0; within = omega arith; known = s; ran = refl; ends = f ∙ g; used = ended_used left p o s s' l (f ∙ g) }
 
 -- A token to which a machine that rests comes over these octets, and behind which it rests again, stands whole at their front.
-pub found_by_run : (p : Place) (r : Rest) (octets : List ℕ) (kind : TokenKind) (kept : List ℕ) (n : ℕ) (left : Bool) → 0 < n → run p octets (resting r) ≡ ended left (lexeme_at r kind kept n) (resting (past_token p r kind n)) → IsFound p r octets kind kept n left
+pub found_by_run : (p : Place) (r : Rest) (octets : List ℕ) (kind : TokenKind) (kept : List ℕ) (n : ℕ) (left : Bool) → 0 < n → run p octets (resting r)
+    ≡ ended left (lexeme_at r kind kept n) (resting (past_token p r kind n)) → IsFound p r octets kind kept n left
 found_by_run p r octets kind kept n true some e =
     let h = shown_at true p octets (resting r) (resting (past_token p r kind n)) (lexeme_at r kind kept n) e in
     let is : h.n ≡ n = omega (arith, h.used) in
@@ -75,10 +77,13 @@ found_by_run p r octets kind kept n false some e =
     }
 
 -- the same of what was found, if something was
-pub found_if : (p : Place) (r : Rest) (octets : List ℕ) (m : Machine) (x : Ended) (left : Bool) (o : Option FoundToken) → run p octets (resting r) ≡ ended left (lexeme_in x m) (known m)
-    → IfSome o (λ f. 0 < f.count) → IfSome o (λ f. known m ≡ resting (past_token p r f.kind f.count)) → IfSome o (λ f. lexeme_in x m ≡ lexeme_at r f.kind m.ended.items f.count) → IfSome o (λ f. f.left ≡ left)
+pub found_if : (p : Place) (r : Rest) (octets : List ℕ) (m : Machine) (x : Ended) (left : Bool) (o : Option FoundToken) → run p octets (resting r)
+    ≡ ended left (lexeme_in x m) (known m)
+    → IfSome o (λ f. 0 < f.count) → IfSome o (λ f. known m ≡ resting (past_token p r f.kind f.count))
+    → IfSome o (λ f. lexeme_in x m ≡ lexeme_at r f.kind m.ended.items f.count) → IfSome o (λ f. f.left ≡ left)
     → IfSome o (λ f. IsFound p r octets f.kind m.ended.items f.count f.left)
 found_if p r octets m x left None e some k l w = some
 found_if p r octets m x left (Some f) e some k l w =
     subst (λ (b : Bool). IsFound p r octets f.kind m.ended.items f.count b) (sym w)
-    (found_by_run p r octets f.kind m.ended.items f.count left some (e ∙ ap (λ (y : Lexeme). ended left y (known m)) l ∙ ap (λ (t : Known). ended left (lexeme_at r f.kind m.ended.items f.count) t) k))
+    (found_by_run p r octets f.kind m.ended.items f.count left some
+    (e ∙ ap (λ (y : Lexeme). ended left y (known m)) l ∙ ap (λ (t : Known). ended left (lexeme_at r f.kind m.ended.items f.count) t) k))

@@ -105,9 +105,11 @@ run_on p s (o ∷ q ∷ os) some h =
 pub run_over : (p : Place) (s : Known) (w : List ℕ) → 0 < length w → GoesOver s.mode w → run p w s ≡ Next (gone_on s w)
 run_over p s w some h = by s.mode s.kept s.colon s.start s.used h where
   by : (m : Mode) (kept : List ℕ) (colon : Bool) (start used : ℕ) → GoesOver m w
-      → run p w (record { mode = m; kept = kept; colon = colon; start = start; used = used }) ≡ Next (gone_on (record { mode = m; kept = kept; colon = colon; start = start; used = used }) w)
+      → run p w (record { mode = m; kept = kept; colon = colon; start = start; used = used })
+      ≡ Next (gone_on (record { mode = m; kept = kept; colon = colon; start = start; used = used }) w)
   by (modes.Text style within.Plain) kept colon start used h =
-      ap (λ l. run p l (record { mode = modes.Text style within.Plain; kept = kept; colon = colon; start = start; used = used })) (sym (append-nil w)) ∙ kept_goes p style w kept h colon start used []
+      ap (λ l. run p l (record { mode = modes.Text style within.Plain; kept = kept; colon = colon; start = start; used = used })) (sym (append-nil w))
+      ∙ kept_goes p style w kept h colon start used []
   by m kept colon start used h = run_on p (record { mode = m; kept = kept; colon = colon; start = start; used = used }) w some h
 
 -- where all octets are used, the first one is
@@ -154,10 +156,12 @@ rest_is piece at = grind (arith, common_steps)
 pub front_all : (class : ℕ → Bool) (w : List ℕ) (k : ℕ) → k ≡ length (take_while class w) → take k w ≡ take_while class w
 front_all class w k e = ap (λ i. take i w) e ∙ fronts class w
 
-pub front_on : (p : Place) (w : List ℕ) (k : ℕ) (s : Known) → k ≡ length (take_while (goes_on s.mode) w) → 0 < k → run p (take k w) s ≡ Next (gone_on s (take k w))
+pub front_on : (p : Place) (w : List ℕ) (k : ℕ) (s : Known) → k ≡ length (take_while (goes_on s.mode) w) → 0 < k
+    → run p (take k w) s ≡ Next (gone_on s (take k w))
 front_on p w k s e some =
     let is = front_all (goes_on s.mode) w k e in
-    run_on p s (take k w) (let n = ap (λ (l : List ℕ). length l) is in omega arith) (subst (λ l. Each (goes_on s.mode) l) (sym is) (each_front (goes_on s.mode) w))
+    run_on p s (take k w) (let n = ap (λ (l : List ℕ). length l) is in omega arith)
+    (subst (λ l. Each (goes_on s.mode) l) (sym is) (each_front (goes_on s.mode) w))
 
 -- what is left behind octets that are all used
 run_past : (p : Place) (w : List ℕ) (k : ℕ) (s t : Known) → run p (take k w) s ≡ Next t → run p (drop k w) t ≡ run p w s
@@ -174,10 +178,12 @@ went p piece at k s t n m h =
     subst (λ w. run p (take k w) s ≡ Next t) (rest_is piece at) (run_over p s (take k rest) some h.over ∙ ap Next (sym h.taken))
 
 -- What is left behind them leads where what was left before them leads.
-pub leads_on : (p : Place) (piece : List ℕ) (at k : ℕ) (s t : Known) (n m : ℕ) → TakesFront piece at k s t n m → run p (drop (at + k) piece) t ≡ run p (drop at piece) s
+pub leads_on : (p : Place) (piece : List ℕ) (at k : ℕ) (s t : Known) (n m : ℕ) → TakesFront piece at k s t n m → run p (drop (at + k) piece) t
+    ≡ run p (drop at piece) s
 leads_on p piece at k s t n m h = ap (λ w. run p w t) (sym (drop-drop k at piece)) ∙ run_past p (drop at piece) k s t (went p piece at k s t n m h)
 
-pub steady_from : (p : Place) (w : List ℕ) (s t : Known) (n m : ℕ) → run p w s ≡ Next t → IsSteady s n → s.used + length w < 2 ^ 63 → m ≡ min (n + length w) (2 ^ 64 - 1) → IsSteady t m
+pub steady_from : (p : Place) (w : List ℕ) (s t : Known) (n m : ℕ) → run p w s ≡ Next t → IsSteady s n → s.used + length w < 2 ^ 63
+    → m ≡ min (n + length w) (2 ^ 64 - 1) → IsSteady t m
 steady_from p w s t n m e h room looked =
     let now = run_steady p w s t n e h room in
     let used = next_used p w s t (sym e) in
@@ -223,8 +229,10 @@ looks_on piece at k s t n m h =
     omega arith
 
 -- Octets over which the mode goes on keep a scanner steady.
-pub going_steady : (w : List ℕ) (s t : Known) (n m : ℕ) → 0 < length w → GoesOver s.mode w → t ≡ gone_on s w → s.used + length w < 2 ^ 63 → m ≡ min (n + length w) (2 ^ 64 - 1) → IsSteady s n → IsSteady t m
-going_steady w s t n m some over is room looked steady = steady_from places.Top w s t n m (run_over places.Top s w some over ∙ ap Next (sym is)) steady room looked
+pub going_steady : (w : List ℕ) (s t : Known) (n m : ℕ) → 0 < length w → GoesOver s.mode w → t ≡ gone_on s w → s.used + length w < 2 ^ 63
+    → m ≡ min (n + length w) (2 ^ 64 - 1) → IsSteady s n → IsSteady t m
+going_steady w s t n m some over is room looked steady =
+    steady_from places.Top w s t n m (run_over places.Top s w some over ∙ ap Next (sym is)) steady room looked
 
 -- They lead on.
 pub going_led : (w : List ℕ) (s t : Known) → 0 < length w → GoesOver s.mode w → t ≡ gone_on s w → (p : Place) → run p w s ≡ Next t

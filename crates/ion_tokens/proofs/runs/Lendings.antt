@@ -42,7 +42,8 @@ kept_is p colon w r kinds.Word kept h k = h.0
 kept_is p colon w r kinds.Operator kept h k = h.0
 kept_is p colon w r _ kept h k = absurd k
 
-last_of : (End : Bool → ℕ → List ℕ → Type 0) (ts : List Placed) (t : Placed) (colon : Bool) (before : ℕ) (octets : List ℕ) → LexesBefore End colon before octets (ts ++ t ∷ []) → LastOf before octets t.lexeme
+last_of : (End : Bool → ℕ → List ℕ → Type 0) (ts : List Placed) (t : Placed) (colon : Bool) (before : ℕ) (octets : List ℕ)
+    → LexesBefore End colon before octets (ts ++ t ∷ []) → LastOf before octets t.lexeme
 last_of End [] t colon before octets (rest, b, l) = record {
   front = b.blank;
   token = b.token;
@@ -50,7 +51,8 @@ last_of End [] t colon before octets (rest, b, l) = record {
   cut = b.cut ∙ append_assoc b.blank b.token rest;
   start = b.start;
   end = b.end;
-  some = λ none. some_octet t.place colon rest t.lexeme.kind t.lexeme.octets (subst (λ w. IsLexeme t.place colon w rest t.lexeme.kind t.lexeme.octets) none b.is);
+  some = λ none. some_octet t.place colon rest t.lexeme.kind t.lexeme.octets
+      (subst (λ w. IsLexeme t.place colon w rest t.lexeme.kind t.lexeme.octets) none b.is);
   kept = λ k. kept_is t.place colon b.token rest t.lexeme.kind t.lexeme.octets b.is k;
 }
 last_of End (x ∷ ts) t colon before octets (rest, b, l) =
@@ -103,21 +105,24 @@ operator_octets kinds.Clob octets w h = cc
 operator_octets kinds.Blob octets w h = cc
 operator_octets (kinds.Mark m) octets w h = cc
 
-module _ (before : ℕ) (u piece : List ℕ) (l : Lexeme) (start end : ℕ) (used : before ≡ length u) (h : LastOf 0 (u ++ piece) l) (first : start ≡ l.start) (last : end ≡ l.end) where
+module _ (before : ℕ) (u piece : List ℕ) (l : Lexeme) (start end : ℕ) (used : before ≡ length u) (h : LastOf 0 (u ++ piece) l) (first : start ≡ l.start)
+    (last : end ≡ l.end) where
   -- The octets of the token stand in the piece, if it begins there.
   in_piece : before ≤ start → h.token ≡ take (end - start) (drop (start - before) piece)
   in_piece le =
       let size : end - start ≡ length h.token = omega (arith, first, last, h.start, h.end) in
       let far : length u + (start - before) ≡ length h.front = omega (arith, used, first, h.start) in
       let behind : drop (start - before) piece ≡ h.token ++ h.rest =
-      sym (drop-append-add u piece (start - before)) ∙ ap (λ (n : ℕ). drop n (u ++ piece)) far ∙ ap (λ o. drop (length h.front) o) h.cut ∙ drop-append_seam h.front (h.token ++ h.rest) in
+      sym (drop-append-add u piece (start - before)) ∙ ap (λ (n : ℕ). drop n (u ++ piece)) far ∙ ap (λ o. drop (length h.front) o) h.cut
+      ∙ drop-append_seam h.front (h.token ++ h.rest) in
       sym (front_is (drop (start - before) piece) h.token h.rest (end - start) behind size)
 
   all_long : length u + length piece ≡ length h.front + (length h.token + length h.rest)
   all_long = let e = ap length h.cut in omega (arith, e, length-append u piece, length-append h.front (h.token ++ h.rest), length-append h.token h.rest)
 
   lent_is : (lent w : List ℕ) → StandIn before start end piece lent → w ≡ h.token → before ≤ start → w ≡ lent
-  lent_is lent w s e le = e ∙ in_piece le ∙ sym (s.here le (omega (arith, first, last, h.start, h.end)) (omega (arith, first, last, h.start, h.end, used, all_long)))
+  lent_is lent w s e le = e ∙ in_piece le ∙ sym (s.here le (omega (arith, first, last, h.start, h.end))
+      (omega (arith, first, last, h.start, h.end, used, all_long)))
 
   lent_not : (lent w : List ℕ) → StandIn before start end piece lent → w ≡ h.token → start < before → w ≢ lent
   lent_not lent w s e lt same = h.some (sym e ∙ same ∙ s.none lt)
@@ -142,14 +147,17 @@ module _ (before : ℕ) (u piece : List ℕ) (l : Lexeme) (start end : ℕ) (use
   lends (bodies.Mark _) says b = tt
 
 -- What a step's token is lent.
-pub step_lends : (p : Place) (s : Known) (u : List ℕ) (ts : List Placed) (ahead : List ℕ) → Scanned p s u ts ahead → (piece : List ℕ) (scan : Stepped) (t : Token) (now : Known)
+pub step_lends : (p : Place) (s : Known) (u : List ℕ) (ts : List Placed) (ahead : List ℕ) → Scanned p s u ts ahead
+    → (piece : List ℕ) (scan : Stepped) (t : Token) (now : Known)
     → Tells p u piece ts scan t now → BorrowsAt s.used t.start t.end piece t.body → IsLentBody s.used t.start t.body
 step_lends p s u ts ahead h piece scan t now tells b =
     let l = tells.lexeme in
     let front = u ++ take scan.used piece in
-    let whole : front ++ drop scan.used piece ≡ u ++ piece = append_assoc u (take scan.used piece) (drop scan.used piece) ∙ ap (λ o. u ++ o) (take-append-drop scan.used piece) in
+    let whole : front ++ drop scan.used piece ≡ u ++ piece = append_assoc u (take scan.used piece) (drop scan.used piece)
+    ∙ ap (λ o. u ++ o) (take-append-drop scan.used piece) in
     let told = begins_told p now front (ts ++ record { place = p; lexeme = l } ∷ []) tells.ahead (tells.scanned p) (drop scan.used piece) tells.again in
-    let last = last_of _ ts (record { place = p; lexeme = l }) false 0 (u ++ piece) (subst (λ o. BeginsLexed false 0 o (ts ++ record { place = p; lexeme = l } ∷ [])) whole told) in
+    let last = last_of _ ts (record { place = p; lexeme = l }) false 0 (u ++ piece)
+    (subst (λ o. BeginsLexed false 0 o (ts ++ record { place = p; lexeme = l } ∷ [])) whole told) in
     lends s.used u piece l t.start t.end (scanned_used p s u ts ahead h) last tells.is.start tells.is.end t.body tells.is.says b
 
 owned : (before start : ℕ) (b : Body) → start < before → IsLentBody before start b → IsOwnedBody b
@@ -170,18 +178,29 @@ some_long [] n = absurd (n refl)
 some_long (o ∷ os) n = omega arith
 
 -- What an end's is.
-pub end_owns : (p : Place) (s : Known) (u : List ℕ) (ts : List Placed) → Scanned p s u ts [] → (t : Token) → EndsSo p u ts (Some t) → BorrowsAt s.used t.start t.end [] t.body → IsOwnedBody t.body
+pub end_owns : (p : Place) (s : Known) (u : List ℕ) (ts : List Placed) → Scanned p s u ts [] → (t : Token) → EndsSo p u ts (Some t)
+    → BorrowsAt s.used t.start t.end [] t.body → IsOwnedBody t.body
 end_owns p s u ts h t (l, is, lexes) b =
     let last : LastOf 0 u l = last_of _ ts (record { place = p; lexeme = l }) false 0 u lexes in
     let there : LastOf 0 (u ++ []) l = subst (λ o. LastOf 0 o l) (sym (append-nil u)) last in
     let used = scanned_used p s u ts [] h in
     let long = ap length last.cut in
     let some = some_long last.token last.some in
-    let before : t.start < s.used = omega (arith, used, long, some, is.start, last.start, length-append last.front (last.token ++ last.rest), length-append last.token last.rest) in
+    let before : t.start < s.used = omega (
+      arith,
+      used,
+      long,
+      some,
+      is.start,
+      last.start,
+      length-append last.front (last.token ++ last.rest),
+      length-append last.token last.rest,
+    ) in
     owned s.used t.start t.body before (lends s.used u [] l t.start t.end used there is.start is.end t.body is.says b)
 
 -- what is borrowed with octets that stand where the token does
-pub lends_there : (before start end : ℕ) (piece lent : List ℕ) (b : Body) → StandIn before start end piece lent → BorrowsFrom lent b → BorrowsAt before start end piece b
+pub lends_there : (before start end : ℕ) (piece lent : List ℕ) (b : Body) → StandIn before start end piece lent → BorrowsFrom lent b
+    → BorrowsAt before start end piece b
 lends_there before start end piece lent (bodies.Word w) s b = (lent, s, b)
 lends_there before start end piece lent (bodies.Operator w) s b = (lent, s, b)
 lends_there before start end piece lent (bodies.Id _) s b = tt

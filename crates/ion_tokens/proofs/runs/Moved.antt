@@ -11,14 +11,16 @@ use Rattle.ion_tokens.specs.Lexed.{Placed, Passes}
 use Rattle.ion_tokens.proofs.histories.Stepped.{at_most_one, begins_front, goes_on}
 use Rattle.ion_tokens.proofs.runs.Scans.{placed, scanned_given, scanned_left}
 
-pub blank_moves : (p : Place) (r : Rest) (u octets : List ℕ) (ts : List Placed) (ahead : List ℕ) (n : ℕ) → Scanned p (resting r) u ts ahead → Continues (take n octets) ahead → IsPassed octets n
+pub blank_moves : (p : Place) (r : Rest) (u octets : List ℕ) (ts : List Placed) (ahead : List ℕ) (n : ℕ) → Scanned p (resting r) u ts ahead
+    → Continues (take n octets) ahead → IsPassed octets n
     → Scanned p (resting (past_blank r n)) (u ++ take n octets) ts []
 blank_moves p r u octets ts ahead n h c passed = goes_on p (resting r) u ts ahead h (take n octets) (resting (past_blank r n)) c (passed p r)
 
 take_more : (m : ℕ) (octets : List ℕ) → m < length octets → take (m + 1) octets ≡ take m octets ++ slice_index octets m ∷ []
 take_more m [] h = absurd (omega arith)
 take_more zero (o ∷ os) h = refl
-take_more (suc m) (o ∷ os) h = ap (λ (k : ℕ). take k (o ∷ os)) (let k : suc m + 1 ≡ suc (m + 1) = omega arith in k) ∙ ap (λ l. o ∷ l) (take_more m os (omega arith))
+take_more (suc m) (o ∷ os) h = ap (λ (k : ℕ). take k (o ∷ os)) (let k : suc m + 1 ≡ suc (m + 1) = omega arith in k)
+    ∙ ap (λ l. o ∷ l) (take_more m os (omega arith))
 
 abbrev known_in : Outcome → Known → Known
 known_in (Next s) t = s
@@ -35,16 +37,21 @@ module _ (p : Place) (r : Rest) (u octets : List ℕ) (ts : List Placed) (kind :
   after left = Scanned q (resting (past_token p r kind n)) (u ++ take n octets) (ts ++ placed p (lexeme_at r kind kept n) ∷ []) (left_after left n octets)
 
   -- before the octet that shows the end, this one must come next, or none
-  last : (ahead : List ℕ) (left : Bool) (known : Known) → Scanned p known (u ++ take (before_end left n) octets) ts ahead → Continues (slice_index octets (before_end left n) ∷ []) ahead → 0 < n → before_end left n < length octets
+  last : (ahead : List ℕ) (left : Bool) (known : Known) → Scanned p known (u ++ take (before_end left n) octets) ts ahead
+      → Continues (slice_index octets (before_end left n) ∷ []) ahead → 0 < n → before_end left n < length octets
       → feed p known (slice_index octets (before_end left n)) ≡ ended left (lexeme_at r kind kept n) (resting (past_token p r kind n)) → after left
-  last ahead true known h c some shown e = scanned_left p known (u ++ take n octets) ts ahead h (slice_index octets n) c (resting (past_token p r kind n)) (lexeme_at r kind kept n) e pass q
+  last ahead true known h c some shown e = scanned_left p known (u ++ take n octets) ts ahead h (slice_index octets n) c (resting (past_token p r kind n))
+      (lexeme_at r kind kept n) e pass q
   last ahead false known h c some shown e =
-      let one : take n octets ≡ take (n - 1) octets ++ slice_index octets (n - 1) ∷ [] = ap (λ (k : ℕ). take k octets) (let k : n ≡ (n - 1) + 1 = omega arith in k) ∙ take_more (n - 1) octets shown in
+      let one : take n octets ≡ take (n - 1) octets ++ slice_index octets (n - 1) ∷ [] =
+      ap (λ (k : ℕ). take k octets) (let k : n ≡ (n - 1) + 1 = omega arith in k) ∙ take_more (n - 1) octets shown in
       subst (λ l. Scanned q (resting (past_token p r kind n)) l (ts ++ placed p (lexeme_at r kind kept n) ∷ []) [])
       (append_assoc u (take (n - 1) octets) (slice_index octets (n - 1) ∷ []) ∙ ap (λ l. u ++ l) (sym one))
-      (scanned_given p known (u ++ take (n - 1) octets) ts ahead h (slice_index octets (n - 1)) c (resting (past_token p r kind n)) (lexeme_at r kind kept n) e pass q)
+      (scanned_given p known (u ++ take (n - 1) octets) ts ahead h (slice_index octets (n - 1)) c (resting (past_token p r kind n)) (lexeme_at r kind kept n) e
+      pass q)
 
-  pub token_moves : (ahead : List ℕ) (left : Bool) → Scanned p (resting r) u ts ahead → Continues octets ahead → IsFound p r octets kind kept n left → after left
+  pub token_moves : (ahead : List ℕ) (left : Bool) → Scanned p (resting r) u ts ahead → Continues octets ahead → IsFound p r octets kind kept n left
+      → after left
   token_moves ahead left h (more, c) f = by (before_end left n) refl f.ran f.shown where
     front : (m : ℕ) → m < length octets → Continues (take (m + 1) octets) ahead
     front m shown =
@@ -55,8 +62,12 @@ module _ (p : Place) (r : Rest) (u octets : List ℕ) (ts : List Placed) (kind :
     by zero e ran shown =
         let same : resting r ≡ f.known = ap (λ x. known_in x (resting r)) ran in
         let here : u ≡ u ++ take (before_end left n) octets = sym (append-nil u) ∙ ap (λ (k : ℕ). u ++ take k octets) (sym e) in
-        let next : Continues (slice_index octets (before_end left n) ∷ []) ahead = subst (λ (k : ℕ). Continues (slice_index octets k ∷ []) ahead) (sym e) (subst (λ w. Continues w ahead) (take_more zero octets shown) (front zero shown)) in
+        let next : Continues (slice_index octets (before_end left n) ∷ []) ahead =
+        subst (λ (k : ℕ). Continues (slice_index octets k ∷ []) ahead) (sym e)
+        (subst (λ w. Continues w ahead) (take_more zero octets shown) (front zero shown)) in
         last ahead left f.known (subst (λ w. Scanned p f.known w ts ahead) here (subst (λ k. Scanned p k u ts ahead) same h)) next f.some f.shown f.ends
     by (suc m) e ran shown =
-        let goes : Continues (take (before_end left n) octets) ahead = subst (λ (k : ℕ). Continues (take k octets) ahead) (let k : m + 1 ≡ before_end left n = omega (arith, e) in k) (front m (omega arith)) in
-        last [] left f.known (goes_on p (resting r) u ts ahead h (take (before_end left n) octets) f.known goes f.ran) (slice_index octets (before_end left n) ∷ [], refl) f.some f.shown f.ends
+        let goes : Continues (take (before_end left n) octets) ahead =
+        subst (λ (k : ℕ). Continues (take k octets) ahead) (let k : m + 1 ≡ before_end left n = omega (arith, e) in k) (front m (omega arith)) in
+        last [] left f.known (goes_on p (resting r) u ts ahead h (take (before_end left n) octets) f.known goes f.ran)
+        (slice_index octets (before_end left n) ∷ [], refl) f.some f.shown f.ends

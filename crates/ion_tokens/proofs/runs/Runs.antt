@@ -27,7 +27,8 @@ acts_used p s s' o (actions.Go m k) e = sym (ap (λ x. used_in x 0) e)
 acts_used p s s' o (actions.Give _ _) e = cc
 acts_used p s s' o (actions.Before _ _ _) e = cc
 acts_used p s s' o actions.EndWord e = sym (one ((o == 46) && bytes_eq s.kept (codes "null")) e) where
-  one : (b : Bool) → cond b (Next (go_to s modes.KindName [])) (Left (cut s kinds.Word s.kept s.used) (past p kinds.Word modes.Blank [] s.used s.used)) ≡ Next s' → s.used + 1 ≡ s'.used
+  one : (b : Bool) → cond b (Next (go_to s modes.KindName [])) (Left (cut s kinds.Word s.kept s.used) (past p kinds.Word modes.Blank [] s.used s.used))
+      ≡ Next s' → s.used + 1 ≡ s'.used
   one true h = ap (λ x. used_in x 0) h
   one false h = cc
 acts_used p s s' o (actions.Split _) e = cc
@@ -61,7 +62,8 @@ acts_between p s o (actions.Go m k) = refl
 acts_between p s o (actions.Give _ _) = (omega arith, omega arith)
 acts_between p s o (actions.Before _ _ _) = (omega arith, omega arith)
 acts_between p s o actions.EndWord = one ((o == 46) && bytes_eq s.kept (codes "null")) where
-  one : (b : Bool) → Between (cond b (Next (go_to s modes.KindName [])) (Left (cut s kinds.Word s.kept s.used) (past p kinds.Word modes.Blank [] s.used s.used))) s.used 1
+  one : (b : Bool) → Between (cond b (Next (go_to s modes.KindName []))
+      (Left (cut s kinds.Word s.kept s.used) (past p kinds.Word modes.Blank [] s.used s.used))) s.used 1
   one true = refl
   one false = (omega arith, omega arith)
 acts_between p s o (actions.Split _) = (omega arith, omega arith)
@@ -76,7 +78,8 @@ between_next (Given l s) before n h = (omega arith, omega arith)
 between_next (Left l s) before n h = (omega arith, omega arith)
 between_next (Refused at r) before n h = (omega arith, omega arith)
 
-between_follow : (x : Outcome) (f : Known → Outcome) (before n : ℕ) → Between x before 1 → ((t : Known) → Between (f t) t.used n) → Between (follow x f) before (suc n)
+between_follow : (x : Outcome) (f : Known → Outcome) (before n : ℕ) → Between x before 1 → ((t : Known) → Between (f t) t.used n)
+    → Between (follow x f) before (suc n)
 unfolding Between
 between_follow (Next s) f before n h k = between_next (f s) before n (subst (λ u. Between (f s) u n) h (k s))
 between_follow (Given l s) f before n h k = (omega arith, omega arith)

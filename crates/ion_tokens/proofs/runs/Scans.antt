@@ -55,7 +55,8 @@ module _ (p : Place) (s : Known) (u : List ℕ) (ts : List Placed) (ahead : List
   pub scanned_next : (s' : Known) → feed p s o ≡ Next s' → Scanned p s' (u ++ o ∷ []) ts []
   scanned_next s' e = goes_on p s u ts ahead h (o ∷ []) s' c (ap (λ y. follow y (λ t. Next t)) e)
 
-  pub scanned_given : (s' : Known) (x : Lexeme) → feed p s o ≡ Given x s' → Passes x.kind x.octets → (q : Place) → Scanned q s' (u ++ o ∷ []) (ts ++ placed p x ∷ []) []
+  pub scanned_given : (s' : Known) (x : Lexeme) → feed p s o ≡ Given x s' → Passes x.kind x.octets → (q : Place)
+      → Scanned q s' (u ++ o ∷ []) (ts ++ placed p x ∷ []) []
   scanned_given s' x e pass q =
       let from = from_left h.next in
       let n = one_given s' x e in

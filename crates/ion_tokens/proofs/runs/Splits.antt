@@ -34,23 +34,55 @@ left_one p o s s' l e = let h = subst (λ x. Between x s.used 1) e (acts_between
 pub given_split : (p : Place) (piece : List ℕ) (s s' : Known) (l : Lexeme) → run p piece s ≡ Given l s' → GivenSplit p piece s s' l
 given_split p [] s s' l e = cc
 given_split p (o ∷ os) s s' l e = by (feed p s o) refl e (λ t. given_split p os t s' l) where
-  by : (x : Outcome) → feed p s o ≡ x → follow x (λ t. run p os t) ≡ Given l s' → ((t : Known) → run p os t ≡ Given l s' → GivenSplit p os t s' l) → GivenSplit p (o ∷ os) s s' l
+  by : (x : Outcome) → feed p s o ≡ x → follow x (λ t. run p os t) ≡ Given l s' → ((t : Known) → run p os t ≡ Given l s' → GivenSplit p os t s' l)
+      → GivenSplit p (o ∷ os) s s' l
   by (Next t) f g more =
       let r = more t g in
-      record { octets = o ∷ r.octets; rest = r.rest; cut = ap (λ l. o ∷ l) r.cut; ran = ap (λ x. follow x (λ t. run p r.octets t)) f ∙ r.ran; used = omega (arith, feed_used p s t o f, r.used) }
-  by (Given m t) f g more = record { octets = o ∷ []; rest = os; cut = refl; ran = ap (λ x. follow x (λ t. Next t)) (f ∙ g); used = given_one p o s s' l (f ∙ g) }
+      record {
+        octets = o ∷ r.octets;
+        rest = r.rest;
+        cut = ap (λ l. o ∷ l) r.cut;
+        ran = ap (λ x. follow x (λ t. run p r.octets t)) f ∙ r.ran;
+        used =
+            omega (arith, feed_used p s t o f, r.used);
+      }
+  by (Given m t) f g more = record {
+    octets = o ∷ [];
+    rest = os;
+    cut = refl;
+    ran =
+        ap (λ x. follow x (λ t. Next t)) (f ∙ g);
+    used = given_one p o s s' l (f ∙ g);
+  }
   by (Left m t) f g more = cc
   by (Refused n r) f g more = cc
 
 pub left_split : (p : Place) (piece : List ℕ) (s s' : Known) (l : Lexeme) → run p piece s ≡ Left l s' → LeftSplit p piece s s' l
 left_split p [] s s' l e = cc
 left_split p (o ∷ os) s s' l e = by (feed p s o) refl e (λ t. left_split p os t s' l) where
-  by : (x : Outcome) → feed p s o ≡ x → follow x (λ t. run p os t) ≡ Left l s' → ((t : Known) → run p os t ≡ Left l s' → LeftSplit p os t s' l) → LeftSplit p (o ∷ os) s s' l
+  by : (x : Outcome) → feed p s o ≡ x → follow x (λ t. run p os t) ≡ Left l s' → ((t : Known) → run p os t ≡ Left l s' → LeftSplit p os t s' l)
+      → LeftSplit p (o ∷ os) s s' l
   by (Next t) f g more =
       let r = more t g in
-      record { octets = o ∷ r.octets; octet = r.octet; rest = r.rest; cut = ap (λ l. o ∷ l) r.cut; ran = ap (λ x. follow x (λ t. run p (r.octets ++ r.octet ∷ []) t)) f ∙ r.ran; used = omega (arith, feed_used p s t o f, r.used) }
+      record {
+        octets = o ∷ r.octets;
+        octet = r.octet;
+        rest = r.rest;
+        cut = ap (λ l. o ∷ l) r.cut;
+        ran =
+            ap (λ x. follow x (λ t. run p (r.octets ++ r.octet ∷ []) t)) f ∙ r.ran;
+        used = omega (arith, feed_used p s t o f, r.used);
+      }
   by (Given m t) f g more = cc
-  by (Left m t) f g more = record { octets = []; octet = o; rest = os; cut = refl; ran = ap (λ x. follow x (λ t. Next t)) (f ∙ g); used = let h = left_one p o s s' l (f ∙ g) in omega (arith, h) }
+  by (Left m t) f g more = record {
+    octets = [];
+    octet = o;
+    rest = os;
+    cut = refl;
+    ran = ap (λ x. follow x (λ t. Next t)) (f ∙ g);
+    used = let h =
+        left_one p o s s' l (f ∙ g) in omega (arith, h);
+  }
   by (Refused n r) f g more = cc
 
 -- a token that is given has an octet

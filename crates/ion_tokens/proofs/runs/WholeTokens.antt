@@ -48,11 +48,14 @@ blank_passed octets n e p r = by n e where
       ∙ sym (ap (λ b. Next (resting (cond b r (record { start = r.used + (suc k - 1); used = r.used + suc k; colon = r.colon })))) far)
 
 -- a token that is open behind these octets
-ran : (p : Place) (r : Rest) (w : List ℕ) (n : ℕ) (m : Mode) (kept : List ℕ) → Opens p r.colon w m kept → length w ≡ n → run p w (resting r) ≡ Next (at m kept r.colon r.used (r.used + n))
-ran p r w n m kept f e = ap (λ l. run p l (resting r)) (sym (append-nil w)) ∙ f r.start r.used [] ∙ ap (λ (i : ℕ). Next (at m kept r.colon r.used (r.used + i))) e
+ran : (p : Place) (r : Rest) (w : List ℕ) (n : ℕ) (m : Mode) (kept : List ℕ) → Opens p r.colon w m kept → length w ≡ n
+    → run p w (resting r) ≡ Next (at m kept r.colon r.used (r.used + n))
+ran p r w n m kept f e = ap (λ l. run p l (resting r)) (sym (append-nil w)) ∙ f r.start r.used []
+    ∙ ap (λ (i : ℕ). Next (at m kept r.colon r.used (r.used + i))) e
 
 -- the octet behind it ends it
-opened_left : (p : Place) (r : Rest) (octets : List ℕ) (n : ℕ) (kind : TokenKind) (m : Mode) (kept : List ℕ) (k : Keep) → Opens p r.colon (take n octets) m kept → Stays m → 0 < n → n < length octets
+opened_left : (p : Place) (r : Rest) (octets : List ℕ) (n : ℕ) (kind : TokenKind) (m : Mode) (kept : List ℕ) (k : Keep) → Opens p r.colon (take n octets) m kept
+    → Stays m → 0 < n → n < length octets
     → next p r.colon m (slice_index octets n) ≡ actions.Before kind k modes.Blank → IsFound p r octets kind (kept_after k kept) n true
 opened_left p r octets n kind m kept k f h some more e = record {
   some = some;
@@ -62,12 +65,14 @@ opened_left p r octets n kind m kept k f h some more e = record {
   ends =
       let whole : (r.used + n) - 0 ≡ r.used + n = omega arith in
       ap (λ a. acts p (at m kept r.colon r.used (r.used + n)) (slice_index octets n) a) e
-      ∙ ap (λ (i : ℕ). Left (record { start = i; end = (r.used + n) - 0; kind = kind; octets = kept_after k kept }) (past p kind modes.Blank [] ((r.used + n) - 0) (r.used + n))) (h r.used (r.used + n))
+      ∙ ap (λ (i : ℕ). Left (record { start = i; end = (r.used + n) - 0; kind = kind; octets = kept_after k kept })
+      (past p kind modes.Blank [] ((r.used + n) - 0) (r.used + n))) (h r.used (r.used + n))
       ∙ ap (λ (i : ℕ). Left (record { start = r.used; end = i; kind = kind; octets = kept_after k kept }) (past p kind modes.Blank [] i (r.used + n))) whole;
 }
 
 -- its last octet ends it
-opened_given : (p : Place) (r : Rest) (octets : List ℕ) (n : ℕ) (kind : TokenKind) (m : Mode) (kept : List ℕ) (k : Keep) → Opens p r.colon (take n octets) m kept → Stays m → n < length octets
+opened_given : (p : Place) (r : Rest) (octets : List ℕ) (n : ℕ) (kind : TokenKind) (m : Mode) (kept : List ℕ) (k : Keep)
+    → Opens p r.colon (take n octets) m kept → Stays m → n < length octets
     → next p r.colon m (slice_index octets n) ≡ actions.Give kind k → IsFound p r octets kind (kept_after k kept) (n + 1) false
 opened_given p r octets n kind m kept k f h more e =
     let one : n + 1 - 1 ≡ n = omega arith in
@@ -80,7 +85,8 @@ opened_given p r octets n kind m kept k f h more e =
           let more : (r.used + n) + 1 ≡ r.used + (n + 1) = omega arith in
           ap (λ (i : ℕ). feed p (at m kept r.colon r.used (r.used + n)) (slice_index octets i)) one
           ∙ ap (λ a. acts p (at m kept r.colon r.used (r.used + n)) (slice_index octets n) a) e
-          ∙ ap (λ (i : ℕ). Given (record { start = i; end = (r.used + n) + 1; kind = kind; octets = kept_after k kept }) (past p kind modes.Blank [] ((r.used + n) + 1) ((r.used + n) + 1))) (h r.used (r.used + n))
+          ∙ ap (λ (i : ℕ). Given (record { start = i; end = (r.used + n) + 1; kind = kind; octets = kept_after k kept })
+          (past p kind modes.Blank [] ((r.used + n) + 1) ((r.used + n) + 1))) (h r.used (r.used + n))
           ∙ ap (λ (i : ℕ). Given (record { start = r.used; end = i; kind = kind; octets = kept_after k kept }) (past p kind modes.Blank [] i i)) more;
     }
 
@@ -89,7 +95,8 @@ opened_given p r octets n kind m kept k f h more e =
 front_length : (class : ℕ → Bool) (octets : List ℕ) (n : ℕ) → n ≡ length (take_while class octets) → n ≡ prefix_len class octets
 front_length class octets n e = e ∙ length-prefix_len class octets
 
-front_some : (class : ℕ → Bool) (octets : List ℕ) (n : ℕ) → 0 < length octets → class (slice_index octets 0) ≡ true → n ≡ length (take_while class octets) → 0 < n
+front_some : (class : ℕ → Bool) (octets : List ℕ) (n : ℕ) → 0 < length octets → class (slice_index octets 0) ≡ true → n ≡ length (take_while class octets)
+    → 0 < n
 front_some class [] n some h e = absurd (omega arith)
 front_some class (o ∷ os) n some h e =
     let is = front_length class (o ∷ os) n e in
@@ -133,7 +140,8 @@ same_is a b h = grind (arith, nat_tests)
 not_same : (a b : ℕ) → a ≢ b → (a == b) ≡ false
 not_same a b n = grind (arith, nat_tests)
 
-pub word_found : (octets : List ℕ) (n : ℕ) → 0 < length octets → begins_word (slice_index octets 0) ≡ true → n ≡ length (take_while is_word_octet octets) → n < length octets → slice_index octets n ≢ 46
+pub word_found : (octets : List ℕ) (n : ℕ) → 0 < length octets → begins_word (slice_index octets 0) ≡ true → n ≡ length (take_while is_word_octet octets)
+    → n < length octets → slice_index octets n ≢ 46
     → (p : Place) (r : Rest) → IsFound p r octets kinds.Word (take n octets) n true
 word_found octets n first begun e more dot p r =
     let w = take n octets in
@@ -149,7 +157,8 @@ word_found octets n first begun e more dot p r =
       ran = ran p r w n modes.Word w (opens_word p r.colon w is) (let l = length-take n octets in omega arith);
       ends =
           ap (λ a. acts p s x a) (word_ends x (front_stops is_word_octet octets n e more))
-          ∙ ap (λ b. cond b (Next (go_to s modes.KindName [])) (Left (cut s kinds.Word w u) (past p kinds.Word modes.Blank [] u u))) (no_dot w x (λ _. not_same x 46 dot));
+          ∙ ap (λ b. cond b (Next (go_to s modes.KindName [])) (Left (cut s kinds.Word w u) (past p kinds.Word modes.Blank [] u u)))
+          (no_dot w x (λ _. not_same x 46 dot));
     }
 
 -- A number.
@@ -168,7 +177,8 @@ stop_is o h n = by (is_stop o) (o == 47) h (not_same o 47 n) where
 abbrev pub StartsNumber : List ℕ → Type 0
 StartsNumber octets = (is_digit (slice_index octets 0) ≡ true) ⊎ ((slice_index octets 0 ≡ 45) × (is_digit (slice_index octets 1) ≡ true))
 
-number_begins : (octets : List ℕ) (n : ℕ) → 1 < length octets → StartsNumber octets → n ≡ length (take_while is_numeric octets) → (0 < n) × (begins_number (take n octets) ≡ true)
+number_begins : (octets : List ℕ) (n : ℕ) → 1 < length octets → StartsNumber octets → n ≡ length (take_while is_numeric octets) → (0 < n)
+    × (begins_number (take n octets) ≡ true)
 number_begins [] n more h e = absurd (omega arith)
 number_begins (o ∷ []) n more h e = absurd (omega arith)
 number_begins (o ∷ d ∷ os) n more (inl h) e = by n (front_some is_numeric (o ∷ d ∷ os) n (omega arith) (digit_numeric o h) e) where
@@ -187,12 +197,14 @@ number_begins (o ∷ d ∷ os) n more (inr h) e = by n size where
   by (suc zero) some = absurd (omega arith)
   by (suc (suc k)) some = (omega arith, ap (λ (x : ℕ). begins_number (x ∷ d ∷ take k os)) h.0 ∙ h.1)
 
-pub number_found : (octets : List ℕ) (n : ℕ) → 1 < length octets → StartsNumber octets → n ≡ length (take_while is_numeric octets) → n < length octets → slice_index octets n ≢ 47
+pub number_found : (octets : List ℕ) (n : ℕ) → 1 < length octets → StartsNumber octets → n ≡ length (take_while is_numeric octets) → n < length octets
+    → slice_index octets n ≢ 47
     → (p : Place) (r : Rest) → is_name p ≡ false → IsFound p r octets kinds.Number (take n octets) n true
 number_found octets n first begun e more slash p r name =
     let b = number_begins octets n first begun e in
     let x = slice_index octets n in
-    opened_left p r octets n kinds.Number modes.Number (take n octets) keeps.Nothing (opens_number p r.colon (take n octets) name b.1 (front_each is_numeric octets n e)) (λ s u. refl) b.0 more
+    opened_left p r octets n kinds.Number modes.Number (take n octets) keeps.Nothing
+    (opens_number p r.colon (take n octets) name b.1 (front_each is_numeric octets n e)) (λ s u. refl) b.0 more
     (number_stops x (stop_is x (front_stops is_numeric octets n e more) slash))
 
 -- What stands between quotes.
@@ -200,13 +212,15 @@ number_found octets n first begun e more slash p r name =
 text_moves : (p : Place) (s : Style) (w kept : List ℕ) → AreKept s w → Moves p (modes.Text s within.Plain) kept w (modes.Text s within.Plain) (kept ++ w)
 text_moves p s w kept h = kept_goes p s w kept h
 
-same_size : (p : Place) (r : Rest) (octets os : List ℕ) (kind : TokenKind) (n : ℕ) → IsFound p r octets kind (take n os) (suc n + 1) false → IsFound p r octets kind (take (n + 2 - 2) os) (n + 2) false
+same_size : (p : Place) (r : Rest) (octets os : List ℕ) (kind : TokenKind) (n : ℕ) → IsFound p r octets kind (take n os) (suc n + 1) false
+    → IsFound p r octets kind (take (n + 2 - 2) os) (n + 2) false
 same_size p r octets os kind n h =
     let kept : n ≡ n + 2 - 2 = omega arith in
     let size : suc n + 1 ≡ n + 2 = omega arith in
     subst (λ (i : ℕ). IsFound p r octets kind (take i os) (n + 2) false) kept (subst (λ (i : ℕ). IsFound p r octets kind (take n os) i false) size h)
 
-short_stands : (octets : List ℕ) (n : ℕ) → 0 < length octets → slice_index octets 0 ≡ 34 → AreKept styles.ShortString (take n (drop 1 octets)) → n < length (drop 1 octets) → slice_index (drop 1 octets) n ≡ 34
+short_stands : (octets : List ℕ) (n : ℕ) → 0 < length octets → slice_index octets 0 ≡ 34 → AreKept styles.ShortString (take n (drop 1 octets))
+    → n < length (drop 1 octets) → slice_index (drop 1 octets) n ≡ 34
     → (p : Place) (r : Rest) → IsFound p r octets kinds.ShortString (take (n + 2 - 2) (drop 1 octets)) (n + 2) false
 short_stands [] n some first kept more last p r = absurd (omega arith)
 short_stands (o ∷ os) n some first kept more last p r =
@@ -221,11 +235,13 @@ short_stands (o ∷ os) n some first kept more last p r =
 abbrev pub behind_first : List ℕ → List ℕ
 behind_first octets = take (length octets - 1) (drop 1 octets)
 
-pub short_found : (octets : List ℕ) (n : ℕ) → 0 < length octets → slice_index octets 0 ≡ 34 → AreKept styles.ShortString (take n (behind_first octets)) → n < length (behind_first octets) → slice_index (behind_first octets) n ≡ 34
+pub short_found : (octets : List ℕ) (n : ℕ) → 0 < length octets → slice_index octets 0 ≡ 34 → AreKept styles.ShortString (take n (behind_first octets))
+    → n < length (behind_first octets) → slice_index (behind_first octets) n ≡ 34
     → (p : Place) (r : Rest) → IsFound p r octets kinds.ShortString (take (n + 2 - 2) (drop 1 octets)) (n + 2) false
 short_found octets n some first kept more last =
     let tail = rest_is octets 1 in
-    short_stands octets n some first (subst (λ w. AreKept styles.ShortString (take n w)) tail kept) (subst (λ (w : List ℕ). n < length w) tail more) (subst (λ w. slice_index w n ≡ 34) tail last)
+    short_stands octets n some first (subst (λ w. AreKept styles.ShortString (take n w)) tail kept) (subst (λ (w : List ℕ). n < length w) tail more)
+    (subst (λ w. slice_index w n ≡ 34) tail last)
 
 pub quoted_text : (s : Style) (octets : List ℕ) (n : ℕ) → AreKept s (take n (behind_first octets)) → IsUtf8 (take (n + 2 - 2) (drop 1 octets))
 quoted_text s octets n kept =
@@ -236,7 +252,8 @@ raw_begins : (w : List ℕ) → Each (is_raw false 39) w → BeginsOther w
 raw_begins [] h = tt
 raw_begins (o ∷ os) h = λ e. let never : is_raw false 39 39 ≡ true = subst (λ (x : ℕ). is_raw false 39 x ≡ true) e h.0 in cc
 
-quoted_stands : (octets : List ℕ) (n : ℕ) → 0 < length octets → slice_index octets 0 ≡ 39 → AreKept styles.QuotedSymbol (take n (drop 1 octets)) → 0 < n → n < length (drop 1 octets) → slice_index (drop 1 octets) n ≡ 39
+quoted_stands : (octets : List ℕ) (n : ℕ) → 0 < length octets → slice_index octets 0 ≡ 39 → AreKept styles.QuotedSymbol (take n (drop 1 octets)) → 0 < n
+    → n < length (drop 1 octets) → slice_index (drop 1 octets) n ≡ 39
     → (p : Place) (r : Rest) → IsFound p r octets kinds.QuotedSymbol (take (n + 2 - 2) (drop 1 octets)) (n + 2) false
 quoted_stands [] n some first kept one more last p r = absurd (omega arith)
 quoted_stands (o ∷ os) n some first kept one more last p r =
@@ -244,53 +261,78 @@ quoted_stands (o ∷ os) n some first kept one more last p r =
     (same_size p r (39 ∷ os) os kinds.QuotedSymbol n
     (opened_given p r (39 ∷ os) (suc n) kinds.QuotedSymbol (modes.Text styles.QuotedSymbol within.Plain) (take n os) keeps.Nothing
     (opens_then p r.colon (39 ∷ []) (take n os) modes.Quote (modes.Text styles.QuotedSymbol within.Plain) [] (take n os) (opens_quote p r.colon)
-    (from_quote p (take n os) (take n os) within.Plain (λ none. let size = ap (λ (l : List ℕ). length l) none in let l = length-take n os in omega arith) (raw_begins (take n os) kept.0) (text_moves p styles.QuotedSymbol (take n os) [] kept)))
+    (from_quote p (take n os) (take n os) within.Plain (λ none. let size = ap (λ (l : List ℕ). length l) none in let l = length-take n os in omega arith)
+    (raw_begins (take n os) kept.0) (text_moves p styles.QuotedSymbol (take n os) [] kept)))
     (λ s u. refl) (omega arith) (ap (λ (x : ℕ). next p r.colon (modes.Text styles.QuotedSymbol within.Plain) x) last)))
 
-pub quoted_found : (octets : List ℕ) (n : ℕ) → 0 < length octets → slice_index octets 0 ≡ 39 → AreKept styles.QuotedSymbol (take n (behind_first octets)) → n ≢ 0 → n < length (behind_first octets) → slice_index (behind_first octets) n ≡ 39
+pub quoted_found : (octets : List ℕ) (n : ℕ) → 0 < length octets → slice_index octets 0 ≡ 39 → AreKept styles.QuotedSymbol (take n (behind_first octets))
+    → n ≢ 0 → n < length (behind_first octets) → slice_index (behind_first octets) n ≡ 39
     → (p : Place) (r : Rest) → IsFound p r octets kinds.QuotedSymbol (take (n + 2 - 2) (drop 1 octets)) (n + 2) false
 quoted_found octets n some first kept one more last =
     let tail = rest_is octets 1 in
-    quoted_stands octets n some first (subst (λ w. AreKept styles.QuotedSymbol (take n w)) tail kept) (omega arith) (subst (λ (w : List ℕ). n < length w) tail more) (subst (λ w. slice_index w n ≡ 39) tail last)
+    quoted_stands octets n some first (subst (λ w. AreKept styles.QuotedSymbol (take n w)) tail kept) (omega arith)
+    (subst (λ (w : List ℕ). n < length w) tail more) (subst (λ w. slice_index w n ≡ 39) tail last)
 
 -- Marks.
 
-mark_given : (p : Place) (r : Rest) (octets : List ℕ) (m : Mark) → 0 < length octets → in_blank p r.colon (slice_index octets 0) ≡ actions.Give (kinds.Mark m) keeps.Nothing → IsFound p r octets (kinds.Mark m) [] 1 false
-mark_given p r octets m some e = record { some = omega arith; shown = some; known = resting r; ran = refl; ends = ap (λ a. acts p (resting r) (slice_index octets 0) a) e }
+mark_given : (p : Place) (r : Rest) (octets : List ℕ) (m : Mark) → 0 < length octets → in_blank p r.colon (slice_index octets 0)
+    ≡ actions.Give (kinds.Mark m) keeps.Nothing → IsFound p r octets (kinds.Mark m) [] 1 false
+mark_given p r octets m some e = record {
+  some = omega arith;
+  shown = some;
+  known = resting r;
+  ran = refl;
+  ends =
+      ap (λ a. acts p (resting r) (slice_index octets 0) a) e;
+}
 
-pub comma_found : (p : Place) (r : Rest) (octets : List ℕ) → 0 < length octets → slice_index octets 0 ≡ 44 → IsFound p r octets (kinds.Mark marks.Comma) [] 1 false
+pub comma_found : (p : Place) (r : Rest) (octets : List ℕ) → 0 < length octets → slice_index octets 0 ≡ 44
+    → IsFound p r octets (kinds.Mark marks.Comma) [] 1 false
 comma_found p r octets some e = mark_given p r octets marks.Comma some (ap (λ (x : ℕ). in_blank p r.colon x) e)
 
-pub fields_close_found : (p : Place) (r : Rest) (octets : List ℕ) → 0 < length octets → slice_index octets 0 ≡ 125 → IsFound p r octets (kinds.Mark marks.FieldsClose) [] 1 false
+pub fields_close_found : (p : Place) (r : Rest) (octets : List ℕ) → 0 < length octets → slice_index octets 0 ≡ 125
+    → IsFound p r octets (kinds.Mark marks.FieldsClose) [] 1 false
 fields_close_found p r octets some e = mark_given p r octets marks.FieldsClose some (ap (λ (x : ℕ). in_blank p r.colon x) e)
 
-pub list_open_found : (p : Place) (r : Rest) (octets : List ℕ) → is_name p ≡ false → 0 < length octets → slice_index octets 0 ≡ 91 → IsFound p r octets (kinds.Mark marks.ListOpen) [] 1 false
+pub list_open_found : (p : Place) (r : Rest) (octets : List ℕ) → is_name p ≡ false → 0 < length octets → slice_index octets 0 ≡ 91
+    → IsFound p r octets (kinds.Mark marks.ListOpen) [] 1 false
 list_open_found p r octets name some e = mark_given p r octets marks.ListOpen some (ap (λ (x : ℕ). in_blank p r.colon x) e ∙ rw name refl)
 
-pub list_close_found : (p : Place) (r : Rest) (octets : List ℕ) → is_name p ≡ false → 0 < length octets → slice_index octets 0 ≡ 93 → IsFound p r octets (kinds.Mark marks.ListClose) [] 1 false
+pub list_close_found : (p : Place) (r : Rest) (octets : List ℕ) → is_name p ≡ false → 0 < length octets → slice_index octets 0 ≡ 93
+    → IsFound p r octets (kinds.Mark marks.ListClose) [] 1 false
 list_close_found p r octets name some e = mark_given p r octets marks.ListClose some (ap (λ (x : ℕ). in_blank p r.colon x) e ∙ rw name refl)
 
-pub sexp_open_found : (p : Place) (r : Rest) (octets : List ℕ) → is_name p ≡ false → 0 < length octets → slice_index octets 0 ≡ 40 → IsFound p r octets (kinds.Mark marks.SexpOpen) [] 1 false
+pub sexp_open_found : (p : Place) (r : Rest) (octets : List ℕ) → is_name p ≡ false → 0 < length octets → slice_index octets 0 ≡ 40
+    → IsFound p r octets (kinds.Mark marks.SexpOpen) [] 1 false
 sexp_open_found p r octets name some e = mark_given p r octets marks.SexpOpen some (ap (λ (x : ℕ). in_blank p r.colon x) e ∙ rw name refl)
 
-pub sexp_close_found : (p : Place) (r : Rest) (octets : List ℕ) → is_name p ≡ false → 0 < length octets → slice_index octets 0 ≡ 41 → IsFound p r octets (kinds.Mark marks.SexpClose) [] 1 false
+pub sexp_close_found : (p : Place) (r : Rest) (octets : List ℕ) → is_name p ≡ false → 0 < length octets → slice_index octets 0 ≡ 41
+    → IsFound p r octets (kinds.Mark marks.SexpClose) [] 1 false
 sexp_close_found p r octets name some e = mark_given p r octets marks.SexpClose some (ap (λ (x : ℕ). in_blank p r.colon x) e ∙ rw name refl)
 
 first_of : (octets : List ℕ) (o : ℕ) → 0 < length octets → slice_index octets 0 ≡ o → take 1 octets ≡ o ∷ []
 first_of [] o some e = absurd (omega arith)
 first_of (x ∷ os) o some e = ap (λ (y : ℕ). y ∷ []) e
 
-pub fields_open_found : (p : Place) (r : Rest) (octets : List ℕ) → is_name p ≡ false → 1 < length octets → slice_index octets 0 ≡ 123 → slice_index octets 1 ≢ 123 → IsFound p r octets (kinds.Mark marks.FieldsOpen) [] 1 true
+pub fields_open_found : (p : Place) (r : Rest) (octets : List ℕ) → is_name p ≡ false → 1 < length octets → slice_index octets 0 ≡ 123
+    → slice_index octets 1 ≢ 123 → IsFound p r octets (kinds.Mark marks.FieldsOpen) [] 1 true
 fields_open_found p r octets name some e n =
-    opened_left p r octets 1 (kinds.Mark marks.FieldsOpen) modes.Brace [] keeps.Nothing (subst (λ w. Opens p r.colon w modes.Brace []) (sym (first_of octets 123 (omega arith) e)) (opens_brace p r.colon name)) (λ s u. refl) (omega arith) some
+    opened_left p r octets 1 (kinds.Mark marks.FieldsOpen) modes.Brace [] keeps.Nothing
+    (subst (λ w. Opens p r.colon w modes.Brace []) (sym (first_of octets 123 (omega arith) e)) (opens_brace p r.colon name)) (λ s u. refl) (omega arith)
+    some
     (brace_ends (slice_index octets 1) (not_same (slice_index octets 1) 123 n) r.colon p)
 
-pub colon_found : (p : Place) (r : Rest) (octets : List ℕ) → r.colon ≡ true → 1 < length octets → slice_index octets 0 ≡ 58 → slice_index octets 1 ≢ 58 → IsFound p r octets (kinds.Mark marks.Colon) [] 1 true
+pub colon_found : (p : Place) (r : Rest) (octets : List ℕ) → r.colon ≡ true → 1 < length octets → slice_index octets 0 ≡ 58 → slice_index octets 1 ≢ 58
+    → IsFound p r octets (kinds.Mark marks.Colon) [] 1 true
 colon_found p r octets stands some e n =
-    opened_left p r octets 1 (kinds.Mark marks.Colon) modes.Colon [] keeps.Nothing (subst (λ w. Opens p r.colon w modes.Colon []) (sym (first_of octets 58 (omega arith) e)) (opens_colon p r.colon stands)) (λ s u. refl) (omega arith) some
+    opened_left p r octets 1 (kinds.Mark marks.Colon) modes.Colon [] keeps.Nothing
+    (subst (λ w. Opens p r.colon w modes.Colon []) (sym (first_of octets 58 (omega arith) e)) (opens_colon p r.colon stands)) (λ s u. refl) (omega arith)
+    some
     (colon_ends (slice_index octets 1) (not_same (slice_index octets 1) 58 n) r.colon p)
 
-pub colons_found : (p : Place) (r : Rest) (octets : List ℕ) → r.colon ≡ true → 1 < length octets → slice_index octets 0 ≡ 58 → slice_index octets 1 ≡ 58 → IsFound p r octets (kinds.Mark marks.Colons) [] 2 false
+pub colons_found : (p : Place) (r : Rest) (octets : List ℕ) → r.colon ≡ true → 1 < length octets → slice_index octets 0 ≡ 58 → slice_index octets 1 ≡ 58
+    → IsFound p r octets (kinds.Mark marks.Colons) [] 2 false
 colons_found p r octets stands some e f =
-    opened_given p r octets 1 (kinds.Mark marks.Colons) modes.Colon [] keeps.Nothing (subst (λ w. Opens p r.colon w modes.Colon []) (sym (first_of octets 58 (omega arith) e)) (opens_colon p r.colon stands)) (λ s u. refl) some
+    opened_given p r octets 1 (kinds.Mark marks.Colons) modes.Colon [] keeps.Nothing
+    (subst (λ w. Opens p r.colon w modes.Colon []) (sym (first_of octets 58 (omega arith) e)) (opens_colon p r.colon stands)) (λ s u. refl) some
     (ap (λ (x : ℕ). next p r.colon modes.Colon x) f)

@@ -84,7 +84,12 @@ pub blank_none : IsBlank []
 blank_none = record { pieces = []; each = tt; spelled = refl }
 
 pub blank_more : (w : List ℕ) (b : BlankPiece) → IsBlank w → IsBlankPiece b → IsBlank (w ++ blank_spelling b)
-blank_more w b h i = record { pieces = h.pieces ++ b ∷ []; each = each_piece h.pieces b h.each i; spelled = ap (λ l. l ++ blank_spelling b) h.spelled ∙ sym (flat_last blank_spelling h.pieces b) }
+blank_more w b h i = record {
+  pieces = h.pieces ++ b ∷ [];
+  each = each_piece h.pieces b h.each i;
+  spelled = ap (λ l. l ++ blank_spelling b) h.spelled
+      ∙ sym (flat_last blank_spelling h.pieces b);
+}
 
 -- blobs
 base_octets : (os : List ℕ) → Each is_base64 os → AreOctets os
@@ -102,7 +107,14 @@ solid_base (o ∷ os) h = by (is_white o) h.0 (solid_base os h.1) where
 
 pub blob_sound : (inside octets : List ℕ) → Each AnyBlob inside → blob_of (solid inside) ≡ Some octets → IsBlobContent inside octets
 unfolding blob_of decoded_of
-blob_sound inside octets h e = (h, record { octets_are = blob_octets (solid inside) octets text e; spelled = by (decode_of standard (solid inside)) refl e }) where
+blob_sound inside octets h e = (
+  h,
+  record {
+    octets_are = blob_octets (solid inside) octets text e;
+    spelled =
+        by (decode_of standard (solid inside)) refl e;
+  },
+) where
   text : AreOctets (solid inside)
   text = base_octets (solid inside) (solid_base inside h)
 
@@ -111,7 +123,8 @@ blob_sound inside octets h e = (h, record { octets_are = blob_octets (solid insi
   by (Err x) d f = cc
 
 -- a token goes on
-pub in_mode : (p : Place) (colon : Bool) (k : ℕ) (m : Mode) (kept : List ℕ) (start : ℕ) (front token : List ℕ) → IsBlank front → start ≡ k + length front → IsOpen p colon m token kept → InMode p colon k m kept start (front ++ token)
+pub in_mode : (p : Place) (colon : Bool) (k : ℕ) (m : Mode) (kept : List ℕ) (start : ℕ) (front token : List ℕ) → IsBlank front → start ≡ k + length front
+    → IsOpen p colon m token kept → InMode p colon k m kept start (front ++ token)
 in_mode p colon k modes.Blank kept start front token b e h = absurd h
 in_mode p colon k modes.Slash kept start front token b e h = absurd h
 in_mode p colon k modes.LineComment kept start front token b e h = absurd h
@@ -139,21 +152,25 @@ pub one_to_three : (n : ℕ) → 1 ≤ n → n ≤ 3 → (n ≡ 1) ⊎ ((n ≡ 2
 one_to_three n a b = grind (arith, nat_tests)
 
 pub inf_word : (n : ℕ) → 1 ≤ n → n ≤ 3 → IsWord (take n (codes "inf")) × (length (take n (codes "inf")) ≡ n)
-inf_word n a b = ⊎_elim (λ e. subst P (sym e) ((refl, (refl, tt)), refl)) (λ m. ⊎_elim (λ e. subst P (sym e) ((refl, (refl, (refl, tt))), refl)) (λ e. subst P (sym e) ((refl, (refl, (refl, (refl, tt)))), refl)) m) (one_to_three n a b) where
-  P : ℕ → Type 0
-  P n = IsWord (take n (codes "inf")) × (length (take n (codes "inf")) ≡ n)
+inf_word n a b = ⊎_elim (λ e. subst P (sym e) ((refl, (refl, tt)), refl))
+    (λ m. ⊎_elim (λ e. subst P (sym e) ((refl, (refl, (refl, tt))), refl)) (λ e. subst P (sym e) ((refl, (refl, (refl, (refl, tt)))), refl)) m)
+    (one_to_three n a b) where
+      P : ℕ → Type 0
+      P n = IsWord (take n (codes "inf")) × (length (take n (codes "inf")) ≡ n)
 
 -- letters of `inf` behind a token lead into a word
-pub inf_again : (q : Place) (colon : Bool) (end n used : ℕ) → 1 ≤ n → n ≤ 3 → used ≡ end + n → run q (take n (codes "inf")) (at modes.Blank [] colon end end) ≡ Next (at modes.Word (take n (codes "inf")) colon end used)
-inf_again q colon end n used a b e = ⊎_elim (λ f. subst P (sym f) first) (λ m. ⊎_elim (λ f. subst P (sym f) second) (λ f. subst P (sym f) third) m) (one_to_three n a b) ∙ ap (λ (u : ℕ). Next (at modes.Word (take n (codes "inf")) colon end u)) (sym e) where
-  P : ℕ → Type 0
-  P n = run q (take n (codes "inf")) (at modes.Blank [] colon end end) ≡ Next (at modes.Word (take n (codes "inf")) colon end (end + n))
+pub inf_again : (q : Place) (colon : Bool) (end n used : ℕ) → 1 ≤ n → n ≤ 3 → used ≡ end + n → run q (take n (codes "inf")) (at modes.Blank [] colon end end)
+    ≡ Next (at modes.Word (take n (codes "inf")) colon end used)
+inf_again q colon end n used a b e = ⊎_elim (λ f. subst P (sym f) first) (λ m. ⊎_elim (λ f. subst P (sym f) second) (λ f. subst P (sym f) third) m)
+    (one_to_three n a b) ∙ ap (λ (u : ℕ). Next (at modes.Word (take n (codes "inf")) colon end u)) (sym e) where
+      P : ℕ → Type 0
+      P n = run q (take n (codes "inf")) (at modes.Blank [] colon end end) ≡ Next (at modes.Word (take n (codes "inf")) colon end (end + n))
 
-  first : P 1
-  first = refl
+      first : P 1
+      first = refl
 
-  second : P 2
-  second = let i : end + 1 + 1 ≡ end + 2 = omega arith in ap (λ (u : ℕ). Next (at modes.Word (take 2 (codes "inf")) colon end u)) i
+      second : P 2
+      second = let i : end + 1 + 1 ≡ end + 2 = omega arith in ap (λ (u : ℕ). Next (at modes.Word (take 2 (codes "inf")) colon end u)) i
 
-  third : P 3
-  third = let i : end + 1 + 1 + 1 ≡ end + 3 = omega arith in ap (λ (u : ℕ). Next (at modes.Word (take 3 (codes "inf")) colon end u)) i
+      third : P 3
+      third = let i : end + 1 + 1 + 1 ≡ end + 3 = omega arith in ap (λ (u : ℕ). Next (at modes.Word (take 3 (codes "inf")) colon end u)) i

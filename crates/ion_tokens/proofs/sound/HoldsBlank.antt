@@ -53,17 +53,36 @@ module _ (p : Place) (colon : Bool) (k : ℕ) (start used : ℕ) (since : List �
   blank_turned (actions.Go modes.Blank k') b (w, e) = record { flag = refl; used = used_more; mode = (e, blank_more since (White o) b w) }
   blank_turned (actions.Go modes.Slash k') b (i, e) = record { flag = refl; used = used_more; mode = (e, since, b, ap (λ (x : ℕ). since ++ x ∷ []) i) }
   blank_turned (actions.Go m k') b h = record { flag = refl; used = used_more; mode = in_mode p colon k m (kept_after k' []) used since (o ∷ []) b uses h }
-  blank_turned (actions.Give kind k') b h = record { front = since; token = o ∷ []; blank = b; cut = sym (append-nil (since ++ o ∷ [])); start = uses; end = omega (arith, uses); found = h; rest = λ q. blank_behind q (takes_colon p kind) (used + 1); again = λ q. refl }
+  blank_turned (actions.Give kind k') b h = record {
+    front = since;
+    token = o ∷ [];
+    blank = b;
+    cut = sym (append-nil (since ++ o ∷ []));
+    start = uses;
+    end =
+        omega (arith, uses);
+    found = h;
+    rest = λ q. blank_behind q (takes_colon p kind) (used + 1);
+    again = λ q. refl;
+  }
   blank_turned (actions.Refuse e) b h = tt
   blank_turned a b h = absurd h
 
-  pub slash_turned : (a : Action) (front : List ℕ) → IsBlank front → since ≡ front ++ 47 ∷ [] → Second p colon o a → Sound p colon k since o (acts p (at modes.Slash [] colon start used) o a)
+  pub slash_turned : (a : Action) (front : List ℕ) → IsBlank front → since ≡ front ++ 47 ∷ [] → Second p colon o a
+      → Sound p colon k since o (acts p (at modes.Slash [] colon start used) o a)
   slash_turned (actions.Go modes.LineComment k') front b e (i, n) = record {
     flag = refl;
     used = used_more;
     mode = (
       n,
-      record { front = front; octets = []; blank = b; one_line = tt; cut = (λ j. e j ++ i j ∷ []) ∙ append_assoc front (47 ∷ []) (47 ∷ []) ∙ sym (append-nil (front ++ codes "//")) },
+      record {
+        front = front;
+        octets = [];
+        blank = b;
+        one_line = tt;
+        cut = (λ j. e j ++ i j ∷ []) ∙ append_assoc front (47 ∷ []) (47 ∷ [])
+            ∙ sym (append-nil (front ++ codes "//"));
+      },
     );
   }
   slash_turned (actions.Go modes.BlockComment k') front b e (i, n) = record {
@@ -71,12 +90,26 @@ module _ (p : Place) (colon : Bool) (k : ℕ) (start used : ℕ) (since : List �
     used = used_more;
     mode = (
       n,
-      record { front = front; octets = []; blank = b; no_close = tt; last = refl; cut = (λ j. e j ++ i j ∷ []) ∙ append_assoc front (47 ∷ []) (42 ∷ []) ∙ sym (append-nil (front ++ codes "/*")) },
+      record {
+        front = front;
+        octets = [];
+        blank = b;
+        no_close = tt;
+        last = refl;
+        cut = (λ j. e j ++ i j ∷ []) ∙ append_assoc front (47 ∷ []) (42 ∷ [])
+            ∙ sym (append-nil (front ++ codes "/*"));
+      },
     );
   }
   slash_turned (actions.Go m k') front b e h =
       let size : used - 1 ≡ k + length front = omega (arith, uses, ap length e, length-append front (47 ∷ [])) in
-      record { flag = refl; used = used_more; mode = subst (λ l. InMode p colon k m (kept_after k' []) (used - 1) l) (sym (ap (λ l. l ++ o ∷ []) e ∙ append_assoc front (47 ∷ []) (o ∷ []))) (in_mode p colon k m (kept_after k' []) (used - 1) front (47 ∷ o ∷ []) b size h) }
+      record {
+        flag = refl;
+        used = used_more;
+        mode = subst (λ l. InMode p colon k m (kept_after k' []) (used - 1) l)
+            (sym (ap (λ l. l ++ o ∷ []) e ∙ append_assoc front (47 ∷ []) (o ∷ [])))
+            (in_mode p colon k m (kept_after k' []) (used - 1) front (47 ∷ o ∷ []) b size h);
+      }
   slash_turned (actions.Before kind k' modes.Blank) front b e h =
       let size : used - 1 ≡ k + length front = omega (arith, uses, ap length e, length-append front (47 ∷ [])) in
       let whole : used - 0 ≡ (k + length front) + 1 = omega (arith, uses, ap length e, length-append front (47 ∷ [])) in (
@@ -101,14 +134,27 @@ module _ (p : Place) (colon : Bool) (k : ℕ) (start used : ℕ) (since : List �
     over : (c.front ++ codes "//" ++ c.octets) ++ o ∷ [] ≡ c.front ++ (codes "//" ++ c.octets ++ o ∷ [])
     over = ap (λ l. l ++ o ∷ []) (append_assoc c.front (codes "//") c.octets) ∙ append_assoc c.front (codes "//" ++ c.octets) (o ∷ [])
 
-    by : (b : Bool) → is_line_end o ≡ b → Sound p colon k since o (acts p (at modes.LineComment [] colon start used) o (go (cond b modes.Blank modes.LineComment)))
-    by true e = record { flag = refl; used = used_more; mode = (refl, subst IsBlank (sym (ap (λ l. l ++ o ∷ []) c.cut ∙ over)) (blank_more c.front (LineComment c.octets o) c.blank (c.one_line, e))) }
+    by : (b : Bool) → is_line_end o ≡ b → Sound p colon k since o
+        (acts p (at modes.LineComment [] colon start used) o (go (cond b modes.Blank modes.LineComment)))
+    by true e = record {
+      flag = refl;
+      used = used_more;
+      mode =
+          (refl, subst IsBlank (sym (ap (λ l. l ++ o ∷ []) c.cut ∙ over)) (blank_more c.front (LineComment c.octets o) c.blank (c.one_line, e)));
+    }
     by false e = record {
       flag = refl;
       used = used_more;
       mode = (
         refl,
-        record { front = c.front; octets = c.octets ++ o ∷ []; blank = c.blank; one_line = no_line_end_more c.octets o c.one_line e; cut = ap (λ l. l ++ o ∷ []) c.cut ∙ append_assoc (c.front ++ codes "//") c.octets (o ∷ []) },
+        record {
+          front = c.front;
+          octets = c.octets ++ o ∷ [];
+          blank = c.blank;
+          one_line = no_line_end_more c.octets o c.one_line e;
+          cut =
+              ap (λ l. l ++ o ∷ []) c.cut ∙ append_assoc (c.front ++ codes "//") c.octets (o ∷ []);
+        },
       );
     }
 
@@ -124,7 +170,8 @@ module _ (p : Place) (colon : Bool) (k : ℕ) (start used : ℕ) (since : List �
 
   pub block_turned : IsOpenBlock since false → Sound p colon k since o (feed p (at modes.BlockComment [] colon start used) o)
   block_turned c = by (o == 42) refl where
-    by : (b : Bool) → (o == 42) ≡ b → Sound p colon k since o (acts p (at modes.BlockComment [] colon start used) o (go (cond b modes.BlockCommentStar modes.BlockComment)))
+    by : (b : Bool) → (o == 42) ≡ b → Sound p colon k since o
+        (acts p (at modes.BlockComment [] colon start used) o (go (cond b modes.BlockCommentStar modes.BlockComment)))
     by true e = record { flag = refl; used = used_more; mode = (refl, block_more false true c refl e) }
     by false e = record { flag = refl; used = used_more; mode = (refl, block_more false false c refl e) }
 
@@ -133,16 +180,21 @@ module _ (p : Place) (colon : Bool) (k : ℕ) (start used : ℕ) (since : List �
     closed : o ≡ 47 → IsBlank (since ++ o ∷ [])
     closed i =
         let star = but_star c.octets c.last in
-        let cut : since ++ o ∷ [] ≡ c.front ++ (codes "/*" ++ star.0 ++ codes "*/") = (λ j. c.cut j ++ i j ∷ []) ∙ ap (λ l. (c.front ++ codes "/*" ++ l) ++ 47 ∷ []) star.1 ∙ shape star.0 in
+        let cut : since ++ o ∷ [] ≡ c.front ++ (codes "/*" ++ star.0 ++ codes "*/") =
+        (λ j. c.cut j ++ i j ∷ []) ∙ ap (λ l. (c.front ++ codes "/*" ++ l) ++ 47 ∷ []) star.1 ∙ shape star.0 in
         subst IsBlank (sym cut) (blank_more c.front (BlockComment star.0) c.blank (no_close_front star.0 42 (subst HasNoClose star.1 c.no_close)))
       where
         shape : (os : List ℕ) → (c.front ++ codes "/*" ++ (os ++ 42 ∷ [])) ++ 47 ∷ [] ≡ c.front ++ (codes "/*" ++ os ++ codes "*/")
-        shape os = append_assoc (c.front ++ codes "/*") (os ++ 42 ∷ []) (47 ∷ []) ∙ ap (λ l. (c.front ++ codes "/*") ++ l) (append_assoc os (42 ∷ []) (47 ∷ [])) ∙ append_assoc c.front (codes "/*") (os ++ codes "*/")
+        shape os = append_assoc (c.front ++ codes "/*") (os ++ 42 ∷ []) (47 ∷ []) ∙ ap (λ l. (c.front ++ codes "/*") ++ l) (append_assoc os (42 ∷ []) (47 ∷ []))
+            ∙ append_assoc c.front (codes "/*") (os ++ codes "*/")
 
-    star : (b : Bool) → (o == 42) ≡ b → (o == 47) ≡ false → Sound p colon k since o (acts p (at modes.BlockCommentStar [] colon start used) o (cond b (go modes.BlockCommentStar) (go modes.BlockComment)))
+    star : (b : Bool) → (o == 42) ≡ b → (o == 47) ≡ false → Sound p colon k since o
+        (acts p (at modes.BlockCommentStar [] colon start used) o (cond b (go modes.BlockCommentStar) (go modes.BlockComment)))
     star true e n = record { flag = refl; used = used_more; mode = (refl, block_more true true c n e) }
     star false e n = record { flag = refl; used = used_more; mode = (refl, block_more true false c n e) }
 
-    by : (b : Bool) → (o == 47) ≡ b → Sound p colon k since o (acts p (at modes.BlockCommentStar [] colon start used) o (cond b (go modes.Blank) (cond (o == 42) (go modes.BlockCommentStar) (go modes.BlockComment))))
+    by : (b : Bool) → (o == 47) ≡ b → Sound p colon k since o
+        (acts p (at modes.BlockCommentStar [] colon start used) o
+        (cond b (go modes.Blank) (cond (o == 42) (go modes.BlockCommentStar) (go modes.BlockComment))))
     by true e = record { flag = refl; used = used_more; mode = (refl, closed (eq_of o 47 e)) }
     by false e = star (o == 42) refl e

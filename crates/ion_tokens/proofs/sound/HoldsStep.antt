@@ -40,14 +40,17 @@ module _ (p : Place) (colon : Bool) (k : ℕ) (m : Mode) (kept : List ℕ) (star
   end_more : used + 1 ≡ (k + length front) + length (w ++ o ∷ [])
   end_more = omega (arith, uses, length-append front w, length-append w (o ∷ []))
 
-  goes : (m' : Mode) (kept' : List ℕ) → IsOpen p colon m' (w ++ o ∷ []) kept' → Holds p colon k (go_to (at m kept colon start used) m' kept') ((front ++ w) ++ o ∷ [])
+  goes : (m' : Mode) (kept' : List ℕ) → IsOpen p colon m' (w ++ o ∷ []) kept'
+      → Holds p colon k (go_to (at m kept colon start used) m' kept') ((front ++ w) ++ o ∷ [])
   goes m' kept' h = record {
     flag = refl;
     used = used_more;
-    mode = subst (λ l. InMode p colon k m' kept' (start_of m start used) l) (sym (append_assoc front w (o ∷ []))) (in_mode p colon k m' kept' (start_of m start used) front (w ++ o ∷ []) blank begins_there h);
+    mode = subst (λ l. InMode p colon k m' kept' (start_of m start used) l) (sym (append_assoc front w (o ∷ [])))
+        (in_mode p colon k m' kept' (start_of m start used) front (w ++ o ∷ []) blank begins_there h);
   }
 
-  gives : (kind : TokenKind) (kept' : List ℕ) → ((r : List ℕ) → IsUnjudgedToken p colon (w ++ o ∷ []) r kind kept') → Sound p colon k (front ++ w) o (Given (cut (at m kept colon start used) kind kept' (used + 1)) (past p kind modes.Blank [] (used + 1) (used + 1)))
+  gives : (kind : TokenKind) (kept' : List ℕ) → ((r : List ℕ) → IsUnjudgedToken p colon (w ++ o ∷ []) r kind kept')
+      → Sound p colon k (front ++ w) o (Given (cut (at m kept colon start used) kind kept' (used + 1)) (past p kind modes.Blank [] (used + 1) (used + 1)))
   gives kind kept' h = record {
     front = front;
     token = w ++ o ∷ [];
@@ -60,7 +63,8 @@ module _ (p : Place) (colon : Bool) (k : ℕ) (m : Mode) (kept : List ℕ) (star
     again = λ q. refl;
   }
 
-  leaves_blank : (kind : TokenKind) (kept' : List ℕ) (end : ℕ) → end ≡ used → ((r : List ℕ) → IsUnjudgedToken p colon w (o ∷ r) kind kept') → Sound p colon k (front ++ w) o (Left (cut (at m kept colon start used) kind kept' end) (past p kind modes.Blank [] end used))
+  leaves_blank : (kind : TokenKind) (kept' : List ℕ) (end : ℕ) → end ≡ used → ((r : List ℕ) → IsUnjudgedToken p colon w (o ∷ r) kind kept')
+      → Sound p colon k (front ++ w) o (Left (cut (at m kept colon start used) kind kept' end) (past p kind modes.Blank [] end used))
   leaves_blank kind kept' end e h = (
     [],
     record {
@@ -76,7 +80,8 @@ module _ (p : Place) (colon : Bool) (k : ℕ) (m : Mode) (kept : List ℕ) (star
     },
   )
 
-  leaves_slash : (kind : TokenKind) (kept' token : List ℕ) → w ≡ token ++ 47 ∷ [] → ((r : List ℕ) → IsUnjudgedToken p colon token (47 ∷ o ∷ r) kind kept') → Sound p colon k (front ++ w) o (Left (cut (at m kept colon start used) kind kept' (used - 1)) (past p kind modes.Slash [] (used - 1) used))
+  leaves_slash : (kind : TokenKind) (kept' token : List ℕ) → w ≡ token ++ 47 ∷ [] → ((r : List ℕ) → IsUnjudgedToken p colon token (47 ∷ o ∷ r) kind kept')
+      → Sound p colon k (front ++ w) o (Left (cut (at m kept colon start used) kind kept' (used - 1)) (past p kind modes.Slash [] (used - 1) used))
   leaves_slash kind kept' token e h =
       let longer : length w ≡ length token + 1 = ap length e ∙ length-append token (47 ∷ []) in
       let size : used - 1 ≡ (k + length front) + length token = omega (arith, end_is, longer) in
@@ -95,8 +100,10 @@ module _ (p : Place) (colon : Bool) (k : ℕ) (m : Mode) (kept : List ℕ) (star
         },
       )
 
-  splits : (n : ℕ) (kept' token : List ℕ) → 1 ≤ n → n ≤ 3 → w ≡ token ++ take n (codes "inf") → ((r : List ℕ) → IsUnjudgedToken p colon token (take n (codes "inf") ++ o ∷ r) kinds.Operator kept')
-      → Sound p colon k (front ++ w) o (Left (cut (at m kept colon start used) kinds.Operator kept' (used - n)) (past p kinds.Operator modes.Word (take n (codes "inf")) (used - n) used))
+  splits : (n : ℕ) (kept' token : List ℕ) → 1 ≤ n → n ≤ 3 → w ≡ token ++ take n (codes "inf")
+      → ((r : List ℕ) → IsUnjudgedToken p colon token (take n (codes "inf") ++ o ∷ r) kinds.Operator kept')
+      → Sound p colon k (front ++ w) o (Left (cut (at m kept colon start used) kinds.Operator kept' (used - n))
+      (past p kinds.Operator modes.Word (take n (codes "inf")) (used - n) used))
   splits n kept' token low high e h =
       let word : IsWord (take n (codes "inf")) × (length (take n (codes "inf")) ≡ n) = inf_word n low high in
       let longer : length w ≡ length token + n = ap length e ∙ length-append token (take n (codes "inf")) ∙ ap (λ (i : ℕ). length token + i) word.1 in
@@ -111,7 +118,12 @@ module _ (p : Place) (colon : Bool) (k : ℕ) (m : Mode) (kept : List ℕ) (star
           start = begins_there;
           end = size;
           found = h;
-          rest = λ q. record { flag = refl; used = back; mode = record { front = []; token = take n (codes "inf"); blank = blank_none; cut = refl; begins = omega arith; is = (refl, word.0) } };
+          rest = λ q. record {
+            flag = refl;
+            used = back;
+            mode =
+                record { front = []; token = take n (codes "inf"); blank = blank_none; cut = refl; begins = omega arith; is = (refl, word.0) };
+          };
           again = λ q. inf_again q (takes_colon p kinds.Operator) (used - n) n used low high (omega (arith, back, word.1));
         },
       )
@@ -127,11 +139,13 @@ module _ (p : Place) (colon : Bool) (k : ℕ) (m : Mode) (kept : List ℕ) (star
     whole true true f g h i = absurd (true≢false h)
     whole true false f g h i = absurd (true≢false (sym ((bytes_eq-Decides kept (codes "null")).1 (e ∙ i)) ∙ g))
 
-    word : (b c : Bool) → (o == 46) ≡ b → bytes_eq kept (codes "null") ≡ c → (b && c) ≡ false → Sound p colon k (front ++ w) o (Left (cut (at m kept colon start used) kinds.Word kept used) (past p kinds.Word modes.Blank [] used used))
+    word : (b c : Bool) → (o == 46) ≡ b → bytes_eq kept (codes "null") ≡ c → (b && c) ≡ false
+        → Sound p colon k (front ++ w) o (Left (cut (at m kept colon start used) kinds.Word kept used) (past p kinds.Word modes.Blank [] used used))
     word b c f g i = leaves_blank kinds.Word kept used refl (λ r j. (e, h, n, λ null. whole b c f g i null))
 
     by : (b c : Bool) → (o == 46) ≡ b → bytes_eq kept (codes "null") ≡ c
-        → Sound p colon k (front ++ w) o (cond (b && c) (Next (go_to (at m kept colon start used) modes.KindName [])) (Left (cut (at m kept colon start used) kinds.Word kept used) (past p kinds.Word modes.Blank [] used used)))
+        → Sound p colon k (front ++ w) o (cond (b && c) (Next (go_to (at m kept colon start used) modes.KindName []))
+        (Left (cut (at m kept colon start used) kinds.Word kept used) (past p kinds.Word modes.Blank [] used used)))
     by true true f g = goes modes.KindName [] (kind_name (eq_of o 46 f) (null_is g), tt) where
       eq_of : (a b : ℕ) → (a == b) ≡ true → a ≡ b
       eq_of a b h = grind (arith, nat_tests)
@@ -146,7 +160,8 @@ module _ (p : Place) (colon : Bool) (k : ℕ) (m : Mode) (kept : List ℕ) (star
   ends_blob (n, inside, e, h, s, is) = by (blob_of kept) refl where
     by : (b : Option (List ℕ)) → blob_of kept ≡ b → Sound p colon k (front ++ w) o (blob_ends (at m kept colon start used) b)
     by None f = tt
-    by (Some octets) f = goes (modes.Lob lobs.BlobClose) octets (n, inside ++ o ∷ [], ap (λ l. l ++ o ∷ []) e, (inside, blob_sound inside octets h (ap blob_of (sym s) ∙ f), (λ i. inside ++ is i ∷ [])))
+    by (Some octets) f = goes (modes.Lob lobs.BlobClose) octets
+        (n, inside ++ o ∷ [], ap (λ l. l ++ o ∷ []) e, (inside, blob_sound inside octets h (ap blob_of (sym s) ∙ f), (λ i. inside ++ is i ∷ [])))
 
   pub turned : (a : Action) → Turns p colon w kept o a → Sound p colon k (front ++ w) o (acts p (at m kept colon start used) o a)
   turned (actions.Go m' k') h = goes m' (kept_after k' kept) h

@@ -80,7 +80,8 @@ InLob lobs.StartQuote w kept = (kept ≡ []) × (before : List ℕ) × Each is_w
 InLob lobs.StartQuotes w kept = (kept ≡ []) × (before : List ℕ) × Each is_white before × (w ≡ before ++ 39 ∷ 39 ∷ [])
 InLob lobs.Base64 w kept = Each AnyBlob w × (kept ≡ solid w)
 InLob lobs.BlobClose w kept = (content : List ℕ) × IsBlobContent content kept × (w ≡ content ++ 125 ∷ [])
-InLob lobs.AfterShort w kept = (before text after : List ℕ) × Each is_white before × Rattle.ion_tokens.specs.Quoted.IsQuoted styles.ShortClob text kept × Each is_white after × (w ≡ before ++ (34 ∷ text) ++ 34 ∷ after)
+InLob lobs.AfterShort w kept = (before text after : List ℕ) × Each is_white before × Rattle.ion_tokens.specs.Quoted.IsQuoted styles.ShortClob text kept
+    × Each is_white after × (w ≡ before ++ (34 ∷ text) ++ 34 ∷ after)
 InLob lobs.AfterLong w kept = IsLongText w kept
 InLob lobs.AfterQuote w kept = (front : List ℕ) × IsLongText front kept × (w ≡ front ++ 39 ∷ [])
 InLob lobs.AfterQuotes w kept = (front : List ℕ) × IsLongText front kept × (w ≡ front ++ 39 ∷ 39 ∷ [])
@@ -91,8 +92,10 @@ abbrev pub InText : Place → Style → Within → List ℕ → List ℕ → Typ
 InText p styles.ShortString v w kept = (part : List ℕ) × Reads styles.ShortString v part kept × (w ≡ 34 ∷ part)
 InText p styles.QuotedSymbol v w kept = (part : List ℕ) × Reads styles.QuotedSymbol v part kept × (w ≡ 39 ∷ part) × (begins (λ o. not (o == 39)) part ≡ true)
 InText p styles.LongString v w kept = (part : List ℕ) × Reads styles.LongString v part kept × (w ≡ 39 ∷ 39 ∷ 39 ∷ part)
-InText p styles.ShortClob v w kept = (is_name p ≡ false) × (before part : List ℕ) × Each is_white before × Reads styles.ShortClob v part kept × (w ≡ 123 ∷ 123 ∷ (before ++ 34 ∷ part))
-InText p styles.LongClob v w kept = (is_name p ≡ false) × (front kept' part q : List ℕ) × IsLongFront front kept' × Reads styles.LongClob v part q × (w ≡ 123 ∷ 123 ∷ (front ++ 39 ∷ 39 ∷ 39 ∷ part)) × (kept ≡ kept' ++ q)
+InText p styles.ShortClob v w kept = (is_name p ≡ false) × (before part : List ℕ) × Each is_white before × Reads styles.ShortClob v part kept
+    × (w ≡ 123 ∷ 123 ∷ (before ++ 34 ∷ part))
+InText p styles.LongClob v w kept = (is_name p ≡ false) × (front kept' part q : List ℕ) × IsLongFront front kept' × Reads styles.LongClob v part q
+    × (w ≡ 123 ∷ 123 ∷ (front ++ 39 ∷ 39 ∷ 39 ∷ part)) × (kept ≡ kept' ++ q)
 
 -- The octets w from a token's first on leave the scanner in this mode, with these kept.
 abbrev pub IsOpen : Place → Bool → Mode → List ℕ → List ℕ → Type 0
@@ -127,6 +130,8 @@ Turns p colon w kept o (actions.Go m k) = IsOpen p colon m (w ++ o ∷ []) (kept
 Turns p colon w kept o (actions.Give kind k) = (r : List ℕ) → IsUnjudgedToken p colon (w ++ o ∷ []) r kind (kept_after k kept)
 Turns p colon w kept o (actions.Before kind k m) = EndsBefore p colon w o kind (kept_after k kept) m
 Turns p colon w kept o actions.EndWord = (kept ≡ w) × IsWord w × (is_word_octet o ≡ false)
-Turns p colon w kept o (actions.Split n) = (1 ≤ n) × (n ≤ 3) × (front : List ℕ) × (w ≡ front ++ take n (codes "inf")) × ((r : List ℕ) → IsLexeme p colon front (take n (codes "inf") ++ o ∷ r) kinds.Operator kept)
-Turns p colon w kept o actions.EndBlob = (is_name p ≡ false) × (inside : List ℕ) × (w ≡ 123 ∷ 123 ∷ inside) × Each AnyBlob inside × (kept ≡ solid inside) × (o ≡ 125)
+Turns p colon w kept o (actions.Split n) = (1 ≤ n) × (n ≤ 3) × (front : List ℕ) × (w ≡ front ++ take n (codes "inf"))
+    × ((r : List ℕ) → IsLexeme p colon front (take n (codes "inf") ++ o ∷ r) kinds.Operator kept)
+Turns p colon w kept o actions.EndBlob = (is_name p ≡ false) × (inside : List ℕ) × (w ≡ 123 ∷ 123 ∷ inside) × Each AnyBlob inside × (kept ≡ solid inside)
+    × (o ≡ 125)
 Turns p colon w kept o (actions.Refuse e) = Unit {0}

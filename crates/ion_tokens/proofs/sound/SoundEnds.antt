@@ -55,7 +55,8 @@ slash_operator : (kept : List ℕ) → IsOpenRun kept → IsOperator (kept ++ 47
 slash_operator kept h = record {
   some = not_empty kept 47;
   each = each_last _ kept 47 h.each refl;
-  apart = comment_append kept (47 ∷ []) [] ∙ both_false (comment_within kept (47 ∷ [])) (comment_within (47 ∷ []) []) (apart_more kept (47 ∷ []) h.apart h.last) refl;
+  apart = comment_append kept (47 ∷ []) [] ∙ both_false (comment_within kept (47 ∷ [])) (comment_within (47 ∷ []) []) (apart_more kept (47 ∷ []) h.apart h.last)
+      refl;
   longest = inl refl;
   no_number = λ m. refl;
   no_float = λ m. refl;
@@ -77,7 +78,12 @@ token_ends p colon (modes.Operator x) w kept (e, n, h, s) = subst (λ l. EndTurn
 token_ends p colon modes.OperatorSlash w kept (e, s, h) = slash_ended p colon w kept e h
 token_ends p colon (modes.Infinity n) w kept h = tt
 token_ends p colon modes.Quote w kept h = tt
-token_ends p colon modes.Quotes w kept (e, k) = λ j. ([], subst (λ l. Rattle.ion_tokens.specs.Quoted.IsQuoted styles.QuotedSymbol [] l) (sym k) empty_symbol, e, λ i. refl)
+token_ends p colon modes.Quotes w kept (e, k) = λ j. (
+  [],
+  subst (λ l. Rattle.ion_tokens.specs.Quoted.IsQuoted styles.QuotedSymbol [] l) (sym k) empty_symbol,
+  e,
+  λ i. refl,
+)
 token_ends p colon (modes.Text s v) w kept h = tt
 token_ends p colon modes.Brace w kept (e, k, n) = λ j. (k, e, n, refl)
 token_ends p colon (modes.Lob l) w kept h = tt
@@ -88,16 +94,28 @@ token_ends p colon modes.BlockComment w kept h = absurd h
 token_ends p colon modes.BlockCommentStar w kept h = absurd h
 
 module _ (p : Place) (colon : Bool) (k : ℕ) (start used : ℕ) (since : List ℕ) (uses : used ≡ k + length since) where
-  in_token : (m : Mode) (kept : List ℕ) → Stays m → IsBegun p colon k m kept start since → EndSound p colon k since (ends_at (at m kept colon start used) (end_of p m))
+  in_token : (m : Mode) (kept : List ℕ) → Stays m → IsBegun p colon k m kept start since
+      → EndSound p colon k since (ends_at (at m kept colon start used) (end_of p m))
   in_token m kept stays b = by (end_of p m) (token_ends p colon m b.token kept b.is) where
     by : (e : End) → EndTurns p colon b.token kept e → EndSound p colon k since (ends_at (at m kept colon start used) e)
     by ends'.Blank h = absurd h
-    by (ends'.Token kind c) h = record { front = b.front; token = b.token; blank = b.blank; cut = b.cut; start = stays start used ∙ b.begins; end = omega (arith, uses, ap length b.cut, length-append b.front b.token); found = h }
+    by (ends'.Token kind c) h = record {
+      front = b.front;
+      token = b.token;
+      blank = b.blank;
+      cut = b.cut;
+      start = stays start used ∙ b.begins;
+      end =
+          omega (arith, uses, ap length b.cut, length-append b.front b.token);
+      found = h;
+    }
     by (ends'.Refuse r) h = tt
 
-  lone_slash : (kept : List ℕ) (front : List ℕ) → kept ≡ [] → IsBlank front → since ≡ front ++ 47 ∷ [] → EndSound p colon k since (ends_at (at modes.Slash kept colon start used) (operator_end p (keeps.One 47)))
+  lone_slash : (kept : List ℕ) (front : List ℕ) → kept ≡ [] → IsBlank front → since ≡ front ++ 47 ∷ []
+      → EndSound p colon k since (ends_at (at modes.Slash kept colon start used) (operator_end p (keeps.One 47)))
   lone_slash kept front e b c = by (is_sexp p) refl where
-    by : (x : Bool) → is_sexp p ≡ x → EndSound p colon k since (ends_at (at modes.Slash kept colon start used) (cond x (ends'.Token kinds.Operator (keeps.One 47)) (ends'.Refuse reasons.Incomplete)))
+    by : (x : Bool) → is_sexp p ≡ x → EndSound p colon k since
+        (ends_at (at modes.Slash kept colon start used) (cond x (ends'.Token kinds.Operator (keeps.One 47)) (ends'.Refuse reasons.Incomplete)))
     by true s = record {
       front = front;
       token = 47 ∷ [];
@@ -105,7 +123,19 @@ module _ (p : Place) (colon : Bool) (k : ℕ) (start used : ℕ) (since : List �
       cut = c;
       start = omega (arith, uses, ap length c, length-append front (47 ∷ []));
       end = omega (arith, uses, ap length c, length-append front (47 ∷ []));
-      found = λ j. (ap (λ l. l ++ 47 ∷ []) e, s, record { some = λ f. cc; each = (refl, tt); apart = refl; longest = inl refl; no_number = λ m. refl; no_float = λ m. refl });
+      found = λ j. (
+        ap (λ l. l ++ 47 ∷ []) e,
+        s,
+        record {
+          some = λ f. cc;
+          each = (refl, tt);
+          apart = refl;
+          longest =
+              inl refl;
+          no_number = λ m. refl;
+          no_float = λ m. refl;
+        },
+      );
     }
     by false s = tt
 
@@ -131,4 +161,5 @@ module _ (p : Place) (colon : Bool) (k : ℕ) (start used : ℕ) (since : List �
 
 -- What the end of the octets shows is so: they are a blank, or a blank and this token.
 pub end_sound : (p : Place) (colon : Bool) (k : ℕ) (s : Known) (since : List ℕ) → Holds p colon k s since → EndSound p colon k since (at_end p s)
-end_sound p colon k s since h = subst (λ c. EndSound p colon k since (at_end p (at s.mode s.kept c s.start s.used))) (sym h.flag) (mode_ends p colon k s.start s.used since h.used s.mode s.kept h.mode)
+end_sound p colon k s since h = subst (λ c. EndSound p colon k since (at_end p (at s.mode s.kept c s.start s.used))) (sym h.flag)
+    (mode_ends p colon k s.start s.used since h.used s.mode s.kept h.mode)

@@ -17,16 +17,20 @@ use Rattle.ion_tokens.proofs.sound.TurnsOperators.{operator_turns, operator_slas
 use Rattle.ion_tokens.proofs.sound.TurnsBlanks.{blank_first, slash_second}
 
 module _ (p : Place) (colon : Bool) (k : ℕ) (start used : ℕ) (since : List ℕ) (o : ℕ) (uses : used ≡ k + length since) where
-  in_token : (m : Mode) (kept : List ℕ) → Stays m → IsBegun p colon k m kept start since → ((w : List ℕ) → IsOpen p colon m w kept → Turns p colon w kept o (next p colon m o)) → Sound p colon k since o (feed p (at m kept colon start used) o)
+  in_token : (m : Mode) (kept : List ℕ) → Stays m → IsBegun p colon k m kept start since
+      → ((w : List ℕ) → IsOpen p colon m w kept → Turns p colon w kept o (next p colon m o)) → Sound p colon k since o (feed p (at m kept colon start used) o)
   in_token m kept stays b f = subst (λ l. Sound p colon k l o (feed p (at m kept colon start used) o)) (sym b.cut)
       (turned p colon k m kept start used b.front b.token o b.blank stays b.begins (uses ∙ ap (λ l. k + length l) b.cut) (next p colon m o) (f b.token b.is))
 
-  none_kept : (m : Mode) (kept : List ℕ) → kept ≡ [] → Sound p colon k since o (feed p (at m [] colon start used) o) → Sound p colon k since o (feed p (at m kept colon start used) o)
+  none_kept : (m : Mode) (kept : List ℕ) → kept ≡ [] → Sound p colon k since o (feed p (at m [] colon start used) o)
+      → Sound p colon k since o (feed p (at m kept colon start used) o)
   none_kept m kept e h = subst (λ l. Sound p colon k since o (feed p (at m l colon start used) o)) (sym e) h
 
   mode_sound : (m : Mode) (kept : List ℕ) → InMode p colon k m kept start since → Sound p colon k since o (feed p (at m kept colon start used) o)
-  mode_sound modes.Blank kept (e, b) = none_kept modes.Blank kept e (blank_turned p colon k start used since o uses (in_blank p colon o) b (blank_first p colon o))
-  mode_sound modes.Slash kept (e, front, b, c) = none_kept modes.Slash kept e (slash_turned p colon k start used since o uses (in_slash p o) front b c (slash_second p colon o))
+  mode_sound modes.Blank kept (e, b) = none_kept modes.Blank kept e
+      (blank_turned p colon k start used since o uses (in_blank p colon o) b (blank_first p colon o))
+  mode_sound modes.Slash kept (e, front, b, c) = none_kept modes.Slash kept e
+      (slash_turned p colon k start used since o uses (in_slash p o) front b c (slash_second p colon o))
   mode_sound modes.LineComment kept (e, c) = none_kept modes.LineComment kept e (line_turned p colon k start used since o uses c)
   mode_sound modes.BlockComment kept (e, c) = none_kept modes.BlockComment kept e (block_turned p colon k start used since o uses c)
   mode_sound modes.BlockCommentStar kept (e, c) = none_kept modes.BlockCommentStar kept e (star_turned p colon k start used since o uses c)
@@ -46,28 +50,38 @@ module _ (p : Place) (colon : Bool) (k : ℕ) (start used : ℕ) (since : List �
 
 -- What comes of one octet is so.
 pub feed_sound : (p : Place) (colon : Bool) (k : ℕ) (s : Known) (since : List ℕ) (o : ℕ) → Holds p colon k s since → Sound p colon k since o (feed p s o)
-feed_sound p colon k s since o h = subst (λ c. Sound p colon k since o (feed p (at s.mode s.kept c s.start s.used) o)) (sym h.flag) (mode_sound p colon k s.start s.used since o h.used s.mode s.kept h.mode)
+feed_sound p colon k s since o h = subst (λ c. Sound p colon k since o (feed p (at s.mode s.kept c s.start s.used) o)) (sym h.flag)
+    (mode_sound p colon k s.start s.used since o h.used s.mode s.kept h.mode)
 
 -- what comes of octets is so
 abbrev pub RunSound : Place → Bool → ℕ → List ℕ → List ℕ → Outcome → Type 0
 RunSound p colon k since octets (Next s) = Holds p colon k s (since ++ octets)
 RunSound p colon k since octets (Given l s) = (front rest : List ℕ) × (octets ≡ front ++ rest) × IsTold p colon k (since ++ front) [] [] l s
-RunSound p colon k since octets (Left l s) = (front : List ℕ) × (x : ℕ) × (rest ahead : List ℕ) × (octets ≡ front ++ x ∷ rest) × IsTold p colon k (since ++ front) ahead (x ∷ []) l s
+RunSound p colon k since octets (Left l s) = (front : List ℕ) × (x : ℕ) × (rest ahead : List ℕ) × (octets ≡ front ++ x ∷ rest)
+    × IsTold p colon k (since ++ front) ahead (x ∷ []) l s
 RunSound p colon k since octets (Refused n r) = Unit {0}
 
-one_before : (p : Place) (colon : Bool) (k : ℕ) (since octets : List ℕ) (o : ℕ) (x : Outcome) → RunSound p colon k (since ++ o ∷ []) octets x → RunSound p colon k since (o ∷ octets) x
+one_before : (p : Place) (colon : Bool) (k : ℕ) (since octets : List ℕ) (o : ℕ) (x : Outcome) → RunSound p colon k (since ++ o ∷ []) octets x
+    → RunSound p colon k since (o ∷ octets) x
 one_before p colon k since octets o (Next s) h = subst (λ l. Holds p colon k s l) (append_assoc since (o ∷ []) octets) h
-one_before p colon k since octets o (Given l s) (front, rest, e, h) = (o ∷ front, rest, ap (λ l. o ∷ l) e, subst (λ x. IsTold p colon k x [] [] l s) (append_assoc since (o ∷ []) front) h)
-one_before p colon k since octets o (Left l s) (front, x, rest, ahead, e, h) = (o ∷ front, x, rest, ahead, ap (λ l. o ∷ l) e, subst (λ y. IsTold p colon k y ahead (x ∷ []) l s) (append_assoc since (o ∷ []) front) h)
+one_before p colon k since octets o (Given l s) (front, rest, e, h) =
+    (o ∷ front, rest, ap (λ l. o ∷ l) e, subst (λ x. IsTold p colon k x [] [] l s) (append_assoc since (o ∷ []) front) h)
+one_before p colon k since octets o (Left l s) (front, x, rest, ahead, e, h) =
+    (o ∷ front, x, rest, ahead, ap (λ l. o ∷ l) e, subst (λ y. IsTold p colon k y ahead (x ∷ []) l s) (append_assoc since (o ∷ []) front) h)
 one_before p colon k since octets o (Refused n r) h = tt
 
-followed : (p : Place) (colon : Bool) (k : ℕ) (since octets : List ℕ) (o : ℕ) (x : Outcome) → Sound p colon k since o x → ((s : Known) → Holds p colon k s (since ++ o ∷ []) → RunSound p colon k (since ++ o ∷ []) octets (run p octets s)) → RunSound p colon k since (o ∷ octets) (follow x (λ s. run p octets s))
+followed : (p : Place) (colon : Bool) (k : ℕ) (since octets : List ℕ) (o : ℕ) (x : Outcome) → Sound p colon k since o x
+    → ((s : Known) → Holds p colon k s (since ++ o ∷ []) → RunSound p colon k (since ++ o ∷ []) octets (run p octets s))
+    → RunSound p colon k since (o ∷ octets) (follow x (λ s. run p octets s))
 followed p colon k since octets o (Next s) h f = one_before p colon k since octets o (run p octets s) (f s h)
 followed p colon k since octets o (Given l s) h f = (o ∷ [], octets, refl, h)
-followed p colon k since octets o (Left l s) (ahead, h) f = ([], o, octets, ahead, refl, subst (λ x. IsTold p colon k x ahead (o ∷ []) l s) (sym (append-nil since)) h)
+followed p colon k since octets o (Left l s) (ahead, h) f =
+    ([], o, octets, ahead, refl, subst (λ x. IsTold p colon k x ahead (o ∷ []) l s) (sym (append-nil since)) h)
 followed p colon k since octets o (Refused n r) h f = tt
 
 -- What comes of octets is so.
-pub run_sound : (p : Place) (colon : Bool) (k : ℕ) (octets since : List ℕ) (s : Known) → Holds p colon k s since → RunSound p colon k since octets (run p octets s)
+pub run_sound : (p : Place) (colon : Bool) (k : ℕ) (octets since : List ℕ) (s : Known) → Holds p colon k s since
+    → RunSound p colon k since octets (run p octets s)
 run_sound p colon k [] since s h = subst (λ l. Holds p colon k s l) (sym (append-nil since)) h
-run_sound p colon k (o ∷ octets) since s h = followed p colon k since octets o (feed p s o) (feed_sound p colon k s since o h) (λ t g. run_sound p colon k octets (since ++ o ∷ []) t g)
+run_sound p colon k (o ∷ octets) since s h = followed p colon k since octets o (feed p s o) (feed_sound p colon k s since o h)
+    (λ t g. run_sound p colon k octets (since ++ o ∷ []) t g)

@@ -34,7 +34,8 @@ First p colon o (actions.Give kind k) = (r : List ℕ) → IsUnjudgedToken p col
 First p colon o (actions.Refuse e) = Unit {0}
 First p colon o _ = ⊥
 
-mark_first : (p : Place) (colon : Bool) (o x : ℕ) (m : Mark) → (o == x) ≡ true → x ∷ [] ≡ mark_spelling m → MarkStands p colon m → ((r : List ℕ) → MarkEnds m r) → First p colon o (give m)
+mark_first : (p : Place) (colon : Bool) (o x : ℕ) (m : Mark) → (o == x) ≡ true → x ∷ [] ≡ mark_spelling m → MarkStands p colon m → ((r : List ℕ) → MarkEnds m r)
+    → First p colon o (give m)
 mark_first p colon o x m e f s g = λ r j. let is : o ≡ x = eq_of o x e in (refl, ap (λ (y : ℕ). y ∷ []) is ∙ f, s, g r)
 
 digit_open : (p : Place) (o : ℕ) → is_name p ≡ false → is_digit o ≡ true → IsOpenNumber p (o ∷ [])
@@ -46,29 +47,39 @@ run_open : (o : ℕ) → is_operator_octet o ≡ true → (o == 47) ≡ false �
 run_open o h n = record { some = λ e. cc; each = (h, tt); apart = ap (λ b. (b && false) || false) n; last = n }
 
 module _ (p : Place) (colon : Bool) (o : ℕ) where
-  value_last : is_name p ≡ false → (o == 47) ≡ false → (o == 45) ≡ false → (o == 43) ≡ false → First p colon o (cond (is_sexp p && is_operator_octet o) (add (modes.Operator endings.Other) o) refused)
+  value_last : is_name p ≡ false → (o == 47) ≡ false → (o == 45) ≡ false → (o == 43) ≡ false
+      → First p colon o (cond (is_sexp p && is_operator_octet o) (add (modes.Operator endings.Other) o) refused)
   value_last n s a b = by (is_sexp p) (is_operator_octet o) refl refl where
     by : (x y : Bool) → is_sexp p ≡ x → is_operator_octet o ≡ y → First p colon o (cond (x && y) (add (modes.Operator endings.Other) o) refused)
     by true true e f = (refl, n, run_open o f s, (e, a, (λ i. b i || a i)))
     by true false e f = tt
     by false y e f = tt
 
-  value_plus : is_name p ≡ false → (o == 47) ≡ false → (o == 45) ≡ false → First p colon o (cond (o == 43) (add (modes.Operator endings.Plus) o) (cond (is_sexp p && is_operator_octet o) (add (modes.Operator endings.Other) o) refused))
+  value_plus : is_name p ≡ false → (o == 47) ≡ false → (o == 45) ≡ false
+      → First p colon o (cond (o == 43) (add (modes.Operator endings.Plus) o)
+      (cond (is_sexp p && is_operator_octet o) (add (modes.Operator endings.Other) o) refused))
   value_plus n s a = by (o == 43) refl where
-    by : (x : Bool) → (o == 43) ≡ x → First p colon o (cond x (add (modes.Operator endings.Plus) o) (cond (is_sexp p && is_operator_octet o) (add (modes.Operator endings.Other) o) refused))
+    by : (x : Bool) → (o == 43) ≡ x → First p colon o (cond x (add (modes.Operator endings.Plus) o)
+        (cond (is_sexp p && is_operator_octet o) (add (modes.Operator endings.Other) o) refused))
     by true e = let is : o ≡ 43 = eq_of o 43 e in (refl, n, run_open o (ap is_operator_octet is) s, a)
     by false e = value_last n s a e
 
-  value_minus : is_name p ≡ false → (o == 47) ≡ false → First p colon o (cond (o == 45) (add (modes.Operator endings.LoneMinus) o) (cond (o == 43) (add (modes.Operator endings.Plus) o) (cond (is_sexp p && is_operator_octet o) (add (modes.Operator endings.Other) o) refused)))
+  value_minus : is_name p ≡ false → (o == 47) ≡ false → First p colon o
+      (cond (o == 45) (add (modes.Operator endings.LoneMinus) o)
+      (cond (o == 43) (add (modes.Operator endings.Plus) o) (cond (is_sexp p && is_operator_octet o) (add (modes.Operator endings.Other) o) refused)))
   value_minus n s = by (o == 45) refl where
-    by : (x : Bool) → (o == 45) ≡ x → First p colon o (cond x (add (modes.Operator endings.LoneMinus) o) (cond (o == 43) (add (modes.Operator endings.Plus) o) (cond (is_sexp p && is_operator_octet o) (add (modes.Operator endings.Other) o) refused)))
+    by : (x : Bool) → (o == 45) ≡ x → First p colon o (cond x (add (modes.Operator endings.LoneMinus) o)
+        (cond (o == 43) (add (modes.Operator endings.Plus) o) (cond (is_sexp p && is_operator_octet o) (add (modes.Operator endings.Other) o) refused)))
     by true e = let is : o ≡ 45 = eq_of o 45 e in (refl, n, run_open o (ap is_operator_octet is) s, ap (λ (y : ℕ). y ∷ []) is)
     by false e = value_plus n s e
 
   value_rest : Action
-  value_rest = cond (o == 45) (add (modes.Operator endings.LoneMinus) o) (cond (o == 43) (add (modes.Operator endings.Plus) o) (cond (is_sexp p && is_operator_octet o) (add (modes.Operator endings.Other) o) refused))
+  value_rest = cond (o == 45) (add (modes.Operator endings.LoneMinus) o)
+      (cond (o == 43) (add (modes.Operator endings.Plus) o) (cond (is_sexp p && is_operator_octet o) (add (modes.Operator endings.Other) o) refused))
 
-  value_marks : is_name p ≡ false → (o == 47) ≡ false → First p colon o (cond (o == 91) (give marks.ListOpen) (cond (o == 93) (give marks.ListClose) (cond (o == 40) (give marks.SexpOpen) (cond (o == 41) (give marks.SexpClose) value_rest))))
+  value_marks : is_name p ≡ false → (o == 47) ≡ false → First p colon o
+      (cond (o == 91) (give marks.ListOpen) (cond (o == 93) (give marks.ListClose)
+      (cond (o == 40) (give marks.SexpOpen) (cond (o == 41) (give marks.SexpClose) value_rest))))
   unfolding value_rest
   value_marks n s = one (o == 91) refl where
     four : (x : Bool) → (o == 41) ≡ x → First p colon o (cond x (give marks.SexpClose) value_rest)
@@ -79,22 +90,28 @@ module _ (p : Place) (colon : Bool) (o : ℕ) where
     three true e = mark_first p colon o 40 marks.SexpOpen e refl n (λ r. tt)
     three false e = four (o == 41) refl
 
-    two : (x : Bool) → (o == 93) ≡ x → First p colon o (cond x (give marks.ListClose) (cond (o == 40) (give marks.SexpOpen) (cond (o == 41) (give marks.SexpClose) value_rest)))
+    two : (x : Bool) → (o == 93) ≡ x → First p colon o (cond x (give marks.ListClose)
+        (cond (o == 40) (give marks.SexpOpen) (cond (o == 41) (give marks.SexpClose) value_rest)))
     two true e = mark_first p colon o 93 marks.ListClose e refl n (λ r. tt)
     two false e = three (o == 40) refl
 
-    one : (x : Bool) → (o == 91) ≡ x → First p colon o (cond x (give marks.ListOpen) (cond (o == 93) (give marks.ListClose) (cond (o == 40) (give marks.SexpOpen) (cond (o == 41) (give marks.SexpClose) value_rest))))
+    one : (x : Bool) → (o == 91) ≡ x → First p colon o (cond x (give marks.ListOpen)
+        (cond (o == 93) (give marks.ListClose) (cond (o == 40) (give marks.SexpOpen) (cond (o == 41) (give marks.SexpClose) value_rest))))
     one true e = mark_first p colon o 91 marks.ListOpen e refl n (λ r. tt)
     one false e = two (o == 93) refl
 
   value_first : is_name p ≡ false → (o == 47) ≡ false → First p colon o (begins_value p o)
   unfolding value_rest
   value_first n s = digit (is_digit o) refl where
-    brace : (x : Bool) → (o == 123) ≡ x → First p colon o (cond x (go modes.Brace) (cond (o == 91) (give marks.ListOpen) (cond (o == 93) (give marks.ListClose) (cond (o == 40) (give marks.SexpOpen) (cond (o == 41) (give marks.SexpClose) value_rest)))))
+    brace : (x : Bool) → (o == 123) ≡ x → First p colon o (cond x (go modes.Brace)
+        (cond (o == 91) (give marks.ListOpen) (cond (o == 93) (give marks.ListClose)
+        (cond (o == 40) (give marks.SexpOpen) (cond (o == 41) (give marks.SexpClose) value_rest)))))
     brace true e = let is : o ≡ 123 = eq_of o 123 e in (ap (λ (y : ℕ). y ∷ []) is, refl, n)
     brace false e = value_marks n s
 
-    digit : (x : Bool) → is_digit o ≡ x → First p colon o (cond x (add modes.Number o) (cond (o == 123) (go modes.Brace) (cond (o == 91) (give marks.ListOpen) (cond (o == 93) (give marks.ListClose) (cond (o == 40) (give marks.SexpOpen) (cond (o == 41) (give marks.SexpClose) value_rest))))))
+    digit : (x : Bool) → is_digit o ≡ x → First p colon o (cond x (add modes.Number o)
+        (cond (o == 123) (go modes.Brace) (cond (o == 91) (give marks.ListOpen)
+        (cond (o == 93) (give marks.ListClose) (cond (o == 40) (give marks.SexpOpen) (cond (o == 41) (give marks.SexpClose) value_rest))))))
     digit true e = (refl, digit_open p o n e)
     digit false e = brace (o == 123) refl
 
@@ -138,7 +155,8 @@ module _ (p : Place) (colon : Bool) (o : ℕ) where
     quote true e = let is : o ≡ 39 = eq_of o 39 e in (ap (λ (y : ℕ). y ∷ []) is, refl)
     quote false e = comma (o == 44) refl
 
-    short : (x : Bool) → (o == 34) ≡ x → First p colon o (cond x (go (modes.Text styles.ShortString within.Plain)) (cond (o == 39) (go modes.Quote) behind_quote))
+    short : (x : Bool) → (o == 34) ≡ x → First p colon o (cond x (go (modes.Text styles.ShortString within.Plain))
+        (cond (o == 39) (go modes.Quote) behind_quote))
     short true e = let is : o ≡ 34 = eq_of o 34 e in ([], reads_none styles.ShortString, ap (λ (y : ℕ). y ∷ []) is)
     short false e = quote (o == 39) refl
 
@@ -152,7 +170,8 @@ module _ (p : Place) (colon : Bool) (o : ℕ) where
     word true e = (refl, (e, (ap (λ b. b || is_digit o) e, tt)))
     word false e = slash (o == 47) refl
 
-    white : (x : Bool) → is_white o ≡ x → First p colon o (cond x (go modes.Blank) (cond (begins_word o) (add modes.Word o) (cond (o == 47) (go modes.Slash) behind_slash)))
+    white : (x : Bool) → is_white o ≡ x → First p colon o (cond x (go modes.Blank)
+        (cond (begins_word o) (add modes.Word o) (cond (o == 47) (go modes.Slash) behind_slash)))
     white true e = (e, refl)
     white false e = word (begins_word o) refl
 
@@ -165,8 +184,21 @@ Second p colon o (actions.Before kind k modes.Blank) = (r : List ℕ) → IsUnju
 Second p colon o (actions.Refuse e) = Unit {0}
 Second p colon o _ = ⊥
 
-lone_operator : (p : Place) (colon : Bool) (o : ℕ) → is_sexp p ≡ true → (o == 47) ≡ false → (o == 42) ≡ false → is_operator_octet o ≡ false → (r : List ℕ) → IsLexeme p colon (47 ∷ []) (o ∷ r) kinds.Operator (47 ∷ [])
-lone_operator p colon o s a b n r = (refl, s, record { some = λ e. cc; each = (refl, tt); apart = (λ i. (a i || b i) || false); longest = inl n; no_number = λ e. absurd (false≢true e); no_float = λ e. absurd (false≢true e) })
+lone_operator : (p : Place) (colon : Bool) (o : ℕ) → is_sexp p ≡ true → (o == 47) ≡ false → (o == 42) ≡ false → is_operator_octet o ≡ false → (r : List ℕ)
+    → IsLexeme p colon (47 ∷ []) (o ∷ r) kinds.Operator (47 ∷ [])
+lone_operator p colon o s a b n r = (
+  refl,
+  s,
+  record {
+    some = λ e. cc;
+    each = (refl, tt);
+    apart = (λ i. (a i || b i) || false);
+    longest = inl n;
+    no_number =
+        λ e. absurd (false≢true e);
+    no_float = λ e. absurd (false≢true e);
+  },
+)
 
 slashed_open : (o : ℕ) → is_operator_octet o ≡ true → (o == 47) ≡ false → (o == 42) ≡ false → IsOpenRun (47 ∷ o ∷ [])
 slashed_open o h a b = record { some = λ e. cc; each = (refl, (h, tt)); apart = (λ i. (a i || b i) || ((a i && false) || false)); last = a }
@@ -178,14 +210,20 @@ slash_second p colon o = line (o == 47) refl where
   operator true e s a b = (refl, sexp_no_name p s, slashed_open o e a b, ends_so p (47 ∷ []) o s)
   operator false e s a b = λ r j. lone_operator p colon o s a b e r
 
-  place : (x : Bool) → is_sexp p ≡ x → (o == 47) ≡ false → (o == 42) ≡ false → Second p colon o (cond (not x) refused (cond (is_operator_octet o) (actions.Go (modes.Operator (run_ending o)) (keeps.Two 47 o)) (actions.Before kinds.Operator (keeps.One 47) modes.Blank)))
+  place : (x : Bool) → is_sexp p ≡ x → (o == 47) ≡ false → (o == 42) ≡ false
+      → Second p colon o (cond (not x) refused (cond (is_operator_octet o) (actions.Go (modes.Operator (run_ending o)) (keeps.Two 47 o))
+      (actions.Before kinds.Operator (keeps.One 47) modes.Blank)))
   place true e a b = operator (is_operator_octet o) refl e a b
   place false e a b = tt
 
-  block : (x : Bool) → (o == 42) ≡ x → (o == 47) ≡ false → Second p colon o (cond x (go modes.BlockComment) (cond (not (is_sexp p)) refused (cond (is_operator_octet o) (actions.Go (modes.Operator (run_ending o)) (keeps.Two 47 o)) (actions.Before kinds.Operator (keeps.One 47) modes.Blank))))
+  block : (x : Bool) → (o == 42) ≡ x → (o == 47) ≡ false → Second p colon o
+      (cond x (go modes.BlockComment) (cond (not (is_sexp p)) refused
+      (cond (is_operator_octet o) (actions.Go (modes.Operator (run_ending o)) (keeps.Two 47 o)) (actions.Before kinds.Operator (keeps.One 47) modes.Blank))))
   block true e a = (eq_of o 42 e, refl)
   block false e a = place (is_sexp p) refl a e
 
-  line : (x : Bool) → (o == 47) ≡ x → Second p colon o (cond x (go modes.LineComment) (cond (o == 42) (go modes.BlockComment) (cond (not (is_sexp p)) refused (cond (is_operator_octet o) (actions.Go (modes.Operator (run_ending o)) (keeps.Two 47 o)) (actions.Before kinds.Operator (keeps.One 47) modes.Blank)))))
+  line : (x : Bool) → (o == 47) ≡ x → Second p colon o (cond x (go modes.LineComment)
+      (cond (o == 42) (go modes.BlockComment) (cond (not (is_sexp p)) refused
+      (cond (is_operator_octet o) (actions.Go (modes.Operator (run_ending o)) (keeps.Two 47 o)) (actions.Before kinds.Operator (keeps.One 47) modes.Blank)))))
   line true e = (eq_of o 47 e, refl)
   line false e = block (o == 42) refl e

@@ -59,38 +59,62 @@ any_white : (o : ℕ) → is_white o ≡ true → AnyBlob o ≡ true
 any_white o h = ap (λ b. b || is_base64 o) h
 
 -- in the content of a blob
-blob_turns : (p : Place) (colon : Bool) (inside kept : List ℕ) (o : ℕ) → is_name p ≡ false → Each AnyBlob inside → kept ≡ solid inside → At p colon inside kept o (in_blob o)
+blob_turns : (p : Place) (colon : Bool) (inside kept : List ℕ) (o : ℕ) → is_name p ≡ false → Each AnyBlob inside → kept ≡ solid inside
+    → At p colon inside kept o (in_blob o)
 blob_turns p colon inside kept o n h e = by (o == 125) refl where
   base : (b : Bool) → is_base64 o ≡ b → At p colon inside kept o (cond b (add (modes.Lob lobs.Base64) o) (actions.Refuse reasons.BadBase64))
-  base true f = (n, inside ++ o ∷ [], refl, (each_last AnyBlob inside o h (base_any o f).0, ap (λ l. l ++ o ∷ []) e ∙ sym (solid_more inside o (base_any o f).1)))
+  base true f = (
+    n,
+    inside ++ o ∷ [],
+    refl,
+    (
+      each_last AnyBlob inside o h (base_any o f).0,
+      ap (λ l. l ++ o ∷ []) e
+          ∙ sym (solid_more inside o (base_any o f).1),
+    ),
+  )
   base false f = tt
 
-  by : (b : Bool) → (o == 125) ≡ b → At p colon inside kept o (cond b actions.EndBlob (cond (is_base64 o) (add (modes.Lob lobs.Base64) o) (actions.Refuse reasons.BadBase64)))
+  by : (b : Bool) → (o == 125) ≡ b → At p colon inside kept o
+      (cond b actions.EndBlob (cond (is_base64 o) (add (modes.Lob lobs.Base64) o) (actions.Refuse reasons.BadBase64)))
   by true f = (n, inside, refl, h, e, eq_of o 125 f)
   by false f = base (is_base64 o) refl
 
 -- behind {{ and white space
-start_turns : (p : Place) (colon : Bool) (inside kept : List ℕ) (o : ℕ) → is_name p ≡ false → InLob lobs.Start inside kept → At p colon inside kept o (lob_start o)
+start_turns : (p : Place) (colon : Bool) (inside kept : List ℕ) (o : ℕ) → is_name p ≡ false → InLob lobs.Start inside kept
+    → At p colon inside kept o (lob_start o)
 start_turns p colon inside kept o n (k, w) = by (is_white o) refl where
   third : (b : Bool) → (o == 39) ≡ b → At p colon inside kept o (cond b (go (modes.Lob lobs.StartQuote)) (in_blob o))
   third true f = let is : o ≡ 39 = eq_of o 39 f in (n, inside ++ o ∷ [], refl, (k, inside, w, (λ i. inside ++ is i ∷ [])))
   third false f = blob_turns p colon inside kept o n (white_any inside w) (k ∙ sym (solid_none inside w))
 
-  second : (b : Bool) → (o == 34) ≡ b → At p colon inside kept o (cond b (go (modes.Text styles.ShortClob within.Plain)) (cond (o == 39) (go (modes.Lob lobs.StartQuote)) (in_blob o)))
-  second true f = let is : o ≡ 34 = eq_of o 34 f in (n, inside, [], w, subst (λ l. Rattle.ion_tokens.proofs.texts.TextsSound.Reads styles.ShortClob within.Plain [] l) (sym k) (reads_none styles.ShortClob), (λ i. 123 ∷ 123 ∷ (inside ++ is i ∷ [])))
+  second : (b : Bool) → (o == 34) ≡ b → At p colon inside kept o
+      (cond b (go (modes.Text styles.ShortClob within.Plain)) (cond (o == 39) (go (modes.Lob lobs.StartQuote)) (in_blob o)))
+  second true f = let is : o ≡ 34 = eq_of o 34 f in (
+    n,
+    inside,
+    [],
+    w,
+    subst (λ l. Rattle.ion_tokens.proofs.texts.TextsSound.Reads styles.ShortClob within.Plain [] l) (sym k) (reads_none styles.ShortClob),
+    (λ i. 123 ∷ 123 ∷ (inside ++ is i ∷ [])),
+  )
   second false f = third (o == 39) refl
 
-  by : (b : Bool) → is_white o ≡ b → At p colon inside kept o (cond b (go (modes.Lob lobs.Start)) (cond (o == 34) (go (modes.Text styles.ShortClob within.Plain)) (cond (o == 39) (go (modes.Lob lobs.StartQuote)) (in_blob o))))
+  by : (b : Bool) → is_white o ≡ b → At p colon inside kept o
+      (cond b (go (modes.Lob lobs.Start)) (cond (o == 34) (go (modes.Text styles.ShortClob within.Plain))
+      (cond (o == 39) (go (modes.Lob lobs.StartQuote)) (in_blob o))))
   by true f = (n, inside ++ o ∷ [], refl, (k, each_last is_white inside o w f))
   by false f = second (o == 34) refl
 
-start_quote_turns : (p : Place) (colon : Bool) (inside kept : List ℕ) (o : ℕ) → is_name p ≡ false → InLob lobs.StartQuote inside kept → At p colon inside kept o (third_quote o (modes.Lob lobs.StartQuotes))
+start_quote_turns : (p : Place) (colon : Bool) (inside kept : List ℕ) (o : ℕ) → is_name p ≡ false → InLob lobs.StartQuote inside kept
+    → At p colon inside kept o (third_quote o (modes.Lob lobs.StartQuotes))
 start_quote_turns p colon inside kept o n (k, b, w, e) = by (o == 39) refl where
   by : (c : Bool) → (o == 39) ≡ c → At p colon inside kept o (cond c (go (modes.Lob lobs.StartQuotes)) refused)
   by true f = let is : o ≡ 39 = eq_of o 39 f in (n, inside ++ o ∷ [], refl, (k, b, w, (λ i. e i ++ is i ∷ []) ∙ append_assoc b (39 ∷ []) (39 ∷ [])))
   by false f = tt
 
-start_quotes_turns : (p : Place) (colon : Bool) (inside kept : List ℕ) (o : ℕ) → is_name p ≡ false → InLob lobs.StartQuotes inside kept → At p colon inside kept o (third_quote o (modes.Text styles.LongClob within.Plain))
+start_quotes_turns : (p : Place) (colon : Bool) (inside kept : List ℕ) (o : ℕ) → is_name p ≡ false → InLob lobs.StartQuotes inside kept
+    → At p colon inside kept o (third_quote o (modes.Text styles.LongClob within.Plain))
 start_quotes_turns p colon inside kept o n (k, b, w, e) = by (o == 39) refl where
   by : (c : Bool) → (o == 39) ≡ c → At p colon inside kept o (cond c (go (modes.Text styles.LongClob within.Plain)) refused)
   by true f = let is : o ≡ 39 = eq_of o 39 f in (
@@ -106,7 +130,8 @@ start_quotes_turns p colon inside kept o n (k, b, w, e) = by (o == 39) refl wher
   )
   by false f = tt
 
-base_turns : (p : Place) (colon : Bool) (inside kept : List ℕ) (o : ℕ) → is_name p ≡ false → InLob lobs.Base64 inside kept → At p colon inside kept o (in_lob lobs.Base64 o)
+base_turns : (p : Place) (colon : Bool) (inside kept : List ℕ) (o : ℕ) → is_name p ≡ false → InLob lobs.Base64 inside kept
+    → At p colon inside kept o (in_lob lobs.Base64 o)
 base_turns p colon inside kept o n (h, e) = by (is_white o) refl where
   by : (b : Bool) → is_white o ≡ b → At p colon inside kept o (cond b (go (modes.Lob lobs.Base64)) (in_blob o))
   by true f = (n, inside ++ o ∷ [], refl, (each_last AnyBlob inside o h (any_white o f), e ∙ sym (solid_white inside o f)))
@@ -115,26 +140,44 @@ base_turns p colon inside kept o n (h, e) = by (is_white o) refl where
 two_braces : (content inside : List ℕ) (o : ℕ) → inside ≡ content ++ 125 ∷ [] → o ≡ 125 → 123 ∷ 123 ∷ inside ++ o ∷ [] ≡ codes "{{" ++ content ++ codes "}}"
 two_braces content inside o e is = ap (λ l. 123 ∷ 123 ∷ l) ((λ i. e i ++ is i ∷ []) ∙ append_assoc content (125 ∷ []) (125 ∷ []))
 
-blob_close_turns : (p : Place) (colon : Bool) (inside kept : List ℕ) (o : ℕ) → is_name p ≡ false → InLob lobs.BlobClose inside kept → At p colon inside kept o (second_brace o kinds.Blob)
+blob_close_turns : (p : Place) (colon : Bool) (inside kept : List ℕ) (o : ℕ) → is_name p ≡ false → InLob lobs.BlobClose inside kept
+    → At p colon inside kept o (second_brace o kinds.Blob)
 blob_close_turns p colon inside kept o n (content, h, e) = by (o == 125) refl where
   by : (c : Bool) → (o == 125) ≡ c → At p colon inside kept o (cond c (actions.Give kinds.Blob keeps.Nothing) refused)
   by true f = λ r j. (n, content, h, two_braces content inside o e (eq_of o 125 f))
   by false f = tt
 
-clob_close_turns : (p : Place) (colon : Bool) (inside kept : List ℕ) (o : ℕ) → is_name p ≡ false → InLob lobs.ClobClose inside kept → At p colon inside kept o (second_brace o kinds.Clob)
+clob_close_turns : (p : Place) (colon : Bool) (inside kept : List ℕ) (o : ℕ) → is_name p ≡ false → InLob lobs.ClobClose inside kept
+    → At p colon inside kept o (second_brace o kinds.Clob)
 clob_close_turns p colon inside kept o n (content, h, e) = by (o == 125) refl where
   by : (c : Bool) → (o == 125) ≡ c → At p colon inside kept o (cond c (actions.Give kinds.Clob keeps.Nothing) refused)
   by true f = λ r j. (n, content, h, two_braces content inside o e (eq_of o 125 f))
   by false f = tt
 
-after_short_turns : (p : Place) (colon : Bool) (inside kept : List ℕ) (o : ℕ) → is_name p ≡ false → InLob lobs.AfterShort inside kept → At p colon inside kept o (after_short o)
+after_short_turns : (p : Place) (colon : Bool) (inside kept : List ℕ) (o : ℕ) → is_name p ≡ false → InLob lobs.AfterShort inside kept
+    → At p colon inside kept o (after_short o)
 after_short_turns p colon inside kept o n (b, t, a, bw, q, aw, e) = by (is_white o) refl where
   close : (c : Bool) → (o == 125) ≡ c → At p colon inside kept o (cond c (go (modes.Lob lobs.ClobClose)) refused)
   close true f = let is : o ≡ 125 = eq_of o 125 f in (n, inside ++ o ∷ [], refl, (inside, ShortText b t a bw q aw e, (λ i. inside ++ is i ∷ [])))
   close false f = tt
 
-  by : (c : Bool) → is_white o ≡ c → At p colon inside kept o (cond c (go (modes.Lob lobs.AfterShort)) (cond (o == 125) (go (modes.Lob lobs.ClobClose)) refused))
-  by true f = (n, inside ++ o ∷ [], refl, (b, t, a ++ o ∷ [], bw, q, each_last is_white a o aw f, ap (λ l. l ++ o ∷ []) e ∙ append_assoc (b ++ (34 ∷ t)) (34 ∷ a) (o ∷ [])))
+  by : (c : Bool) → is_white o ≡ c → At p colon inside kept o
+      (cond c (go (modes.Lob lobs.AfterShort)) (cond (o == 125) (go (modes.Lob lobs.ClobClose)) refused))
+  by true f = (
+    n,
+    inside ++ o ∷ [],
+    refl,
+    (
+      b,
+      t,
+      a ++ o ∷ [],
+      bw,
+      q,
+      each_last is_white a o aw f,
+      ap (λ l. l ++ o ∷ []) e
+          ∙ append_assoc (b ++ (34 ∷ t)) (34 ∷ a) (o ∷ []),
+    ),
+  )
   by false f = close (o == 125) refl
 
 -- white space behind the last segment
@@ -151,7 +194,9 @@ more_white inside kept o h f =
       each = h.each;
       is_last = (h.is_last.0, each_last is_white h.last.white o h.is_last.1 f);
       spelled = ap (λ l. l ++ o ∷ []) (h.spelled ∙ ap (λ l. h.before ++ l) (segments_last segment_spelling h.segments h.last))
-          ∙ append_assoc h.before (front ++ (text ++ h.last.white)) (o ∷ []) ∙ ap (λ l. h.before ++ l) (append_assoc front (text ++ h.last.white) (o ∷ []) ∙ ap (λ l. front ++ l) (append_assoc text h.last.white (o ∷ [])) ∙ sym (segments_last segment_spelling h.segments g));
+          ∙ append_assoc h.before (front ++ (text ++ h.last.white)) (o ∷ [])
+          ∙ ap (λ l. h.before ++ l) (append_assoc front (text ++ h.last.white) (o ∷ []) ∙ ap (λ l. front ++ l) (append_assoc text h.last.white (o ∷ []))
+          ∙ sym (segments_last segment_spelling h.segments g));
       means = h.means ∙ segments_last (λ (s : Segment). s.octets) h.segments h.last ∙ sym (segments_last (λ (s : Segment). s.octets) h.segments g);
     }
 
@@ -163,28 +208,41 @@ some_segment : (gs : List Segment) (g : Segment) → gs ++ g ∷ [] ≢ []
 some_segment [] g e = cc
 some_segment (x ∷ gs) g e = cc
 
-after_long_turns : (p : Place) (colon : Bool) (inside kept : List ℕ) (o : ℕ) → is_name p ≡ false → InLob lobs.AfterLong inside kept → At p colon inside kept o (after_long o)
+after_long_turns : (p : Place) (colon : Bool) (inside kept : List ℕ) (o : ℕ) → is_name p ≡ false → InLob lobs.AfterLong inside kept
+    → At p colon inside kept o (after_long o)
 after_long_turns p colon inside kept o n h = by (is_white o) refl where
   quote : (c : Bool) → (o == 39) ≡ c → At p colon inside kept o (cond c (go (modes.Lob lobs.AfterQuote)) refused)
   quote true f = let is : o ≡ 39 = eq_of o 39 f in (n, inside ++ o ∷ [], refl, (inside, h, (λ i. inside ++ is i ∷ [])))
   quote false f = tt
 
   close : (c : Bool) → (o == 125) ≡ c → At p colon inside kept o (cond c (go (modes.Lob lobs.ClobClose)) (third_quote o (modes.Lob lobs.AfterQuote)))
-  close true f = let is : o ≡ 125 = eq_of o 125 f in
-      (n, inside ++ o ∷ [], refl, (inside, LongTexts h.before (h.segments ++ h.last ∷ []) h.white (some_segment h.segments h.last) (all_segments h.segments h.last h.each h.is_last) h.spelled h.means, (λ i. inside ++ is i ∷ [])))
+  close true f = let is : o ≡ 125 = eq_of o 125 f in (
+    n,
+    inside ++ o ∷ [],
+    refl,
+    (
+      inside,
+      LongTexts h.before (h.segments ++ h.last ∷ []) h.white (some_segment h.segments h.last)
+          (all_segments h.segments h.last h.each h.is_last) h.spelled h.means,
+      (λ i. inside ++ is i ∷ []),
+    ),
+  )
   close false f = quote (o == 39) refl
 
-  by : (c : Bool) → is_white o ≡ c → At p colon inside kept o (cond c (go (modes.Lob lobs.AfterLong)) (cond (o == 125) (go (modes.Lob lobs.ClobClose)) (third_quote o (modes.Lob lobs.AfterQuote))))
+  by : (c : Bool) → is_white o ≡ c → At p colon inside kept o
+      (cond c (go (modes.Lob lobs.AfterLong)) (cond (o == 125) (go (modes.Lob lobs.ClobClose)) (third_quote o (modes.Lob lobs.AfterQuote))))
   by true f = (n, inside ++ o ∷ [], refl, more_white inside kept o h f)
   by false f = close (o == 125) refl
 
-after_quote_turns : (p : Place) (colon : Bool) (inside kept : List ℕ) (o : ℕ) → is_name p ≡ false → InLob lobs.AfterQuote inside kept → At p colon inside kept o (third_quote o (modes.Lob lobs.AfterQuotes))
+after_quote_turns : (p : Place) (colon : Bool) (inside kept : List ℕ) (o : ℕ) → is_name p ≡ false → InLob lobs.AfterQuote inside kept
+    → At p colon inside kept o (third_quote o (modes.Lob lobs.AfterQuotes))
 after_quote_turns p colon inside kept o n (front, h, e) = by (o == 39) refl where
   by : (c : Bool) → (o == 39) ≡ c → At p colon inside kept o (cond c (go (modes.Lob lobs.AfterQuotes)) refused)
   by true f = let is : o ≡ 39 = eq_of o 39 f in (n, inside ++ o ∷ [], refl, (front, h, (λ i. e i ++ is i ∷ []) ∙ append_assoc front (39 ∷ []) (39 ∷ [])))
   by false f = tt
 
-after_quotes_turns : (p : Place) (colon : Bool) (inside kept : List ℕ) (o : ℕ) → is_name p ≡ false → InLob lobs.AfterQuotes inside kept → At p colon inside kept o (third_quote o (modes.Text styles.LongClob within.Plain))
+after_quotes_turns : (p : Place) (colon : Bool) (inside kept : List ℕ) (o : ℕ) → is_name p ≡ false → InLob lobs.AfterQuotes inside kept
+    → At p colon inside kept o (third_quote o (modes.Text styles.LongClob within.Plain))
 after_quotes_turns p colon inside kept o n (front, h, e) = by (o == 39) refl where
   by : (c : Bool) → (o == 39) ≡ c → At p colon inside kept o (cond c (go (modes.Text styles.LongClob within.Plain)) refused)
   by true f = let is : o ≡ 39 = eq_of o 39 f in (
@@ -193,7 +251,15 @@ after_quotes_turns p colon inside kept o n (front, h, e) = by (o == 39) refl whe
     kept,
     [],
     [],
-    record { before = h.before; segments = h.segments ++ h.last ∷ []; white = h.white; each = all_segments h.segments h.last h.each h.is_last; spelled = h.spelled; means = h.means },
+    record {
+      before = h.before;
+      segments = h.segments ++ h.last ∷ [];
+      white = h.white;
+      each =
+          all_segments h.segments h.last h.each h.is_last;
+      spelled = h.spelled;
+      means = h.means;
+    },
     reads_none styles.LongClob,
     ap (λ l. 123 ∷ 123 ∷ l) ((λ i. e i ++ is i ∷ []) ∙ append_assoc front (39 ∷ 39 ∷ []) (39 ∷ [])),
     sym (append-nil kept),
@@ -202,12 +268,21 @@ after_quotes_turns p colon inside kept o n (front, h, e) = by (o == 39) refl whe
 
 pub lob_turns : (p : Place) (colon : Bool) (l : Lob) (w kept : List ℕ) (o : ℕ) → IsOpen p colon (modes.Lob l) w kept → Turns p colon w kept o (in_lob l o)
 lob_turns p colon lobs.Start w kept o (n, inside, e, h) = subst (λ x. Turns p colon x kept o (lob_start o)) (sym e) (start_turns p colon inside kept o n h)
-lob_turns p colon lobs.StartQuote w kept o (n, inside, e, h) = subst (λ x. Turns p colon x kept o (in_lob lobs.StartQuote o)) (sym e) (start_quote_turns p colon inside kept o n h)
-lob_turns p colon lobs.StartQuotes w kept o (n, inside, e, h) = subst (λ x. Turns p colon x kept o (in_lob lobs.StartQuotes o)) (sym e) (start_quotes_turns p colon inside kept o n h)
-lob_turns p colon lobs.Base64 w kept o (n, inside, e, h) = subst (λ x. Turns p colon x kept o (in_lob lobs.Base64 o)) (sym e) (base_turns p colon inside kept o n h)
-lob_turns p colon lobs.BlobClose w kept o (n, inside, e, h) = subst (λ x. Turns p colon x kept o (in_lob lobs.BlobClose o)) (sym e) (blob_close_turns p colon inside kept o n h)
-lob_turns p colon lobs.AfterShort w kept o (n, inside, e, h) = subst (λ x. Turns p colon x kept o (after_short o)) (sym e) (after_short_turns p colon inside kept o n h)
-lob_turns p colon lobs.AfterLong w kept o (n, inside, e, h) = subst (λ x. Turns p colon x kept o (after_long o)) (sym e) (after_long_turns p colon inside kept o n h)
-lob_turns p colon lobs.AfterQuote w kept o (n, inside, e, h) = subst (λ x. Turns p colon x kept o (in_lob lobs.AfterQuote o)) (sym e) (after_quote_turns p colon inside kept o n h)
-lob_turns p colon lobs.AfterQuotes w kept o (n, inside, e, h) = subst (λ x. Turns p colon x kept o (in_lob lobs.AfterQuotes o)) (sym e) (after_quotes_turns p colon inside kept o n h)
-lob_turns p colon lobs.ClobClose w kept o (n, inside, e, h) = subst (λ x. Turns p colon x kept o (in_lob lobs.ClobClose o)) (sym e) (clob_close_turns p colon inside kept o n h)
+lob_turns p colon lobs.StartQuote w kept o (n, inside, e, h) =
+    subst (λ x. Turns p colon x kept o (in_lob lobs.StartQuote o)) (sym e) (start_quote_turns p colon inside kept o n h)
+lob_turns p colon lobs.StartQuotes w kept o (n, inside, e, h) =
+    subst (λ x. Turns p colon x kept o (in_lob lobs.StartQuotes o)) (sym e) (start_quotes_turns p colon inside kept o n h)
+lob_turns p colon lobs.Base64 w kept o (n, inside, e, h) =
+    subst (λ x. Turns p colon x kept o (in_lob lobs.Base64 o)) (sym e) (base_turns p colon inside kept o n h)
+lob_turns p colon lobs.BlobClose w kept o (n, inside, e, h) =
+    subst (λ x. Turns p colon x kept o (in_lob lobs.BlobClose o)) (sym e) (blob_close_turns p colon inside kept o n h)
+lob_turns p colon lobs.AfterShort w kept o (n, inside, e, h) =
+    subst (λ x. Turns p colon x kept o (after_short o)) (sym e) (after_short_turns p colon inside kept o n h)
+lob_turns p colon lobs.AfterLong w kept o (n, inside, e, h) =
+    subst (λ x. Turns p colon x kept o (after_long o)) (sym e) (after_long_turns p colon inside kept o n h)
+lob_turns p colon lobs.AfterQuote w kept o (n, inside, e, h) =
+    subst (λ x. Turns p colon x kept o (in_lob lobs.AfterQuote o)) (sym e) (after_quote_turns p colon inside kept o n h)
+lob_turns p colon lobs.AfterQuotes w kept o (n, inside, e, h) =
+    subst (λ x. Turns p colon x kept o (in_lob lobs.AfterQuotes o)) (sym e) (after_quotes_turns p colon inside kept o n h)
+lob_turns p colon lobs.ClobClose w kept o (n, inside, e, h) =
+    subst (λ x. Turns p colon x kept o (in_lob lobs.ClobClose o)) (sym e) (clob_close_turns p colon inside kept o n h)

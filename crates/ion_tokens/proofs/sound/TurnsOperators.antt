@@ -24,17 +24,19 @@ eq_of a b h = grind (arith, nat_tests)
 -- a comment in a whole begins in its front or in its rest
 pub comment_append : (w x r : List ℕ) → comment_within (w ++ x) r ≡ comment_within w (x ++ r) || comment_within x r
 comment_append [] x r = refl
-comment_append (o ∷ w) x r = (λ i. begins_comment (o ∷ append_assoc w x r i) || comment_append w x r i) ∙ or_assoc (begins_comment (o ∷ w ++ (x ++ r))) (comment_within w (x ++ r)) (comment_within x r) where
-  or_assoc : (a b c : Bool) → (a || (b || c)) ≡ ((a || b) || c)
-  or_assoc true b c = refl
-  or_assoc false b c = refl
+comment_append (o ∷ w) x r = (λ i. begins_comment (o ∷ append_assoc w x r i) || comment_append w x r i)
+    ∙ or_assoc (begins_comment (o ∷ w ++ (x ++ r))) (comment_within w (x ++ r)) (comment_within x r) where
+      or_assoc : (a b c : Bool) → (a || (b || c)) ≡ ((a || b) || c)
+      or_assoc true b c = refl
+      or_assoc false b c = refl
 
 -- what doesn't end in a / has a comment within itself or none
 pub apart_more : (w r : List ℕ) → comment_within w [] ≡ false → ends (λ o. o == 47) w ≡ false → comment_within w r ≡ false
 apart_more [] r h e = refl
 apart_more (o ∷ []) r h e = ap (λ b. (b && begins (λ p. (p == 47) || (p == 42)) r) || false) e
 apart_more (o ∷ x ∷ w) r h e = by ((o == 47) && ((x == 47) || (x == 42))) h (apart_more (x ∷ w) r) where
-  by : (b : Bool) → (b || comment_within (x ∷ w) []) ≡ false → (comment_within (x ∷ w) [] ≡ false → ends (λ o. o == 47) (x ∷ w) ≡ false → comment_within (x ∷ w) r ≡ false) → (b || comment_within (x ∷ w) r) ≡ false
+  by : (b : Bool) → (b || comment_within (x ∷ w) []) ≡ false
+      → (comment_within (x ∷ w) [] ≡ false → ends (λ o. o == 47) (x ∷ w) ≡ false → comment_within (x ∷ w) r ≡ false) → (b || comment_within (x ∷ w) r) ≡ false
   by true h f = absurd (true≢false h)
   by false h f = f h e
 
@@ -56,7 +58,8 @@ run_more : (w : List ℕ) (o : ℕ) → IsOpenRun w → is_operator_octet o ≡ 
 run_more w o h e n = record {
   some = not_empty w o;
   each = each_last is_operator_octet w o h.each e;
-  apart = comment_append w (o ∷ []) [] ∙ both_false (comment_within w (o ∷ [])) (comment_within (o ∷ []) []) (apart_more w (o ∷ []) h.apart h.last) (ap (λ b. (b && false) || false) n);
+  apart = comment_append w (o ∷ []) [] ∙ both_false (comment_within w (o ∷ [])) (comment_within (o ∷ []) []) (apart_more w (o ∷ []) h.apart h.last)
+      (ap (λ b. (b && false) || false) n);
   last = ends_last (λ o. o == 47) w o ∙ n;
 }
 
@@ -83,23 +86,40 @@ digit_no_i o r h = no_i o r (λ e. true≢false (sym (subst (λ (x : ℕ). is_di
     not_same a b n = grind (arith, nat_tests)
 
 -- an open run before what ends it
-pub found_run : (p : Place) (colon : Bool) (w r : List ℕ) → is_sexp p ≡ true → IsOpenRun w → (begins is_operator_octet r ≡ false) ⊎ (begins_comment r ≡ true) → (ends (λ o. o == 45) w ≡ true → begins is_digit r ≡ false)
+pub found_run : (p : Place) (colon : Bool) (w r : List ℕ) → is_sexp p ≡ true → IsOpenRun w → (begins is_operator_octet r ≡ false) ⊎ (begins_comment r ≡ true)
+    → (ends (λ o. o == 45) w ≡ true → begins is_digit r ≡ false)
     → (ends (λ o. (o == 43) || (o == 45)) w ≡ true → begins_infinity r ≡ false) → IsLexeme p colon w r kinds.Operator w
-found_run p colon w r s h l n f = (refl, s, record { some = h.some; each = h.each; apart = apart_more w r h.apart h.last; longest = l; no_number = n; no_float = f })
+found_run p colon w r s h l n f = (
+  refl,
+  s,
+  record {
+    some = h.some;
+    each = h.each;
+    apart = apart_more w r h.apart h.last;
+    longest = l;
+    no_number = n;
+    no_float = f;
+  },
+)
 
 infinity_first : (o : ℕ) (r : List ℕ) → (o == 105) ≡ false → begins_infinity (o ∷ r) ≡ false
 infinity_first o [] n = refl
 infinity_first o (x ∷ []) n = refl
 infinity_first o (x ∷ y ∷ r) n = ap (λ b. b && ((x == 110) && ((y == 102) && not (begins is_word_octet r)))) n
 
-digit_turns : (p : Place) (colon : Bool) (e : Ending) (w : List ℕ) (o : ℕ) → is_name p ≡ false → IsOpenRun w → RunEndsSo p e w → is_digit o ≡ true → Turns p colon w w o (digit_behind p e o)
-digit_turns p colon endings.LoneMinus w o n h s d = (refl, subst (λ l. IsOpenNumber p (l ++ o ∷ [])) (sym s) (record { place = n; begun = d; each = (refl, (ap not (digit_no_stop o d), tt)) }))
+digit_turns : (p : Place) (colon : Bool) (e : Ending) (w : List ℕ) (o : ℕ) → is_name p ≡ false → IsOpenRun w → RunEndsSo p e w → is_digit o ≡ true
+    → Turns p colon w w o (digit_behind p e o)
+digit_turns p colon endings.LoneMinus w o n h s d = (
+  refl,
+  subst (λ l. IsOpenNumber p (l ++ o ∷ [])) (sym s) (record { place = n; begun = d; each = (refl, (ap not (digit_no_stop o d), tt)) }),
+)
 digit_turns p colon endings.Minus w o n h s d = tt
 digit_turns p colon endings.Plus w o n h s d = by (is_sexp p) refl where
   by : (b : Bool) → is_sexp p ≡ b → Turns p colon w w o (cond b (before kinds.Operator) refused)
   by true f = λ r j. (found_run p colon w (o ∷ r) f h (inl (digit_no_operator o d)) (λ m. absurd (true≢false (sym m ∙ s))) (λ m. digit_no_i o r d))
   by false f = tt
-digit_turns p colon endings.Other w o n h s d = λ r j. (found_run p colon w (o ∷ r) s.0 h (inl (digit_no_operator o d)) (λ m. absurd (true≢false (sym m ∙ s.1))) (λ m. digit_no_i o r d))
+digit_turns p colon endings.Other w o n h s d = λ r j. (found_run p colon w (o ∷ r) s.0 h (inl (digit_no_operator o d)) (λ m. absurd (true≢false (sym m ∙ s.1)))
+    (λ m. digit_no_i o r d))
 
 no_sign : (p : Place) (e : Ending) (w : List ℕ) → RunEndsSo p e w → is_other e ≡ true → ends (λ o. (o == 43) || (o == 45)) w ≡ false
 no_sign p endings.Other w s o = s.2
@@ -107,29 +127,42 @@ no_sign p endings.LoneMinus w s o = absurd (false≢true o)
 no_sign p endings.Minus w s o = absurd (false≢true o)
 no_sign p endings.Plus w s o = absurd (false≢true o)
 
-pub operator_turns : (p : Place) (colon : Bool) (e : Ending) (w kept : List ℕ) (o : ℕ) → IsOpen p colon (modes.Operator e) w kept → Turns p colon w kept o (in_operator p e o)
+pub operator_turns : (p : Place) (colon : Bool) (e : Ending) (w kept : List ℕ) (o : ℕ) → IsOpen p colon (modes.Operator e) w kept
+    → Turns p colon w kept o (in_operator p e o)
 operator_turns p colon e w kept o (k, n, h, s) = subst (λ l. Turns p colon w l o (in_operator p e o)) (sym k) (digit (is_digit o) refl) where
-  ended : is_sexp p ≡ true → is_digit o ≡ false → is_operator_octet o ≡ false → ((o == 105) ≡ false) ⊎ (is_other e ≡ true) → Turns p colon w w o (before kinds.Operator)
-  ended x d f i = λ r j. (found_run p colon w (o ∷ r) x h (inl f) (λ m. d) (λ m. ⊎_elim (λ i. infinity_first o r i) (λ t. absurd (true≢false (sym m ∙ no_sign p e w s t))) i))
+  ended : is_sexp p ≡ true → is_digit o ≡ false → is_operator_octet o ≡ false → ((o == 105) ≡ false) ⊎ (is_other e ≡ true)
+      → Turns p colon w w o (before kinds.Operator)
+  ended x d f i = λ r j. (found_run p colon w (o ∷ r) x h (inl f) (λ m. d)
+      (λ m. ⊎_elim (λ i. infinity_first o r i) (λ t. absurd (true≢false (sym m ∙ no_sign p e w s t))) i))
 
-  more : (b : Bool) → is_operator_octet o ≡ b → is_sexp p ≡ true → is_digit o ≡ false → (o == 47) ≡ false → ((o == 105) ≡ false) ⊎ (is_other e ≡ true) → Turns p colon w w o (cond b (add (modes.Operator (run_ending o)) o) (before kinds.Operator))
+  more : (b : Bool) → is_operator_octet o ≡ b → is_sexp p ≡ true → is_digit o ≡ false → (o == 47) ≡ false → ((o == 105) ≡ false) ⊎ (is_other e ≡ true)
+      → Turns p colon w w o (cond b (add (modes.Operator (run_ending o)) o) (before kinds.Operator))
   more true f x d c i = (refl, n, run_more w o h f c, ends_so p w o x)
   more false f x d c i = ended x d f i
 
-  slash : (b : Bool) → (o == 47) ≡ b → is_sexp p ≡ true → is_digit o ≡ false → ((o == 105) ≡ false) ⊎ (is_other e ≡ true) → Turns p colon w w o (cond b (go modes.OperatorSlash) (cond (is_operator_octet o) (add (modes.Operator (run_ending o)) o) (before kinds.Operator)))
+  slash : (b : Bool) → (o == 47) ≡ b → is_sexp p ≡ true → is_digit o ≡ false → ((o == 105) ≡ false) ⊎ (is_other e ≡ true)
+      → Turns p colon w w o (cond b (go modes.OperatorSlash) (cond (is_operator_octet o) (add (modes.Operator (run_ending o)) o) (before kinds.Operator)))
   slash true f x d i = let is : o ≡ 47 = eq_of o 47 f in ((λ j. w ++ is j ∷ []), x, h)
   slash false f x d i = more (is_operator_octet o) refl x d f i
 
-  place : (b : Bool) → is_sexp p ≡ b → is_digit o ≡ false → ((o == 105) ≡ false) ⊎ (is_other e ≡ true) → Turns p colon w w o (cond (not b) refused (cond (o == 47) (go modes.OperatorSlash) (cond (is_operator_octet o) (add (modes.Operator (run_ending o)) o) (before kinds.Operator))))
+  place : (b : Bool) → is_sexp p ≡ b → is_digit o ≡ false → ((o == 105) ≡ false) ⊎ (is_other e ≡ true)
+      → Turns p colon w w o (cond (not b) refused (cond (o == 47) (go modes.OperatorSlash)
+      (cond (is_operator_octet o) (add (modes.Operator (run_ending o)) o) (before kinds.Operator))))
   place true f d i = slash (o == 47) refl f d i
   place false f d i = tt
 
-  letter : (b c : Bool) → (o == 105) ≡ b → is_other e ≡ c → is_digit o ≡ false → Turns p colon w w o (cond (b && not c) (go (modes.Infinity 1)) (cond (not (is_sexp p)) refused (cond (o == 47) (go modes.OperatorSlash) (cond (is_operator_octet o) (add (modes.Operator (run_ending o)) o) (before kinds.Operator)))))
+  letter : (b c : Bool) → (o == 105) ≡ b → is_other e ≡ c → is_digit o ≡ false
+      → Turns p colon w w o (cond (b && not c) (go (modes.Infinity 1))
+      (cond (not (is_sexp p)) refused (cond (o == 47) (go modes.OperatorSlash)
+      (cond (is_operator_octet o) (add (modes.Operator (run_ending o)) o) (before kinds.Operator)))))
   letter true false f g d = let is : o ≡ 105 = eq_of o 105 f in ((λ j. w ++ is j ∷ []), h, omega arith, omega arith)
   letter true true f g d = place (is_sexp p) refl d (inr g)
   letter false c f g d = place (is_sexp p) refl d (inl f)
 
-  digit : (b : Bool) → is_digit o ≡ b → Turns p colon w w o (cond b (digit_behind p e o) (cond ((o == 105) && not (is_other e)) (go (modes.Infinity 1)) (cond (not (is_sexp p)) refused (cond (o == 47) (go modes.OperatorSlash) (cond (is_operator_octet o) (add (modes.Operator (run_ending o)) o) (before kinds.Operator))))))
+  digit : (b : Bool) → is_digit o ≡ b → Turns p colon w w o
+      (cond b (digit_behind p e o) (cond ((o == 105) && not (is_other e)) (go (modes.Infinity 1))
+      (cond (not (is_sexp p)) refused (cond (o == 47) (go modes.OperatorSlash)
+      (cond (is_operator_octet o) (add (modes.Operator (run_ending o)) o) (before kinds.Operator))))))
   digit true f = digit_turns p colon e w o n h s f
   digit false f = letter (o == 105) (is_other e) refl refl f
 
@@ -142,7 +175,8 @@ sexp_no_name places.FieldValue h = refl
 
 -- a run, a / and a character behind that begin no comment
 slashed : (w : List ℕ) (o : ℕ) → IsOpenRun w → ((o == 47) || (o == 42)) ≡ false → (r : List ℕ) → comment_within (w ++ 47 ∷ []) (o ∷ r) ≡ false
-slashed w o h c r = comment_append w (47 ∷ []) (o ∷ r) ∙ both_false (comment_within w (47 ∷ o ∷ r)) (comment_within (47 ∷ []) (o ∷ r)) (apart_more w (47 ∷ o ∷ r) h.apart h.last) (ap (λ b. b || false) c)
+slashed w o h c r = comment_append w (47 ∷ []) (o ∷ r) ∙ both_false (comment_within w (47 ∷ o ∷ r)) (comment_within (47 ∷ []) (o ∷ r))
+    (apart_more w (47 ∷ o ∷ r) h.apart h.last) (ap (λ b. b || false) c)
 
 or_left : (a b : Bool) → (a || b) ≡ false → a ≡ false
 or_left false b h = refl
@@ -152,13 +186,16 @@ slashed_run : (w : List ℕ) (o : ℕ) → IsOpenRun w → ((o == 47) || (o == 4
 slashed_run w o h c e = record {
   some = not_empty (w ++ 47 ∷ []) o;
   each = each_last is_operator_octet (w ++ 47 ∷ []) o (each_last is_operator_octet w 47 h.each refl) e;
-  apart = comment_append (w ++ 47 ∷ []) (o ∷ []) [] ∙ both_false (comment_within (w ++ 47 ∷ []) (o ∷ [])) (comment_within (o ∷ []) []) (slashed w o h c []) (ap (λ b. (b && false) || false) (or_left (o == 47) (o == 42) c));
+  apart = comment_append (w ++ 47 ∷ []) (o ∷ []) [] ∙ both_false (comment_within (w ++ 47 ∷ []) (o ∷ [])) (comment_within (o ∷ []) []) (slashed w o h c [])
+      (ap (λ b. (b && false) || false) (or_left (o == 47) (o == 42) c));
   last = ends_last (λ o. o == 47) (w ++ 47 ∷ []) o ∙ or_left (o == 47) (o == 42) c;
 }
 
-pub operator_slash_turns : (p : Place) (colon : Bool) (w kept : List ℕ) (o : ℕ) → IsOpen p colon modes.OperatorSlash w kept → Turns p colon w kept o (in_operator_slash o)
+pub operator_slash_turns : (p : Place) (colon : Bool) (w kept : List ℕ) (o : ℕ) → IsOpen p colon modes.OperatorSlash w kept
+    → Turns p colon w kept o (in_operator_slash o)
 operator_slash_turns p colon w kept o (e, s, h) = by ((o == 47) || (o == 42)) refl where
-  more : (b : Bool) → is_operator_octet o ≡ b → ((o == 47) || (o == 42)) ≡ false → Turns p colon w kept o (cond b (actions.Go (modes.Operator (run_ending o)) (keeps.Two 47 o)) (actions.Before kinds.Operator (keeps.One 47) modes.Blank))
+  more : (b : Bool) → is_operator_octet o ≡ b → ((o == 47) || (o == 42)) ≡ false
+      → Turns p colon w kept o (cond b (actions.Go (modes.Operator (run_ending o)) (keeps.Two 47 o)) (actions.Before kinds.Operator (keeps.One 47) modes.Blank))
   more true f c = (ap (λ l. l ++ o ∷ []) (sym e), sexp_no_name p s, subst (λ l. IsOpenRun (l ++ o ∷ [])) (sym e) (slashed_run kept o h c f), ends_so p w o s)
   more false f c = λ r j. (
     sym e,
@@ -174,12 +211,16 @@ operator_slash_turns p colon w kept o (e, s, h) = by ((o == 47) || (o == 42)) re
         }),
   )
 
-  by : (b : Bool) → ((o == 47) || (o == 42)) ≡ b → Turns p colon w kept o (cond b (actions.Before kinds.Operator keeps.Nothing modes.Slash) (cond (is_operator_octet o) (actions.Go (modes.Operator (run_ending o)) (keeps.Two 47 o)) (actions.Before kinds.Operator (keeps.One 47) modes.Blank)))
+  by : (b : Bool) → ((o == 47) || (o == 42)) ≡ b → Turns p colon w kept o
+      (cond b (actions.Before kinds.Operator keeps.Nothing modes.Slash)
+      (cond (is_operator_octet o) (actions.Go (modes.Operator (run_ending o)) (keeps.Two 47 o)) (actions.Before kinds.Operator (keeps.One 47) modes.Blank)))
   by true c = (kept, e, λ r j. (found_run p colon kept (47 ∷ o ∷ r) s h (inr c) (λ m. refl) (λ m. infinity_first 47 (o ∷ r) refl)))
   by false c = more (is_operator_octet o) refl c
 
 -- behind a sign and letters of `inf`
-split_turns : (p : Place) (colon : Bool) (w kept : List ℕ) (n o : ℕ) → w ≡ kept ++ take n (codes "inf") → IsOpenRun kept → 1 ≤ n → n ≤ 3 → ((r : List ℕ) → (begins is_operator_octet (take n (codes "inf") ++ o ∷ r) ≡ false) × (begins is_digit (take n (codes "inf") ++ o ∷ r) ≡ false) × (begins_infinity (take n (codes "inf") ++ o ∷ r) ≡ false))
+split_turns : (p : Place) (colon : Bool) (w kept : List ℕ) (n o : ℕ) → w ≡ kept ++ take n (codes "inf") → IsOpenRun kept → 1 ≤ n → n ≤ 3
+    → ((r : List ℕ) → (begins is_operator_octet (take n (codes "inf") ++ o ∷ r) ≡ false) × (begins is_digit (take n (codes "inf") ++ o ∷ r) ≡ false)
+    × (begins_infinity (take n (codes "inf") ++ o ∷ r) ≡ false))
     → Turns p colon w kept o (cond (is_sexp p) (actions.Split n) refused)
 split_turns p colon w kept n o e h low high f = by (is_sexp p) refl where
   by : (b : Bool) → is_sexp p ≡ b → Turns p colon w kept o (cond b (actions.Split n) refused)
@@ -208,9 +249,11 @@ infinity_three p colon w kept o (e, h, low, high) = by (is_word_octet o) refl wh
   by true f = split_turns p colon w kept 3 o e h low high (λ r. (refl, refl, ap not f))
   by false f = tt
 
-pub infinity_turns : (p : Place) (colon : Bool) (n : ℕ) (w kept : List ℕ) (o : ℕ) → IsOpen p colon (modes.Infinity n) w kept → Turns p colon w kept o (in_infinity p n o)
+pub infinity_turns : (p : Place) (colon : Bool) (n : ℕ) (w kept : List ℕ) (o : ℕ) → IsOpen p colon (modes.Infinity n) w kept
+    → Turns p colon w kept o (in_infinity p n o)
 infinity_turns p colon n w kept o h =
-    ⊎_elim (λ e. at 1 e (infinity_one p colon w kept o)) (λ m. ⊎_elim (λ e. at 2 e (infinity_two p colon w kept o)) (λ l. at 3 l (infinity_three p colon w kept o)) m) (three n h.2 h.3)
+    ⊎_elim (λ e. at 1 e (infinity_one p colon w kept o)) (λ m. ⊎_elim (λ e. at 2 e (infinity_two p colon w kept o))
+    (λ l. at 3 l (infinity_three p colon w kept o)) m) (three n h.2 h.3)
   where
     at : (m : ℕ) → n ≡ m → (IsOpen p colon (modes.Infinity m) w kept → Turns p colon w kept o (in_infinity p m o)) → Turns p colon w kept o (in_infinity p n o)
     at m e f = subst (λ (x : ℕ). Turns p colon w kept o (in_infinity p x o)) (sym e) (f (subst (λ (x : ℕ). IsOpen p colon (modes.Infinity x) w kept) e h))

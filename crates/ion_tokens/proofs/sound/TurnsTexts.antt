@@ -27,8 +27,10 @@ in_style : (p : Place) (s t : Style) (v : Within) (w kept : List ℕ) → s ≡ 
 in_style p s t v w kept e h = subst (λ x. InText p x v w kept) (sym e) h
 
 -- short strings
-short_turns : (p : Place) (colon : Bool) (part kept : List ℕ) (o : ℕ) (a : Action) → LeadsText styles.ShortString a (part ++ o ∷ []) kept → Turns p colon (34 ∷ part) kept o a
-short_turns p colon part kept o (actions.Go (modes.Text s v) k) (d, (e, h)) = in_style p s styles.ShortString v (34 ∷ part ++ o ∷ []) (kept_after k kept) e (part ++ o ∷ [], h, refl)
+short_turns : (p : Place) (colon : Bool) (part kept : List ℕ) (o : ℕ) (a : Action) → LeadsText styles.ShortString a (part ++ o ∷ []) kept
+    → Turns p colon (34 ∷ part) kept o a
+short_turns p colon part kept o (actions.Go (modes.Text s v) k) (d, (e, h)) =
+    in_style p s styles.ShortString v (34 ∷ part ++ o ∷ []) (kept_after k kept) e (part ++ o ∷ [], h, refl)
 short_turns p colon part kept o (actions.Go (modes.Lob l) k) (d, (e, h)) = absurd (none l e) where
   none : (l : Lob) → EndsText styles.ShortString l → ⊥
   none l e = e
@@ -39,8 +41,10 @@ short_turns p colon part kept o (actions.Refuse e) h = tt
 short_turns p colon part kept o a h = absurd h
 
 -- long strings
-long_turns : (p : Place) (colon : Bool) (part kept : List ℕ) (o : ℕ) (a : Action) → LeadsText styles.LongString a (part ++ o ∷ []) kept → Turns p colon (39 ∷ 39 ∷ 39 ∷ part) kept o a
-long_turns p colon part kept o (actions.Go (modes.Text s v) k) (d, (e, h)) = in_style p s styles.LongString v (39 ∷ 39 ∷ 39 ∷ part ++ o ∷ []) (kept_after k kept) e (part ++ o ∷ [], h, refl)
+long_turns : (p : Place) (colon : Bool) (part kept : List ℕ) (o : ℕ) (a : Action) → LeadsText styles.LongString a (part ++ o ∷ []) kept
+    → Turns p colon (39 ∷ 39 ∷ 39 ∷ part) kept o a
+long_turns p colon part kept o (actions.Go (modes.Text s v) k) (d, (e, h)) =
+    in_style p s styles.LongString v (39 ∷ 39 ∷ 39 ∷ part ++ o ∷ []) (kept_after k kept) e (part ++ o ∷ [], h, refl)
 long_turns p colon part kept o (actions.Go (modes.Lob l) k) (d, (e, h)) = absurd (none l e) where
   none : (l : Lob) → EndsText styles.LongString l → ⊥
   none l e = e
@@ -58,21 +62,27 @@ begins_more : (class : ℕ → Bool) (part : List ℕ) (o : ℕ) → begins clas
 begins_more class [] o h = cc
 begins_more class (x ∷ part) o h = h
 
-symbol_turns : (p : Place) (colon : Bool) (part kept : List ℕ) (o : ℕ) (a : Action) → begins (λ o. not (o == 39)) (part ++ o ∷ []) ≡ true → LeadsText styles.QuotedSymbol a (part ++ o ∷ []) kept → Turns p colon (39 ∷ part) kept o a
-symbol_turns p colon part kept o (actions.Go (modes.Text s v) k) n (d, (e, h)) = in_style p s styles.QuotedSymbol v (39 ∷ part ++ o ∷ []) (kept_after k kept) e (part ++ o ∷ [], h, refl, n)
+symbol_turns : (p : Place) (colon : Bool) (part kept : List ℕ) (o : ℕ) (a : Action) → begins (λ o. not (o == 39)) (part ++ o ∷ []) ≡ true
+    → LeadsText styles.QuotedSymbol a (part ++ o ∷ []) kept → Turns p colon (39 ∷ part) kept o a
+symbol_turns p colon part kept o (actions.Go (modes.Text s v) k) n (d, (e, h)) =
+    in_style p s styles.QuotedSymbol v (39 ∷ part ++ o ∷ []) (kept_after k kept) e (part ++ o ∷ [], h, refl, n)
 symbol_turns p colon part kept o (actions.Go (modes.Lob l) k) n (d, (e, h)) = absurd (none l e) where
   none : (l : Lob) → EndsText styles.QuotedSymbol l → ⊥
   none l e = e
 symbol_turns p colon part kept o (actions.Go m k) n h = absurd h.1
-symbol_turns p colon part kept o (actions.Give kinds.QuotedSymbol k) n (d, g, c) = λ r j. (c.content, c.is, ap (λ l. 39 ∷ l) c.spelled, λ e. absurd (some_behind part c.content o c.spelled n e))
+symbol_turns p colon part kept o (actions.Give kinds.QuotedSymbol k) n (d, g, c) =
+    λ r j. (c.content, c.is, ap (λ l. 39 ∷ l) c.spelled, λ e. absurd (some_behind part c.content o c.spelled n e))
 symbol_turns p colon part kept o (actions.Give kind k) n h = absurd h.1
 symbol_turns p colon part kept o (actions.Refuse e) n h = tt
 symbol_turns p colon part kept o a n h = absurd h
 
 -- short clobs
-short_clob_turns : (p : Place) (colon : Bool) (before part kept : List ℕ) (o : ℕ) (a : Action) → is_name p ≡ false → Each Rattle.ion_tokens.specs.Octets.is_white before → LeadsText styles.ShortClob a (part ++ o ∷ []) kept → Turns p colon (123 ∷ 123 ∷ (before ++ 34 ∷ part)) kept o a
+short_clob_turns : (p : Place) (colon : Bool) (before part kept : List ℕ) (o : ℕ) (a : Action) → is_name p ≡ false
+    → Each Rattle.ion_tokens.specs.Octets.is_white before → LeadsText styles.ShortClob a (part ++ o ∷ []) kept
+    → Turns p colon (123 ∷ 123 ∷ (before ++ 34 ∷ part)) kept o a
 short_clob_turns p colon before part kept o (actions.Go (modes.Text s v) k) n w (d, (e, h)) =
-    in_style p s styles.ShortClob v (123 ∷ 123 ∷ (before ++ 34 ∷ part) ++ o ∷ []) (kept_after k kept) e (n, before, part ++ o ∷ [], w, h, ap (λ l. 123 ∷ 123 ∷ l) (append_assoc before (34 ∷ part) (o ∷ [])))
+    in_style p s styles.ShortClob v (123 ∷ 123 ∷ (before ++ 34 ∷ part) ++ o ∷ []) (kept_after k kept) e
+    (n, before, part ++ o ∷ [], w, h, ap (λ l. 123 ∷ 123 ∷ l) (append_assoc before (34 ∷ part) (o ∷ [])))
 short_clob_turns p colon before part kept o (actions.Go (modes.Lob lobs.AfterShort) k) n w (d, (e, c)) = (
   n,
   (before ++ 34 ∷ part) ++ o ∷ [],
@@ -98,7 +108,8 @@ pub segments_last : {A : Type 0} (f : Segment → List A) (gs : List Segment) (g
 segments_last f [] g = append-nil (f g)
 segments_last f (x ∷ gs) g = ap (λ l. f x ++ l) (segments_last f gs g) ∙ sym (append_assoc (f x) (flat_map f gs) (f g))
 
-long_ends : (front kept' part q octets : List ℕ) (o : ℕ) → IsLongFront front kept' → (c : Closes styles.LongClob (part ++ o ∷ []) octets) → IsLongText ((front ++ 39 ∷ 39 ∷ 39 ∷ part) ++ o ∷ []) (kept' ++ octets)
+long_ends : (front kept' part q octets : List ℕ) (o : ℕ) → IsLongFront front kept' → (c : Closes styles.LongClob (part ++ o ∷ []) octets)
+    → IsLongText ((front ++ 39 ∷ 39 ∷ 39 ∷ part) ++ o ∷ []) (kept' ++ octets)
 long_ends front kept' part q octets o f c =
     let g : Segment = record { content = c.content; octets = octets; white = [] } in
     record {
@@ -115,12 +126,27 @@ long_ends front kept' part q octets o f c =
       means = ap (λ l. l ++ octets) f.means ∙ sym (segments_last (λ (g : Segment). g.octets) f.segments g);
     }
 
-long_clob_turns : (p : Place) (colon : Bool) (front kept' part q : List ℕ) (o : ℕ) (a : Action) → is_name p ≡ false → IsLongFront front kept' → LeadsText styles.LongClob a (part ++ o ∷ []) q → Turns p colon (123 ∷ 123 ∷ (front ++ 39 ∷ 39 ∷ 39 ∷ part)) (kept' ++ q) o a
+long_clob_turns : (p : Place) (colon : Bool) (front kept' part q : List ℕ) (o : ℕ) (a : Action) → is_name p ≡ false → IsLongFront front kept'
+    → LeadsText styles.LongClob a (part ++ o ∷ []) q → Turns p colon (123 ∷ 123 ∷ (front ++ 39 ∷ 39 ∷ 39 ∷ part)) (kept' ++ q) o a
 long_clob_turns p colon front kept' part q o (actions.Go (modes.Text s v) k) n f (d, (e, h)) =
-    in_style p s styles.LongClob v (123 ∷ 123 ∷ (front ++ 39 ∷ 39 ∷ 39 ∷ part) ++ o ∷ []) (kept_after k (kept' ++ q)) e
-    (n, front, kept', part ++ o ∷ [], kept_after k q, f, h, ap (λ l. 123 ∷ 123 ∷ l) (append_assoc front (39 ∷ 39 ∷ 39 ∷ part) (o ∷ [])), keeps_behind kept' q k d)
-long_clob_turns p colon front kept' part q o (actions.Go (modes.Lob lobs.AfterLong) k) n f (d, (e, c)) =
-    (n, (front ++ 39 ∷ 39 ∷ 39 ∷ part) ++ o ∷ [], refl, subst (λ l. IsLongText ((front ++ 39 ∷ 39 ∷ 39 ∷ part) ++ o ∷ []) l) (sym (keeps_behind kept' q k d)) (long_ends front kept' part q (kept_after k q) o f c))
+    in_style p s styles.LongClob v (123 ∷ 123 ∷ (front ++ 39 ∷ 39 ∷ 39 ∷ part) ++ o ∷ []) (kept_after k (kept' ++ q)) e (
+      n,
+      front,
+      kept',
+      part ++ o ∷ [],
+      kept_after k q,
+      f,
+      h,
+      ap (λ l. 123 ∷ 123 ∷ l) (append_assoc front (39 ∷ 39 ∷ 39 ∷ part) (o ∷ [])),
+      keeps_behind kept' q k d,
+    )
+long_clob_turns p colon front kept' part q o (actions.Go (modes.Lob lobs.AfterLong) k) n f (d, (e, c)) = (
+  n,
+  (front ++ 39 ∷ 39 ∷ 39 ∷ part) ++ o ∷ [],
+  refl,
+  subst (λ l. IsLongText ((front ++ 39 ∷ 39 ∷ 39 ∷ part) ++ o ∷ []) l) (sym (keeps_behind kept' q k d))
+      (long_ends front kept' part q (kept_after k q) o f c),
+)
 long_clob_turns p colon front kept' part q o (actions.Go (modes.Lob l) k) n f (d, (e, h)) = absurd e
 long_clob_turns p colon front kept' part q o (actions.Go m k) n f h = absurd h.1
 long_clob_turns p colon front kept' part q o (actions.Give kind k) n f h = absurd h.1
@@ -128,23 +154,36 @@ long_clob_turns p colon front kept' part q o (actions.Refuse e) n f h = tt
 long_clob_turns p colon front kept' part q o a n f h = absurd h
 
 pub text_turns : (p : Place) (colon : Bool) (s : Style) (v : Within) (w kept : List ℕ) (o : ℕ) → InText p s v w kept → Turns p colon w kept o (in_text s v o)
-text_turns p colon styles.ShortString v w kept o (part, h, e) = subst (λ l. Turns p colon l kept o (in_text styles.ShortString v o)) (sym e) (short_turns p colon part kept o (in_text styles.ShortString v o) (text_step styles.ShortString v o part kept h))
-text_turns p colon styles.QuotedSymbol v w kept o (part, h, e, n) = subst (λ l. Turns p colon l kept o (in_text styles.QuotedSymbol v o)) (sym e) (symbol_turns p colon part kept o (in_text styles.QuotedSymbol v o) (begins_more (λ o. not (o == 39)) part o n) (text_step styles.QuotedSymbol v o part kept h))
-text_turns p colon styles.LongString v w kept o (part, h, e) = subst (λ l. Turns p colon l kept o (in_text styles.LongString v o)) (sym e) (long_turns p colon part kept o (in_text styles.LongString v o) (text_step styles.LongString v o part kept h))
-text_turns p colon styles.ShortClob v w kept o (n, before, part, b, h, e) = subst (λ l. Turns p colon l kept o (in_text styles.ShortClob v o)) (sym e) (short_clob_turns p colon before part kept o (in_text styles.ShortClob v o) n b (text_step styles.ShortClob v o part kept h))
+text_turns p colon styles.ShortString v w kept o (part, h, e) =
+    subst (λ l. Turns p colon l kept o (in_text styles.ShortString v o)) (sym e)
+    (short_turns p colon part kept o (in_text styles.ShortString v o) (text_step styles.ShortString v o part kept h))
+text_turns p colon styles.QuotedSymbol v w kept o (part, h, e, n) =
+    subst (λ l. Turns p colon l kept o (in_text styles.QuotedSymbol v o)) (sym e)
+    (symbol_turns p colon part kept o (in_text styles.QuotedSymbol v o) (begins_more (λ o. not (o == 39)) part o n)
+    (text_step styles.QuotedSymbol v o part kept h))
+text_turns p colon styles.LongString v w kept o (part, h, e) =
+    subst (λ l. Turns p colon l kept o (in_text styles.LongString v o)) (sym e)
+    (long_turns p colon part kept o (in_text styles.LongString v o) (text_step styles.LongString v o part kept h))
+text_turns p colon styles.ShortClob v w kept o (n, before, part, b, h, e) =
+    subst (λ l. Turns p colon l kept o (in_text styles.ShortClob v o)) (sym e)
+    (short_clob_turns p colon before part kept o (in_text styles.ShortClob v o) n b (text_step styles.ShortClob v o part kept h))
 text_turns p colon styles.LongClob v w kept o (n, front, kept', part, q, f, h, e, k) =
-    subst (λ l. Turns p colon l kept o (in_text styles.LongClob v o)) (sym e) (subst (λ l. Turns p colon (123 ∷ 123 ∷ (front ++ 39 ∷ 39 ∷ 39 ∷ part)) l o (in_text styles.LongClob v o)) (sym k)
+    subst (λ l. Turns p colon l kept o (in_text styles.LongClob v o)) (sym e)
+    (subst (λ l. Turns p colon (123 ∷ 123 ∷ (front ++ 39 ∷ 39 ∷ 39 ∷ part)) l o (in_text styles.LongClob v o)) (sym k)
     (long_clob_turns p colon front kept' part q o (in_text styles.LongClob v o) n f (text_step styles.LongClob v o part q h)))
 
 -- behind one quote, and behind two
 pub quote_turns : (p : Place) (colon : Bool) (w kept : List ℕ) (o : ℕ) → IsOpen p colon modes.Quote w kept → Turns p colon w kept o (in_quote o)
-quote_turns p colon w kept o (e, k) = subst (λ l. Turns p colon l kept o (in_quote o)) (sym e) (subst (λ l. Turns p colon (39 ∷ []) l o (in_quote o)) (sym k) (by (o == 39) refl)) where
-  by : (b : Bool) → (o == 39) ≡ b → Turns p colon (39 ∷ []) [] o (cond b (go modes.Quotes) (raw styles.QuotedSymbol o))
-  by true f = let is : o ≡ 39 = grind (arith, nat_tests) in ((λ i. 39 ∷ is i ∷ []), refl)
-  by false f = symbol_turns p colon [] [] o (raw styles.QuotedSymbol o) (ap not f) (text_step styles.QuotedSymbol within.Plain o [] [] (reads_none styles.QuotedSymbol))
+quote_turns p colon w kept o (e, k) = subst (λ l. Turns p colon l kept o (in_quote o)) (sym e)
+    (subst (λ l. Turns p colon (39 ∷ []) l o (in_quote o)) (sym k) (by (o == 39) refl)) where
+      by : (b : Bool) → (o == 39) ≡ b → Turns p colon (39 ∷ []) [] o (cond b (go modes.Quotes) (raw styles.QuotedSymbol o))
+      by true f = let is : o ≡ 39 = grind (arith, nat_tests) in ((λ i. 39 ∷ is i ∷ []), refl)
+      by false f = symbol_turns p colon [] [] o (raw styles.QuotedSymbol o) (ap not f)
+          (text_step styles.QuotedSymbol within.Plain o [] [] (reads_none styles.QuotedSymbol))
 
 pub quotes_turns : (p : Place) (colon : Bool) (w kept : List ℕ) (o : ℕ) → IsOpen p colon modes.Quotes w kept → Turns p colon w kept o (in_quotes o)
-quotes_turns p colon w kept o (e, k) = subst (λ l. Turns p colon l kept o (in_quotes o)) (sym e) (subst (λ l. Turns p colon (39 ∷ 39 ∷ []) l o (in_quotes o)) (sym k) (by (o == 39) refl)) where
-  by : (b : Bool) → (o == 39) ≡ b → Turns p colon (39 ∷ 39 ∷ []) [] o (cond b (go (modes.Text styles.LongString within.Plain)) (before kinds.QuotedSymbol))
-  by true f = let is : o ≡ 39 = grind (arith, nat_tests) in ([], reads_none styles.LongString, (λ i. 39 ∷ 39 ∷ is i ∷ []))
-  by false f = λ r j. ([], empty_symbol, refl, λ i. f)
+quotes_turns p colon w kept o (e, k) = subst (λ l. Turns p colon l kept o (in_quotes o)) (sym e)
+    (subst (λ l. Turns p colon (39 ∷ 39 ∷ []) l o (in_quotes o)) (sym k) (by (o == 39) refl)) where
+      by : (b : Bool) → (o == 39) ≡ b → Turns p colon (39 ∷ 39 ∷ []) [] o (cond b (go (modes.Text styles.LongString within.Plain)) (before kinds.QuotedSymbol))
+      by true f = let is : o ≡ 39 = grind (arith, nat_tests) in ([], reads_none styles.LongString, (λ i. 39 ∷ 39 ∷ is i ∷ []))
+      by false f = λ r j. ([], empty_symbol, refl, λ i. f)

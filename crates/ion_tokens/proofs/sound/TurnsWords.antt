@@ -44,8 +44,10 @@ no_slash (o ∷ w) h = by (o == 47) (is_stop o) refl h.0 (no_slash w h.1) where
   by false false e f (inr g) = inr (refl, g)
 
 -- an open number before what ends it
-pub number_found : (p : Place) (colon : Bool) (w r : List ℕ) → IsOpenNumber p w → (r ≡ []) ⊎ ((begins is_stop r ≡ true) ⊎ (begins_comment r ≡ true)) → IsUnjudgedToken p colon w r kinds.Number w
-number_found p colon w r n l j = ⊎_elim (λ s. absurd (true≢false (sym s ∙ j))) (λ e. (refl, n.place, record { begun = n.begun; each = e; longest = l })) (no_slash w n.each)
+pub number_found : (p : Place) (colon : Bool) (w r : List ℕ) → IsOpenNumber p w → (r ≡ []) ⊎ ((begins is_stop r ≡ true) ⊎ (begins_comment r ≡ true))
+    → IsUnjudgedToken p colon w r kinds.Number w
+number_found p colon w r n l j = ⊎_elim (λ s. absurd (true≢false (sym s ∙ j))) (λ e. (refl, n.place, record { begun = n.begun; each = e; longest = l }))
+    (no_slash w n.each)
 
 or_true : (a b : Bool) → b ≡ true → (a || b) ≡ true
 or_true true b e = refl
@@ -77,13 +79,17 @@ number_turns p colon w kept o (e, n) = by (is_stop o) refl where
   by true f = λ r. subst (λ l. IsUnjudgedToken p colon w (o ∷ r) kinds.Number l) (sym e) (number_found p colon w (o ∷ r) n (inr (inl f)))
   by false f = slash (o == 47) refl f
 
-pub number_slash_turns : (p : Place) (colon : Bool) (w kept : List ℕ) (o : ℕ) → IsOpen p colon modes.NumberSlash w kept → Turns p colon w kept o (in_number_slash o)
+pub number_slash_turns : (p : Place) (colon : Bool) (w kept : List ℕ) (o : ℕ) → IsOpen p colon modes.NumberSlash w kept
+    → Turns p colon w kept o (in_number_slash o)
 number_slash_turns p colon w kept o (e, n) = by ((o == 47) || (o == 42)) refl where
-  stop : (b : Bool) → is_stop o ≡ b → Turns p colon w kept o (cond b (actions.Before kinds.Number (keeps.One 47) modes.Blank) (actions.Go modes.Number (keeps.Two 47 o)))
+  stop : (b : Bool) → is_stop o ≡ b → Turns p colon w kept o
+      (cond b (actions.Before kinds.Number (keeps.One 47) modes.Blank) (actions.Go modes.Number (keeps.Two 47 o)))
   stop true f = λ r j. absurd (true≢false (sym (slash_in kept) ∙ j))
   stop false f = (ap (λ l. l ++ o ∷ []) (sym e), open_more p w o (subst (λ l. IsOpenNumber p l) (sym e) (open_more p kept 47 n refl)) f)
 
-  by : (b : Bool) → ((o == 47) || (o == 42)) ≡ b → Turns p colon w kept o (cond b (actions.Before kinds.Number keeps.Nothing modes.Slash) (cond (is_stop o) (actions.Before kinds.Number (keeps.One 47) modes.Blank) (actions.Go modes.Number (keeps.Two 47 o))))
+  by : (b : Bool) → ((o == 47) || (o == 42)) ≡ b → Turns p colon w kept o
+      (cond b (actions.Before kinds.Number keeps.Nothing modes.Slash)
+      (cond (is_stop o) (actions.Before kinds.Number (keeps.One 47) modes.Blank) (actions.Go modes.Number (keeps.Two 47 o))))
   by true f = (kept, e, λ r. number_found p colon kept (47 ∷ o ∷ r) n (inr (inr f)))
   by false f = stop (is_stop o) refl
 

@@ -68,7 +68,8 @@ more_kept s xs ys text h raw utf8 =
     (each_append (is_raw (is_long s) (quote_of s)) xs ys front.0 raw, IsUtf8-append xs ys front.1 utf8, λ clob. absurd (true≢false (sym clob ∙ text)))
 
 -- so are those of what is left of a piece behind them
-pub behind_kept : (s : Style) (long : Bool) (quote : ℕ) (octets rest : List ℕ) (ascii k : ℕ) → rest ≡ drop ascii octets → is_clob s ≡ false → long ≡ is_long s → quote ≡ quote_of s
+pub behind_kept : (s : Style) (long : Bool) (quote : ℕ) (octets rest : List ℕ) (ascii k : ℕ) → rest ≡ drop ascii octets → is_clob s ≡ false → long ≡ is_long s
+    → quote ≡ quote_of s
     → Each (is_plain s) (take ascii octets) → Each (is_raw long quote) (take k rest) → IsUtf8 (take k rest) → AreKept s (take (ascii + k) octets)
 behind_kept s long quote octets rest ascii k e text l q h raw utf8 =
     subst (AreKept s) (ap (λ w. take ascii octets ++ take k w) e ∙ sym (take-add ascii k octets))
@@ -115,10 +116,12 @@ one_kept p s c kept text u h = by (order c 128) where
   by (inl low) =
       let is = one c low in
       subst (λ l. GoesInText p s within.Plain kept l within.Plain (kept ++ l)) (sym is)
-      (goes_one p s within.Plain c kept within.Plain (keeps.One c) (plain_stays s c (low_plain s c low (subst (Each (is_raw (is_long s) (quote_of s))) is h).0)))
+      (goes_one p s within.Plain c kept within.Plain (keeps.One c)
+      (plain_stays s c (low_plain s c low (subst (Each (is_raw (is_long s) (quote_of s))) is h).0)))
   by (inr high) =
       let quote = quote_small s in
-      read_raw p s c within.Plain kept (λ o is. tt) u (λ e. omega arith) (λ e. omega arith) (inr (inr (inr (omega arith)))) (text_no_clob s c text) (encoding c (scalar_cases c u))
+      read_raw p s c within.Plain kept (λ o is. tt) u (λ e. omega arith) (λ e. omega arith) (inr (inr (inr (omega arith)))) (text_no_clob s c text)
+      (encoding c (scalar_cases c u))
 
 chars_kept : (p : Place) (s : Style) (cs kept : List ℕ) → is_clob s ≡ false → scalars cs ≡ true → Each (is_raw (is_long s) (quote_of s)) (encodes cs)
     → GoesInText p s within.Plain kept (encodes cs) within.Plain (kept ++ encodes cs)
@@ -126,7 +129,8 @@ chars_kept p s [] kept text u h = goes_to p s within.Plain within.Plain [] kept 
 chars_kept p s (c ∷ cs) kept text u h =
     let parts = each_split (is_raw (is_long s) (quote_of s)) (encode c) (encodes cs) h in
     let each = both (scalar c) (scalars cs) u in
-    goes_to p s within.Plain within.Plain (encode c ++ encodes cs) kept ((kept ++ encode c) ++ encodes cs) (kept ++ (encode c ++ encodes cs)) (append_assoc kept (encode c) (encodes cs))
+    goes_to p s within.Plain within.Plain (encode c ++ encodes cs) kept ((kept ++ encode c) ++ encodes cs) (kept ++ (encode c ++ encodes cs))
+    (append_assoc kept (encode c) (encodes cs))
     (goes_then p s within.Plain within.Plain within.Plain (encode c) (encodes cs) kept (kept ++ encode c) ((kept ++ encode c) ++ encodes cs)
     (one_kept p s c kept text each.0 parts.0) (chars_kept p s cs (kept ++ encode c) text each.1 parts.1))
   where

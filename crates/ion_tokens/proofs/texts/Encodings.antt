@@ -33,7 +33,8 @@ pub data Encoding (c : ℕ) : Type 0 where
   one_octet : c < 128 → encode c ≡ c ∷ [] → Encoding c
   two_octets : (x y : ℕ) → 192 ≤ x → x < 224 → IsLater y → c + 12416 ≡ x * 64 + y → encode c ≡ x ∷ y ∷ [] → Encoding c
   three_octets : (x y z : ℕ) → 224 ≤ x → x < 240 → IsLater y → IsLater z → c + 925824 ≡ x * 4096 + y * 64 + z → encode c ≡ x ∷ y ∷ z ∷ [] → Encoding c
-  four_octets : (x y z v : ℕ) → 240 ≤ x → x < 248 → IsLater y → IsLater z → IsLater v → c + 63447168 ≡ x * 262144 + y * 4096 + z * 64 + v → encode c ≡ x ∷ y ∷ z ∷ v ∷ [] → Encoding c
+  four_octets : (x y z v : ℕ) → 240 ≤ x → x < 248 → IsLater y → IsLater z → IsLater v → c + 63447168 ≡ x * 262144 + y * 4096 + z * 64 + v
+      → encode c ≡ x ∷ y ∷ z ∷ v ∷ [] → Encoding c
 
 later : (n : ℕ) → IsLater (next n)
 later n = (omega arith, omega arith)
@@ -48,7 +49,9 @@ encoding c scalar = by (order c 128) (order c 2048) (order c 65536)
     by : (c < 128) ⊎ (128 ≤ c) → (c < 2048) ⊎ (2048 ≤ c) → (c < 65536) ⊎ (65536 ≤ c) → Encoding c
     by (inl h) _ _ = one_octet h (one c h)
     by (inr l) (inl h) _ = two_octets (192 + c / 64) (next c) (omega arith) (omega arith) (later c) (omega arith) (two c l h)
-    by (inr _) (inr l) (inl h) = three_octets (224 + c / 4096) (next (c / 64)) (next c) (omega arith) (omega arith) (later (c / 64)) (later c) (omega arith) (three c l h)
+    by (inr _) (inr l) (inl h) = three_octets (224 + c / 4096) (next (c / 64)) (next c) (omega arith) (omega arith) (later (c / 64)) (later c) (omega arith)
+        (three c l h)
     by (inr _) (inr _) (inr l) =
         let n = most scalar in
-        four_octets (240 + c / 262144) (next (c / 4096)) (next (c / 64)) (next c) (omega arith) (omega arith) (later (c / 4096)) (later (c / 64)) (later c) (omega arith) (four c l)
+        four_octets (240 + c / 262144) (next (c / 4096)) (next (c / 64)) (next c) (omega arith) (omega arith) (later (c / 4096)) (later (c / 64)) (later c)
+        (omega arith) (four c l)

@@ -71,18 +71,27 @@ each_more s (x ∷ es) e h i = (h.0, each_more s es e h.1 i)
 pub base_none : (s : Style) → Base s []
 base_none s = record { each = tt; crs = tt; few = λ l. tt }
 
-pub base_more : (s : Style) (es : List Element) (e : Element) → Base s es → IsElement s e → (last_is ends_in_cr es ≡ true → is_raw_lf e ≡ false) → (is_long s ≡ true → is_raw_quote e ≡ false) → Base s (es ++ e ∷ [])
+pub base_more : (s : Style) (es : List Element) (e : Element) → Base s es → IsElement s e → (last_is ends_in_cr es ≡ true → is_raw_lf e ≡ false)
+    → (is_long s ≡ true → is_raw_quote e ≡ false) → Base s (es ++ e ∷ [])
 base_more s es e b i lf quote = record { each = each_more s es e b.each i; crs = crs_more es e lf b.crs; few = λ l. few_more es e (quote l) (b.few l) }
 
 -- a raw quote of a long text, behind at most one
-pub base_quote : (s : Style) (es : List Element) → Base s es → is_long s ≡ true → IsElement s (Element.Raw 39) → last_is is_raw_quote es ≡ false → Base s (es ++ Element.Raw 39 ∷ [])
-base_quote s es b l i h = record { each = each_more s es (Element.Raw 39) b.each i; crs = crs_more es (Element.Raw 39) (λ c. refl) b.crs; few = λ m. few_append es (Element.Raw 39 ∷ []) h (b.few l) (omega arith, tt) }
+pub base_quote : (s : Style) (es : List Element) → Base s es → is_long s ≡ true → IsElement s (Element.Raw 39) → last_is is_raw_quote es ≡ false
+    → Base s (es ++ Element.Raw 39 ∷ [])
+base_quote s es b l i h = record {
+  each = each_more s es (Element.Raw 39) b.each i;
+  crs = crs_more es (Element.Raw 39) (λ c. refl) b.crs;
+  few =
+      λ m. few_append es (Element.Raw 39 ∷ []) h (b.few l) (omega arith, tt);
+}
 
-pub base_quotes : (s : Style) (es : List Element) → Base s es → is_long s ≡ true → IsElement s (Element.Raw 39) → last_is is_raw_quote es ≡ false → Base s ((es ++ Element.Raw 39 ∷ []) ++ Element.Raw 39 ∷ [])
+pub base_quotes : (s : Style) (es : List Element) → Base s es → is_long s ≡ true → IsElement s (Element.Raw 39) → last_is is_raw_quote es ≡ false
+    → Base s ((es ++ Element.Raw 39 ∷ []) ++ Element.Raw 39 ∷ [])
 base_quotes s es b l i h = record {
   each = each_more s (es ++ Element.Raw 39 ∷ []) (Element.Raw 39) (each_more s es (Element.Raw 39) b.each i) i;
   crs = crs_more (es ++ Element.Raw 39 ∷ []) (Element.Raw 39) (λ c. refl) (crs_more es (Element.Raw 39) (λ c. refl) b.crs);
-  few = λ m. subst Few (sym (append_assoc es (Element.Raw 39 ∷ []) (Element.Raw 39 ∷ []))) (few_append es (Element.Raw 39 ∷ Element.Raw 39 ∷ []) h (b.few l) (omega arith, (omega arith, tt)));
+  few = λ m. subst Few (sym (append_assoc es (Element.Raw 39 ∷ []) (Element.Raw 39 ∷ [])))
+      (few_append es (Element.Raw 39 ∷ Element.Raw 39 ∷ []) h (b.few l) (omega arith, (omega arith, tt)));
 }
 
 pub flat_last : {A : Type 0} (f : Element → List A) (es : List Element) (e : Element) → flat_map f (es ++ e ∷ []) ≡ flat_map f es ++ f e
@@ -90,5 +99,6 @@ flat_last f [] e = append-nil (f e)
 flat_last f (x ∷ es) e = ap (λ l. f x ++ l) (flat_last f es e) ∙ sym (append_assoc (f x) (flat_map f es) (f e))
 
 -- up to the quotes that close them, they are a text
-pub quoted : (s : Style) (es : List Element) → Base s es → (is_long s ≡ true → last_is is_raw_quote es ≡ false) → IsQuoted s (flat_map spelling es) (flat_map (meaning s) es)
+pub quoted : (s : Style) (es : List Element) → Base s es → (is_long s ≡ true → last_is is_raw_quote es ≡ false)
+    → IsQuoted s (flat_map spelling es) (flat_map (meaning s) es)
 quoted s es b h = record { elements = es; each = b.each; crs = b.crs; close = λ l. closes_first es (h l) (b.few l); spelled = refl; means = refl }

@@ -24,7 +24,8 @@ StandsRaw o = (o ≡ 9) ⊎ (o ≡ 11) ⊎ (o ≡ 12) ⊎ (32 ≤ o)
 pub raw_one : (s : Style) (o : ℕ) → o < 128 → o ≢ 92 → o ≢ quote_of s → StandsRaw o → raw s o ≡ actions.Go (modes.Text s within.Plain) (keeps.One o)
 raw_one s o low slash quote stands = grind (arith, nat_tests)
 
-pub raw_two : (s : Style) (o : ℕ) → is_clob s ≡ false → quote_of s < 128 → 194 ≤ o → o < 224 → raw s o ≡ actions.Go (modes.Text s (within.Utf8 1 128 191)) (keeps.One o)
+pub raw_two : (s : Style) (o : ℕ) → is_clob s ≡ false → quote_of s < 128 → 194 ≤ o → o < 224
+    → raw s o ≡ actions.Go (modes.Text s (within.Utf8 1 128 191)) (keeps.One o)
 raw_two s o text quote low high = grind (arith, nat_tests)
 
 -- which octet may be the second
@@ -40,16 +41,19 @@ least_four x = cond (nat_eq x 0xf0) 0x90 0x80
 abbrev pub most_four : ℕ → ℕ
 most_four x = cond (nat_eq x 0xf4) 0x8f 0xbf
 
-pub raw_three : (s : Style) (x : ℕ) → is_clob s ≡ false → quote_of s < 128 → 224 ≤ x → x < 240 → raw s x ≡ actions.Go (modes.Text s (within.Utf8 2 (least_three x) (most_three x))) (keeps.One x)
+pub raw_three : (s : Style) (x : ℕ) → is_clob s ≡ false → quote_of s < 128 → 224 ≤ x → x < 240
+    → raw s x ≡ actions.Go (modes.Text s (within.Utf8 2 (least_three x) (most_three x))) (keeps.One x)
 raw_three s x text quote low high = grind (arith, nat_tests)
 
-pub raw_four : (s : Style) (x : ℕ) → is_clob s ≡ false → quote_of s < 128 → 240 ≤ x → x ≤ 244 → raw s x ≡ actions.Go (modes.Text s (within.Utf8 3 (least_four x) (most_four x))) (keeps.One x)
+pub raw_four : (s : Style) (x : ℕ) → is_clob s ≡ false → quote_of s < 128 → 240 ≤ x → x ≤ 244
+    → raw s x ≡ actions.Go (modes.Text s (within.Utf8 3 (least_four x) (most_four x))) (keeps.One x)
 raw_four s x text quote low high = grind (arith, nat_tests)
 
 pub utf8_last : (s : Style) (least most o : ℕ) → least ≤ o → o ≤ most → in_utf8 s 1 least most o ≡ actions.Go (modes.Text s within.Plain) (keeps.One o)
 utf8_last s least most o l h = grind (arith, nat_tests)
 
-pub utf8_more : (s : Style) (left least most o : ℕ) → 1 < left → least ≤ o → o ≤ most → in_utf8 s left least most o ≡ actions.Go (modes.Text s (within.Utf8 (left - 1) 128 191)) (keeps.One o)
+pub utf8_more : (s : Style) (left least most o : ℕ) → 1 < left → least ≤ o → o ≤ most → in_utf8 s left least most o
+    ≡ actions.Go (modes.Text s (within.Utf8 (left - 1) 128 191)) (keeps.One o)
 utf8_more s left least most o m l h = grind (arith, nat_tests)
 
 pub utf8_wrong : (s : Style) (left least most o : ℕ) → (o < least) ⊎ (most < o) → in_utf8 s left least most o ≡ actions.Refuse reasons.BadUtf8
@@ -134,35 +138,43 @@ pub letter_only : (s : Style) (o : ℕ) (r : Option ℕ) → o ≢ 10 → o ≢ 
 letter_only s o r a b c d f e = grind (arith, nat_tests)
 
 pub in_simple : (s : Style) (o m : ℕ) → escaped o ≡ Some m → in_escape s o ≡ actions.Go (modes.Text s within.Plain) (keeps.One m)
-in_simple s o m e = letter_only s o (Some m) (no_letter o m 10 e refl) (no_letter o m 13 e refl) (no_letter o m 120 e refl) (no_letter o m 117 e refl) (no_letter o m 85 e refl) e
+in_simple s o m e = letter_only s o (Some m) (no_letter o m 10 e refl) (no_letter o m 13 e refl) (no_letter o m 120 e refl) (no_letter o m 117 e refl)
+    (no_letter o m 85 e refl) e
 
 -- the digits of an escape, and what their number says
-pub in_digit : (s : Style) (d : Digits) (left m o v : ℕ) → hexadecimal_digit o ≡ Some v → in_text s (within.Hexadecimal d left m) o ≡ with_digit s d left m (Some v)
+pub in_digit : (s : Style) (d : Digits) (left m o v : ℕ) → hexadecimal_digit o ≡ Some v → in_text s (within.Hexadecimal d left m) o
+    ≡ with_digit s d left m (Some v)
 in_digit s d left m o v e = ap (with_digit s d left m) e
 
 pub last_digit : (s : Style) (d : Digits) (m v : ℕ) → with_digit s d 1 m (Some v) ≡ after_digits s d (grow m v)
 last_digit s d m v = refl
 
-pub more_digits : (s : Style) (d : Digits) (left m v : ℕ) → 1 < left → with_digit s d left m (Some v) ≡ actions.Go (modes.Text s (within.Hexadecimal d (left - 1) (grow m v))) keeps.Nothing
+pub more_digits : (s : Style) (d : Digits) (left m v : ℕ) → 1 < left → with_digit s d left m (Some v)
+    ≡ actions.Go (modes.Text s (within.Hexadecimal d (left - 1) (grow m v))) keeps.Nothing
 more_digits s d left m v h = grind (arith, nat_tests)
 
 pub char_is : (s : Style) (c : ℕ) → scalar c ≡ true → character s c ≡ actions.Go (modes.Text s within.Plain) (keeps.Character c)
 char_is s c e = ap (λ b. cond b (actions.Go (modes.Text s within.Plain) (keeps.Character c)) (actions.Refuse reasons.BadEscape)) e
 
-pub after_unit : (s : Style) (c : ℕ) → scalar c ≡ true → ((c < 55296) ⊎ ((57344 ≤ c) × (c < 1114112))) → after_digits s digits.Unit c ≡ actions.Go (modes.Text s within.Plain) (keeps.Character c)
+pub after_unit : (s : Style) (c : ℕ) → scalar c ≡ true → ((c < 55296) ⊎ ((57344 ≤ c) × (c < 1114112))) → after_digits s digits.Unit c
+    ≡ actions.Go (modes.Text s within.Plain) (keeps.Character c)
 after_unit s c e k = no_high s c k ∙ char_is s c e where
   no_high : (s : Style) (c : ℕ) → ((c < 55296) ⊎ ((57344 ≤ c) × (c < 1114112))) → after_digits s digits.Unit c ≡ character s c
   no_high s c k = grind (arith, nat_tests)
 
-pub after_high : (s : Style) (h : ℕ) → h < 1024 → after_digits s digits.Unit (0xd800 + h) ≡ actions.Go (modes.Text s (within.HighSurrogate (0xd800 + h))) keeps.Nothing
+pub after_high : (s : Style) (h : ℕ) → h < 1024 → after_digits s digits.Unit (0xd800 + h) ≡ actions.Go (modes.Text s (within.HighSurrogate (0xd800 + h)))
+    keeps.Nothing
 after_high s h l = grind (arith, nat_tests)
 
 pair_scalar : (h l : ℕ) → h < 1024 → l < 1024 → scalar (0x10000 + h * 1024 + l) ≡ true
 pair_scalar h l a b = grind (arith, nat_tests)
 
-pub after_low : (s : Style) (h l : ℕ) → h < 1024 → l < 1024 → after_digits s (digits.LowSurrogate (0xd800 + h)) (0xdc00 + l) ≡ actions.Go (modes.Text s within.Plain) (keeps.Character (0x10000 + h * 1024 + l))
+pub after_low : (s : Style) (h l : ℕ) → h < 1024 → l < 1024 → after_digits s (digits.LowSurrogate (0xd800 + h)) (0xdc00 + l)
+    ≡ actions.Go (modes.Text s within.Plain) (keeps.Character (0x10000 + h * 1024 + l))
 after_low s h l a b = let high : (0xd800 + h) - 0xd800 ≡ h = omega arith in let low : (0xdc00 + l) - 0xdc00 ≡ l = omega arith in
-    after_pair (0xd800 + h) (0xdc00 + l) (omega arith) (omega arith) (omega arith) (omega arith) ∙ ap (character s) ((λ i. 0x10000 + high i * 1024 + low i)) ∙ char_is s (0x10000 + h * 1024 + l) (pair_scalar h l a b)
+    after_pair (0xd800 + h) (0xdc00 + l) (omega arith) (omega arith) (omega arith) (omega arith) ∙ ap (character s) ((λ i. 0x10000 + high i * 1024 + low i))
+    ∙ char_is s (0x10000 + h * 1024 + l) (pair_scalar h l a b)
   where
-    after_pair : (x y : ℕ) → 0xd800 ≤ x → x ≤ 0xdbff → 0xdc00 ≤ y → y ≤ 0xdfff → after_digits s (digits.LowSurrogate x) y ≡ character s (0x10000 + (x - 0xd800) * 1024 + (y - 0xdc00))
+    after_pair : (x y : ℕ) → 0xd800 ≤ x → x ≤ 0xdbff → 0xdc00 ≤ y → y ≤ 0xdfff → after_digits s (digits.LowSurrogate x) y
+        ≡ character s (0x10000 + (x - 0xd800) * 1024 + (y - 0xdc00))
     after_pair x y a b c d = grind (arith, nat_tests)

@@ -67,7 +67,8 @@ ready_octet s (within.HighSurrogate _) es o h n q = h
 ready_octet s (within.HighSurrogateEscape _) es o h n q = h
 
 -- a raw line end may follow
-ready_line : (s : Style) (w : Within) (e : LineEnd) (es : List Element) (o : ℕ) → Ready s w (RawLine e ∷ es) → (is_raw_lf (RawLine e) ≡ false → o ≢ 10) → o ≢ 39 → Admits w o
+ready_line : (s : Style) (w : Within) (e : LineEnd) (es : List Element) (o : ℕ) → Ready s w (RawLine e ∷ es) → (is_raw_lf (RawLine e) ≡ false → o ≢ 10) → o ≢ 39
+    → Admits w o
 ready_line s within.Plain e es o h n q = tt
 ready_line s within.AfterReturn e es o h n q = n h
 ready_line s within.OneQuote e es o h n q = q
@@ -87,11 +88,25 @@ abbrev ReadsElement : Place → Style → Within → List ℕ → Element → Li
 ReadsElement p s w kept e es = (v : Within) × Ready s v es × GoesInText p s w kept (spelling e) v (kept ++ meaning s e)
 
 -- a long string's raw quote
-read_quote : (p : Place) (s : Style) (w : Within) (kept : List ℕ) (es : List Element) → is_long s ≡ true → Ready s w (Raw 39 ∷ es) → 1 + quotes es < 3 → ReadsElement p s w kept (Raw 39) es
+read_quote : (p : Place) (s : Style) (w : Within) (kept : List ℕ) (es : List Element) → is_long s ≡ true → Ready s w (Raw 39 ∷ es) → 1 + quotes es < 3
+    → ReadsElement p s w kept (Raw 39) es
 unfolding encode
-read_quote p s within.Plain kept es long h room = (within.OneQuote, (long, room), goes_one p s within.Plain 39 kept within.OneQuote (keeps.One 39) (raw_quote s long))
-read_quote p s within.AfterReturn kept es long h room = (within.OneQuote, (long, room), goes_one p s within.AfterReturn 39 kept within.OneQuote (keeps.One 39) (raw_quote s long))
-read_quote p s within.OneQuote kept es long h room = (within.TwoQuotes, (long, omega (arith, h.1)), goes_one p s within.OneQuote 39 kept within.TwoQuotes (keeps.One 39) refl)
+read_quote p s within.Plain kept es long h room = (
+  within.OneQuote,
+  (long, room),
+  goes_one p s within.Plain 39 kept within.OneQuote (keeps.One 39) (raw_quote s long),
+)
+read_quote p s within.AfterReturn kept es long h room = (
+  within.OneQuote,
+  (long, room),
+  goes_one p s within.AfterReturn 39 kept within.OneQuote (keeps.One 39)
+      (raw_quote s long),
+)
+read_quote p s within.OneQuote kept es long h room = (
+  within.TwoQuotes,
+  (long, omega (arith, h.1)),
+  goes_one p s within.OneQuote 39 kept within.TwoQuotes (keeps.One 39) refl,
+)
 read_quote p s within.TwoQuotes kept es long h room = absurd (omega (arith, h.1))
 read_quote p s (within.Utf8 _ _ _) kept es long h room = absurd h
 read_quote p s within.Escape kept es long h room = absurd h
@@ -99,17 +114,21 @@ read_quote p s (within.Hexadecimal _ _ _) kept es long h room = absurd h
 read_quote p s (within.HighSurrogate _) kept es long h room = absurd h
 read_quote p s (within.HighSurrogateEscape _) kept es long h room = absurd h
 
-read_plain : (p : Place) (s : Style) (w : Within) (kept : List ℕ) (c : ℕ) (es : List Element) → (is_long s ≡ true → c ≢ 39) → Ready s w (Raw c ∷ es) → IsRaw s c → ReadsElement p s w kept (Raw c) es
+read_plain : (p : Place) (s : Style) (w : Within) (kept : List ℕ) (c : ℕ) (es : List Element) → (is_long s ≡ true → c ≢ 39) → Ready s w (Raw c ∷ es) → IsRaw s c
+    → ReadsElement p s w kept (Raw c) es
 read_plain p s w kept c es q h i =
-    let no_quote : c ≢ quote_of s = ⊎_elim (λ l. ⊎_elim (λ long e. q long (e ∙ long_quote s long)) (λ short. absurd (true≢false (sym l ∙ short))) (bool_cases (is_long s))) (λ n. n) i.2 in (
+    let no_quote : c ≢ quote_of s = ⊎_elim (λ l. ⊎_elim (λ long e. q long (e ∙ long_quote s long)) (λ short. absurd (true≢false (sym l ∙ short)))
+    (bool_cases (is_long s))) (λ n. n) i.2 in (
       within.Plain,
       tt,
       read_raw p s c w kept
-          (λ o is. ready_octet s w (Raw c ∷ es) o h (⊎_elim (λ e. grind (arith, nat_tests)) (λ l e. omega arith) is) (λ long. ⊎_elim (λ e f. q long (sym e ∙ f)) (λ l e. omega arith) is))
+          (λ o is. ready_octet s w (Raw c ∷ es) o h (⊎_elim (λ e. grind (arith, nat_tests)) (λ l e. omega arith) is)
+          (λ long. ⊎_elim (λ e f. q long (sym e ∙ f)) (λ l e. omega arith) is))
           i.0 i.1 no_quote i.3 i.4 (encoding c (scalar_cases c i.0)),
     )
 
-read_character : (p : Place) (s : Style) (w : Within) (kept : List ℕ) (c : ℕ) (es : List Element) → Ready s w (Raw c ∷ es) → IsRaw s c → (IsTrue (is_long s) → ClosesFirst (Raw c ∷ es)) → ReadsElement p s w kept (Raw c) es
+read_character : (p : Place) (s : Style) (w : Within) (kept : List ℕ) (c : ℕ) (es : List Element) → Ready s w (Raw c ∷ es) → IsRaw s c
+    → (IsTrue (is_long s) → ClosesFirst (Raw c ∷ es)) → ReadsElement p s w kept (Raw c) es
 read_character p s w kept c es h i closes =
     ⊎_elim (λ long. ⊎_elim (λ e. quote long e) (λ n. read_plain p s w kept c es (λ _. n) h i) (eq_or c 39))
     (λ short. read_plain p s w kept c es (λ l. absurd (true≢false (sym l ∙ short))) h i) (bool_cases (is_long s))
@@ -119,18 +138,31 @@ read_character p s w kept c es h i closes =
         let room : quotes (Raw 39 ∷ es) < 3 = subst (λ (x : ℕ). quotes (Raw x ∷ es) < 3) e (closes long).0 in
         subst (λ (x : ℕ). ReadsElement p s w kept (Raw x) es) (sym e) (read_quote p s w kept es long (subst (λ (x : ℕ). Ready s w (Raw x ∷ es)) e h) room)
 
-read_line : (p : Place) (s : Style) (w : Within) (kept : List ℕ) (e : LineEnd) (es : List Element) → Ready s w (RawLine e ∷ es) → is_long s ≡ true → CrTakesLf (RawLine e ∷ es) → ReadsElement p s w kept (RawLine e) es
-read_line p s w kept Lf es h long crs = (within.Plain, tt, goes_one p s w 10 kept within.Plain (keeps.One 10) (as_raw s w 10 (ready_line s w Lf es 10 h (λ f. absurd (true≢false f)) (λ e. omega arith)) ∙ raw_lf s long))
-read_line p s w kept Cr es h long crs = (within.AfterReturn, behind_cr (RawLine Cr) es refl crs, goes_one p s w 13 kept within.AfterReturn (keeps.One 10) (as_raw s w 13 (ready_line s w Cr es 13 h (λ f e. omega arith) (λ e. omega arith)) ∙ raw_cr s long))
+read_line : (p : Place) (s : Style) (w : Within) (kept : List ℕ) (e : LineEnd) (es : List Element) → Ready s w (RawLine e ∷ es) → is_long s ≡ true
+    → CrTakesLf (RawLine e ∷ es) → ReadsElement p s w kept (RawLine e) es
+read_line p s w kept Lf es h long crs = (
+  within.Plain,
+  tt,
+  goes_one p s w 10 kept within.Plain (keeps.One 10) (as_raw s w 10 (ready_line s w Lf es 10 h (λ f. absurd (true≢false f)) (λ e. omega arith))
+      ∙ raw_lf s long),
+)
+read_line p s w kept Cr es h long crs = (
+  within.AfterReturn,
+  behind_cr (RawLine Cr) es refl crs,
+  goes_one p s w 13 kept within.AfterReturn (keeps.One 10) (as_raw s w 13 (ready_line s w Cr es 13 h (λ f e. omega arith) (λ e. omega arith))
+      ∙ raw_cr s long),
+)
 read_line p s w kept CrLf es h long crs = (
   within.Plain,
   tt,
   goes_then p s w within.AfterReturn within.Plain (13 ∷ []) (10 ∷ []) kept (kept ++ 10 ∷ []) (kept ++ 10 ∷ [])
-      (goes_one p s w 13 kept within.AfterReturn (keeps.One 10) (as_raw s w 13 (ready_line s w CrLf es 13 h (λ f e. omega arith) (λ e. omega arith)) ∙ raw_cr s long))
+      (goes_one p s w 13 kept within.AfterReturn (keeps.One 10) (as_raw s w 13 (ready_line s w CrLf es 13 h (λ f e. omega arith) (λ e. omega arith))
+      ∙ raw_cr s long))
       (goes_one p s within.AfterReturn 10 (kept ++ 10 ∷ []) within.Plain keeps.Nothing refl),
 )
 
-read_hidden : (p : Place) (s : Style) (w : Within) (kept : List ℕ) (e : LineEnd) (es : List Element) → Ready s w (Hidden e ∷ es) → CrTakesLf (Hidden e ∷ es) → ReadsElement p s w kept (Hidden e) es
+read_hidden : (p : Place) (s : Style) (w : Within) (kept : List ℕ) (e : LineEnd) (es : List Element) → Ready s w (Hidden e ∷ es) → CrTakesLf (Hidden e ∷ es)
+    → ReadsElement p s w kept (Hidden e) es
 read_hidden p s w kept Lf es h crs = (
   within.Plain,
   tt,
@@ -141,7 +173,8 @@ read_hidden p s w kept Cr es h crs = (
   within.AfterReturn,
   behind_cr (Hidden Cr) es refl crs,
   goes_to p s w within.AfterReturn (92 ∷ 13 ∷ []) kept kept (kept ++ []) (sym (append-nil kept))
-      (goes_slash p s w within.AfterReturn (13 ∷ []) kept kept (ready_slash s w _ h) (goes_one p s within.Escape 13 kept within.AfterReturn keeps.Nothing refl)),
+      (goes_slash p s w within.AfterReturn (13 ∷ []) kept kept (ready_slash s w _ h)
+      (goes_one p s within.Escape 13 kept within.AfterReturn keeps.Nothing refl)),
 )
 read_hidden p s w kept CrLf es h crs = (
   within.Plain,
@@ -152,13 +185,15 @@ read_hidden p s w kept CrLf es h crs = (
       (goes_one p s within.Escape 13 kept within.AfterReturn keeps.Nothing refl) (goes_one p s within.AfterReturn 10 kept within.Plain keeps.Nothing refl))),
 )
 
-read_element : (p : Place) (s : Style) (w : Within) (kept : List ℕ) (e : Element) (es : List Element) → Ready s w (e ∷ es) → IsElement s e → CrTakesLf (e ∷ es) → (IsTrue (is_long s) → ClosesFirst (e ∷ es)) → ReadsElement p s w kept e es
+read_element : (p : Place) (s : Style) (w : Within) (kept : List ℕ) (e : Element) (es : List Element) → Ready s w (e ∷ es) → IsElement s e → CrTakesLf (e ∷ es)
+    → (IsTrue (is_long s) → ClosesFirst (e ∷ es)) → ReadsElement p s w kept e es
 read_element p s w kept (Raw c) es h i crs closes = read_character p s w kept c es h i closes
 read_element p s w kept (RawLine e) es h i crs closes = read_line p s w kept e es h i crs
 read_element p s w kept (Simple letter o) es h i crs closes = (
   within.Plain,
   tt,
-  goes_slash p s w within.Plain (letter ∷ []) kept (kept ++ o ∷ []) (ready_slash s w _ h) (goes_one p s within.Escape letter kept within.Plain (keeps.One o) (in_simple s letter o i)),
+  goes_slash p s w within.Plain (letter ∷ []) kept (kept ++ o ∷ []) (ready_slash s w _ h)
+      (goes_one p s within.Escape letter kept within.Plain (keeps.One o) (in_simple s letter o i)),
 )
 read_element p s w kept (Hidden e) es h i crs closes = read_hidden p s w kept e es h crs
 read_element p s w kept (Hex letter os c) es h i crs closes = (within.Plain, tt, read_hex p s w kept letter os c (ready_slash s w _ h) i)
@@ -185,7 +220,8 @@ more_crs : (e : Element) (es : List Element) → CrTakesLf (e ∷ es) → CrTake
 more_crs e [] h = tt
 more_crs e (f ∷ es) h = h.1
 
-read_elements : (p : Place) (s : Style) (es : List Element) (w : Within) (kept : List ℕ) → Ready s w es → AllByRecursion (IsElement s) es → CrTakesLf es → (IsTrue (is_long s) → ClosesFirst es)
+read_elements : (p : Place) (s : Style) (es : List Element) (w : Within) (kept : List ℕ) → Ready s w es → AllByRecursion (IsElement s) es → CrTakesLf es
+    → (IsTrue (is_long s) → ClosesFirst es)
     → (v : Within) × Ended v × GoesInText p s w kept (flat_map spelling es) v (kept ++ flat_map (meaning s) es)
 read_elements p s [] w kept h each crs closes = (w, ended s w h, goes_to p s w w [] kept kept (kept ++ []) (sym (append-nil kept)) (goes_none p s w kept))
 read_elements p s (e ∷ es) w kept h each crs closes =
@@ -193,12 +229,20 @@ read_elements p s (e ∷ es) w kept h each crs closes =
     let rest = read_elements p s es first.0 (kept ++ meaning s e) first.1 each.1 (more_crs e es crs) (λ l. (closes l).1) in (
       rest.0,
       rest.1,
-      goes_to p s w rest.0 (spelling e ++ flat_map spelling es) kept ((kept ++ meaning s e) ++ flat_map (meaning s) es) (kept ++ (meaning s e ++ flat_map (meaning s) es)) (append_assoc kept (meaning s e) (flat_map (meaning s) es))
-          (goes_then p s w first.0 rest.0 (spelling e) (flat_map spelling es) kept (kept ++ meaning s e) ((kept ++ meaning s e) ++ flat_map (meaning s) es) first.2 rest.2),
+      goes_to p s w rest.0 (spelling e ++ flat_map spelling es) kept ((kept ++ meaning s e) ++ flat_map (meaning s) es)
+          (kept ++ (meaning s e ++ flat_map (meaning s) es)) (append_assoc kept (meaning s e) (flat_map (meaning s) es))
+          (goes_then p s w first.0 rest.0 (spelling e) (flat_map spelling es) kept (kept ++ meaning s e) ((kept ++ meaning s e) ++ flat_map (meaning s) es)
+          first.2 rest.2),
     )
 
 -- What stands between the quotes is read, up to them.
-pub read_content : (p : Place) (s : Style) (content octets kept : List ℕ) → IsQuoted s content octets → (v : Within) × Ended v × GoesInText p s within.Plain kept content v (kept ++ octets)
+pub read_content : (p : Place) (s : Style) (content octets kept : List ℕ) → IsQuoted s content octets → (v : Within) × Ended v
+    × GoesInText p s within.Plain kept content v (kept ++ octets)
 read_content p s content octets kept q =
-    let r = read_elements p s q.elements within.Plain kept tt q.each q.crs q.close in
-    (r.0, r.1, subst (λ l. GoesInText p s within.Plain kept l r.0 (kept ++ octets)) (sym q.spelled) (goes_to p s within.Plain r.0 (flat_map spelling q.elements) kept (kept ++ flat_map (meaning s) q.elements) (kept ++ octets) (ap (λ l. kept ++ l) (sym q.means)) r.2))
+    let r = read_elements p s q.elements within.Plain kept tt q.each q.crs q.close in (
+      r.0,
+      r.1,
+      subst (λ l. GoesInText p s within.Plain kept l r.0 (kept ++ octets)) (sym q.spelled)
+          (goes_to p s within.Plain r.0 (flat_map spelling q.elements) kept (kept ++ flat_map (meaning s) q.elements) (kept ++ octets)
+          (ap (λ l. kept ++ l) (sym q.means)) r.2),
+    )

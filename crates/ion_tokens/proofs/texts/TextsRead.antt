@@ -30,7 +30,8 @@ use Rattle.ion_tokens.proofs.texts.TextOrders.{last_is, last_is_last, Base, base
 use Rattle.ion_tokens.proofs.texts.TextsSound.{Whole, EndsAfter, SoFar, IsHigh, HexPart, TextOnly, Part, After, Reads, Closes, GivesText, LeadsTo, Keeps, Leads, by_action, part_only, FitsBehind, one_element, raw_leads, fits_raw, rebase, rebase_kept, leads_no_drop}
 
 -- inside a character
-utf8_leads : (s : Style) (es : List Element) (left lo hi o : ℕ) (p : List ℕ) → Base s es → is_clob s ≡ false → 0 < left → EndsAfter left lo hi p → Leads s es (in_utf8 s left lo hi o) (p ++ o ∷ []) p
+utf8_leads : (s : Style) (es : List Element) (left lo hi o : ℕ) (p : List ℕ) → Base s es → is_clob s ≡ false → 0 < left → EndsAfter left lo hi p
+    → Leads s es (in_utf8 s left lo hi o) (p ++ o ∷ []) p
 utf8_leads s es zero lo hi o p b t l h = absurd (omega arith)
 utf8_leads s es (suc zero) lo hi o p b t l h =
     ⊎_elim (λ m. by_action s es (p ++ o ∷ []) p (utf8_wrong s 1 lo hi o (inl m)) tt) (λ m.
@@ -44,14 +45,18 @@ utf8_leads s es (suc zero) lo hi o p b t l h =
         by_action s es (p ++ o ∷ []) p (utf8_last s lo hi o m n) (
           tt,
           one_element s es (Raw w.0) (p ++ o ∷ []) (p ++ o ∷ []) b
-              (fits_raw s es w.0 (w.1, (λ i. omega arith), inr other, inr (inr (inr (omega arith))), (λ i. absurd (true≢false (sym i ∙ t)))) other) (sym w.3) (sym w.3),
+              (fits_raw s es w.0 (w.1, (λ i. omega arith), inr other, inr (inr (inr (omega arith))), (λ i. absurd (true≢false (sym i ∙ t)))) other) (sym w.3)
+              (sym w.3),
         )
 utf8_leads s es (suc (suc n)) lo hi o p b t l h =
     ⊎_elim (λ m. by_action s es (p ++ o ∷ []) p (utf8_wrong s (suc (suc n)) lo hi o (inl m)) tt) (λ m.
     ⊎_elim (λ k. by_action s es (p ++ o ∷ []) p (utf8_wrong s (suc (suc n)) lo hi o (inr k)) tt) (λ k.
     let e : suc (suc n) - 1 ≡ suc n = omega arith in
-    by_action s es (p ++ o ∷ []) p (utf8_more s (suc (suc n)) lo hi o (omega arith) m k)
-    (tt, part_only s es (within.Utf8 (suc (suc n) - 1) 128 191) (p ++ o ∷ []) (p ++ o ∷ []) b tt (t, refl, omega arith, subst (λ (i : ℕ). EndsAfter i 128 191 (p ++ o ∷ [])) (sym e) (h o m k))))
+    by_action s es (p ++ o ∷ []) p (utf8_more s (suc (suc n)) lo hi o (omega arith) m k) (
+      tt,
+      part_only s es (within.Utf8 (suc (suc n) - 1) 128 191) (p ++ o ∷ []) (p ++ o ∷ []) b tt
+          (t, refl, omega arith, subst (λ (i : ℕ). EndsAfter i 128 191 (p ++ o ∷ [])) (sym e) (h o m k)),
+    ))
     (order hi o)) (order o lo)
 
 -- an escape fits behind all elements
@@ -65,13 +70,15 @@ simple_leads s es o (Some m) b e = (tt, one_element s es (Simple o m) (92 ∷ o 
 
 unit_opens : (s : Style) (es : List Element) → Base s es → Leads s es (in_escape s 117) (92 ∷ 117 ∷ []) []
 unit_opens s es b = by (is_clob s) refl where
-  by : (c : Bool) → is_clob s ≡ c → Leads s es (cond (Rattle.std.specs.Prelude.not c) (actions.Go (modes.Text s (within.Hexadecimal digits.Unit 4 0)) keeps.Nothing) (meant s (escaped 117))) (92 ∷ 117 ∷ []) []
+  by : (c : Bool) → is_clob s ≡ c → Leads s es (cond (Rattle.std.specs.Prelude.not c)
+      (actions.Go (modes.Text s (within.Hexadecimal digits.Unit 4 0)) keeps.Nothing) (meant s (escaped 117))) (92 ∷ 117 ∷ []) []
   by true e = tt
   by false e = (tt, part_only s es (within.Hexadecimal digits.Unit 4 0) (92 ∷ 117 ∷ []) [] b tt (refl, e, ([], refl, (0, refl, omega arith, refl, inl refl))))
 
 scalar_opens : (s : Style) (es : List Element) → Base s es → Leads s es (in_escape s 85) (92 ∷ 85 ∷ []) []
 scalar_opens s es b = by (is_clob s) refl where
-  by : (c : Bool) → is_clob s ≡ c → Leads s es (cond (Rattle.std.specs.Prelude.not c) (actions.Go (modes.Text s (within.Hexadecimal digits.Scalar 8 0)) keeps.Nothing) (meant s (escaped 85))) (92 ∷ 85 ∷ []) []
+  by : (c : Bool) → is_clob s ≡ c → Leads s es (cond (Rattle.std.specs.Prelude.not c)
+      (actions.Go (modes.Text s (within.Hexadecimal digits.Scalar 8 0)) keeps.Nothing) (meant s (escaped 85))) (92 ∷ 85 ∷ []) []
   by true e = tt
   by false e = (tt, part_only s es (within.Hexadecimal digits.Scalar 8 0) (92 ∷ 85 ∷ []) [] b tt (refl, e, ([], refl, (0, refl, omega arith, refl, inl refl))))
 
@@ -79,7 +86,11 @@ escape_leads : (s : Style) (es : List Element) (o : ℕ) → Base s es → Leads
 escape_leads s es o b =
     ⊎_elim (λ i. at o 10 i (tt, one_element s es (Hidden Lf) (92 ∷ 10 ∷ []) [] b (fits s es (Hidden Lf) tt refl refl refl) refl refl)) (λ a.
     ⊎_elim (λ i. at o 13 i (tt, part_only s es within.AfterReturn (92 ∷ 13 ∷ []) [] b tt (inl (refl, refl)))) (λ c.
-    ⊎_elim (λ i. at o 120 i (tt, part_only s es (within.Hexadecimal digits.Octet 2 0) (92 ∷ 120 ∷ []) [] b tt (refl, tt, ([], refl, (0, refl, omega arith, refl, inl refl))))) (λ d.
+    ⊎_elim (λ i. at o 120 i (
+      tt,
+      part_only s es (within.Hexadecimal digits.Octet 2 0) (92 ∷ 120 ∷ []) [] b tt
+          (refl, tt, ([], refl, (0, refl, omega arith, refl, inl refl))),
+    )) (λ d.
     ⊎_elim (λ i. at o 117 i (unit_opens s es b)) (λ e.
     ⊎_elim (λ i. at o 85 i (scalar_opens s es b)) (λ f.
     by_action s es (92 ∷ o ∷ []) [] (letter_only s o (escaped o) a c d e f refl) (simple_leads s es o (escaped o) b refl))
@@ -93,14 +104,23 @@ hex_more : (k n d o : ℕ) (os : List ℕ) → IsHexAfter k os n → hexadecimal
 hex_more k n d o [] e h = (d, h, ap (λ (i : ℕ). i * 16 + d) e)
 hex_more k n d o (x ∷ os) (v, f, g) h = (v, f, hex_more (k * 16 + v) n d o os g h)
 
-so_far_more : (total left m d o : ℕ) (os : List ℕ) → 1 < left → SoFar total left m os → hexadecimal_digit o ≡ Some d → SoFar total (left - 1) (grow m d) (os ++ o ∷ [])
-so_far_more total left m d o os l (n, e, p, h, c) f = (n * 16 + d, omega (arith, length-append os (o ∷ [])), omega arith, hex_more 0 n d o os h f, caps_grow m n d c)
+so_far_more : (total left m d o : ℕ) (os : List ℕ) → 1 < left → SoFar total left m os → hexadecimal_digit o ≡ Some d
+    → SoFar total (left - 1) (grow m d) (os ++ o ∷ [])
+so_far_more total left m d o os l (n, e, p, h, c) f = (
+  n * 16 + d,
+  omega (arith, length-append os (o ∷ [])),
+  omega arith,
+  hex_more 0 n d o os h f,
+  caps_grow m n d c,
+)
 
-part_more : (d : Digits) (p : List ℕ) (left m v o : ℕ) → 1 < left → HexPart d p left m → hexadecimal_digit o ≡ Some v → HexPart d (p ++ o ∷ []) (left - 1) (grow m v)
+part_more : (d : Digits) (p : List ℕ) (left m v o : ℕ) → 1 < left → HexPart d p left m → hexadecimal_digit o ≡ Some v
+    → HexPart d (p ++ o ∷ []) (left - 1) (grow m v)
 part_more digits.Octet p left m v o l (os, e, h) f = (os ++ o ∷ [], ap (λ l. l ++ o ∷ []) e, so_far_more 2 left m v o os l h f)
 part_more digits.Unit p left m v o l (os, e, h) f = (os ++ o ∷ [], ap (λ l. l ++ o ∷ []) e, so_far_more 4 left m v o os l h f)
 part_more digits.Scalar p left m v o l (os, e, h) f = (os ++ o ∷ [], ap (λ l. l ++ o ∷ []) e, so_far_more 8 left m v o os l h f)
-part_more (digits.LowSurrogate x) p left m v o l (first, os, e, h, g) f = (first, os ++ o ∷ [], ap (λ l. l ++ o ∷ []) e ∙ ap (λ l. 92 ∷ 117 ∷ l) (append_assoc first (92 ∷ 117 ∷ os) (o ∷ [])), h, so_far_more 4 left m v o os l g f)
+part_more (digits.LowSurrogate x) p left m v o l (first, os, e, h, g) f =
+    (first, os ++ o ∷ [], ap (λ l. l ++ o ∷ []) e ∙ ap (λ l. 92 ∷ 117 ∷ l) (append_assoc first (92 ∷ 117 ∷ os) (o ∷ [])), h, so_far_more 4 left m v o os l g f)
 
 -- all the digits are there
 abbrev Full : ℕ → ℕ → List ℕ → Type 0
@@ -112,16 +132,19 @@ full total m d o os (n, e, p, h, c) f = (n * 16 + d, omega (arith, length-append
 hex_is : (s : Style) (letter m : ℕ) (os : List ℕ) → is_clob s ≡ false → encode m ≡ meaning s (Hex letter os m)
 hex_is s letter m os t = ap (λ b. cond b (m ∷ []) (encode m)) (sym t)
 
-char_leads : (s : Style) (es : List Element) (letter total m : ℕ) (os : List ℕ) → Base s es → is_clob s ≡ false → hex_length letter ≡ Some total → Full total m os → Leads s es (character s m) (92 ∷ letter ∷ os) []
+char_leads : (s : Style) (es : List Element) (letter total m : ℕ) (os : List ℕ) → Base s es → is_clob s ≡ false → hex_length letter ≡ Some total
+    → Full total m os → Leads s es (character s m) (92 ∷ letter ∷ os) []
 char_leads s es letter total m os b t k (n, e, h, c) = by (scalar m) refl where
-  by : (x : Bool) → scalar m ≡ x → Leads s es (cond x (actions.Go (modes.Text s within.Plain) (keeps.Character m)) (actions.Refuse reasons.BadEscape)) (92 ∷ letter ∷ os) []
+  by : (x : Bool) → scalar m ≡ x → Leads s es (cond x (actions.Go (modes.Text s within.Plain) (keeps.Character m)) (actions.Refuse reasons.BadEscape))
+      (92 ∷ letter ∷ os) []
   by false z = tt
   by true z =
       let small : m < 0x110000 = below_max m (scalar_cases m z) in
       let same : m ≡ n = ⊎_elim (λ i. i) (λ i. absurd (omega arith)) c in (
         tt,
         one_element s es (Hex letter os m) (92 ∷ letter ∷ os) (encode m) b
-            (fits s es (Hex letter os m) (k ∙ ap Some (sym e), subst (IsHexAfter 0 os) (sym same) h, z, λ i. absurd (true≢false (sym i ∙ t))) refl refl refl) refl (hex_is s letter m os t),
+            (fits s es (Hex letter os m) (k ∙ ap Some (sym e), subst (IsHexAfter 0 os) (sym same) h, z, λ i. absurd (true≢false (sym i ∙ t))) refl refl refl)
+            refl (hex_is s letter m os t),
       )
 
 two_small : (os : List ℕ) (c : ℕ) → length os ≡ 2 → IsHexAfter 0 os c → c < 256
@@ -144,14 +167,16 @@ octet_leads s es m os b f = by (is_clob s) refl where
       let rest : m % 256 ≡ f.0 = omega arith in (
         tt,
         one_element s es (Hex 120 os f.0) (92 ∷ 120 ∷ os) (m % 256 ∷ []) b
-            (fits s es (Hex 120 os f.0) (ap Some (sym f.1), f.2, octet_scalar f.0 small, λ i. refl) refl refl refl) refl (ap (λ (n : ℕ). n ∷ []) rest ∙ ap (λ c. cond c (f.0 ∷ []) (encode f.0)) (sym t)),
+            (fits s es (Hex 120 os f.0) (ap Some (sym f.1), f.2, octet_scalar f.0 small, λ i. refl) refl refl refl) refl
+            (ap (λ (n : ℕ). n ∷ []) rest ∙ ap (λ c. cond c (f.0 ∷ []) (encode f.0)) (sym t)),
       )
 
 no_high : (s : Style) (m : ℕ) → (m < 0xd800) ⊎ (0xdc00 ≤ m) → after_digits s digits.Unit m ≡ character s m
 no_high s m (inl h) = grind (arith, nat_tests)
 no_high s m (inr h) = grind (arith, nat_tests)
 
-unit_leads : (s : Style) (es : List Element) (m : ℕ) (os : List ℕ) → Base s es → is_clob s ≡ false → Full 4 m os → Leads s es (after_digits s digits.Unit m) (92 ∷ 117 ∷ os) []
+unit_leads : (s : Style) (es : List Element) (m : ℕ) (os : List ℕ) → Base s es → is_clob s ≡ false → Full 4 m os
+    → Leads s es (after_digits s digits.Unit m) (92 ∷ 117 ∷ os) []
 unit_leads s es m os b t f =
     ⊎_elim (λ l. by_action s es (92 ∷ 117 ∷ os) [] (no_high s m (inl l)) (char_leads s es 117 4 m os b t refl f)) (λ l.
     ⊎_elim (λ h. high l h f) (λ h. by_action s es (92 ∷ 117 ∷ os) [] (no_high s m (inr h)) (char_leads s es 117 4 m os b t refl f))
@@ -162,14 +187,18 @@ unit_leads s es m os b t f =
         let x : ℕ = m - 0xd800 in
         let is : m ≡ 0xd800 + x = omega arith in
         let same : n ≡ 0xd800 + x = ⊎_elim (λ (i : m ≡ n). omega arith) (λ i. absurd (omega arith)) c in
-        by_action s es (92 ∷ 117 ∷ os) [] (ap (after_digits s digits.Unit) is ∙ after_high s x (omega arith))
-        (tt, part_only s es (within.HighSurrogate (0xd800 + x)) (92 ∷ 117 ∷ os) [] b tt (refl, t, os, refl, (e, x, subst (IsHexAfter 0 os) same g, refl, omega arith)))
+        by_action s es (92 ∷ 117 ∷ os) [] (ap (after_digits s digits.Unit) is ∙ after_high s x (omega arith)) (
+          tt,
+          part_only s es (within.HighSurrogate (0xd800 + x)) (92 ∷ 117 ∷ os) [] b tt
+              (refl, t, os, refl, (e, x, subst (IsHexAfter 0 os) same g, refl, omega arith)),
+        )
 
 no_low : (s : Style) (h m : ℕ) → (m < 0xdc00) ⊎ (0xdfff < m) → after_digits s (digits.LowSurrogate h) m ≡ actions.Refuse reasons.BadEscape
 no_low s h m (inl e) = grind (arith, nat_tests)
 no_low s h m (inr e) = grind (arith, nat_tests)
 
-second_leads : (s : Style) (es : List Element) (h m : ℕ) (first os : List ℕ) → Base s es → is_clob s ≡ false → IsHigh h first → Full 4 m os → Leads s es (after_digits s (digits.LowSurrogate h) m) (92 ∷ 117 ∷ first ++ 92 ∷ 117 ∷ os) []
+second_leads : (s : Style) (es : List Element) (h m : ℕ) (first os : List ℕ) → Base s es → is_clob s ≡ false → IsHigh h first → Full 4 m os
+    → Leads s es (after_digits s (digits.LowSurrogate h) m) (92 ∷ 117 ∷ first ++ 92 ∷ 117 ∷ os) []
 second_leads s es h m first os b t i f =
     ⊎_elim (λ l. by_action s es (92 ∷ 117 ∷ first ++ 92 ∷ 117 ∷ os) [] (no_low s h m (inl l)) tt) (λ l.
     ⊎_elim (λ k. by_action s es (92 ∷ 117 ∷ first ++ 92 ∷ 117 ∷ os) [] (no_low s h m (inr k)) tt) (λ k. low l k i f)
@@ -186,19 +215,28 @@ second_leads s es h m first os b t i f =
               (fits s es (Pair first os high x) (t, fl, e, fh, hs, subst (IsHexAfter 0 os) same g, omega arith) refl refl refl) refl refl,
         )
 
-last_leads : (s : Style) (es : List Element) (d : Digits) (m v o : ℕ) (p : List ℕ) → Base s es → TextOnly s d → HexPart d p 1 m → hexadecimal_digit o ≡ Some v → Leads s es (after_digits s d (grow m v)) (p ++ o ∷ []) []
-last_leads s es digits.Octet m v o p b t (os, e, f) h = subst (λ l. Leads s es (after_digits s digits.Octet (grow m v)) (l ++ o ∷ []) []) (sym e) (octet_leads s es (grow m v) (os ++ o ∷ []) b (full 2 m v o os f h))
-last_leads s es digits.Unit m v o p b t (os, e, f) h = subst (λ l. Leads s es (after_digits s digits.Unit (grow m v)) (l ++ o ∷ []) []) (sym e) (unit_leads s es (grow m v) (os ++ o ∷ []) b t (full 4 m v o os f h))
-last_leads s es digits.Scalar m v o p b t (os, e, f) h = subst (λ l. Leads s es (after_digits s digits.Scalar (grow m v)) (l ++ o ∷ []) []) (sym e) (char_leads s es 85 8 (grow m v) (os ++ o ∷ []) b t refl (full 8 m v o os f h))
+last_leads : (s : Style) (es : List Element) (d : Digits) (m v o : ℕ) (p : List ℕ) → Base s es → TextOnly s d → HexPart d p 1 m → hexadecimal_digit o ≡ Some v
+    → Leads s es (after_digits s d (grow m v)) (p ++ o ∷ []) []
+last_leads s es digits.Octet m v o p b t (os, e, f) h = subst (λ l. Leads s es (after_digits s digits.Octet (grow m v)) (l ++ o ∷ []) []) (sym e)
+    (octet_leads s es (grow m v) (os ++ o ∷ []) b (full 2 m v o os f h))
+last_leads s es digits.Unit m v o p b t (os, e, f) h = subst (λ l. Leads s es (after_digits s digits.Unit (grow m v)) (l ++ o ∷ []) []) (sym e)
+    (unit_leads s es (grow m v) (os ++ o ∷ []) b t (full 4 m v o os f h))
+last_leads s es digits.Scalar m v o p b t (os, e, f) h =
+    subst (λ l. Leads s es (after_digits s digits.Scalar (grow m v)) (l ++ o ∷ []) []) (sym e)
+    (char_leads s es 85 8 (grow m v) (os ++ o ∷ []) b t refl (full 8 m v o os f h))
 last_leads s es (digits.LowSurrogate x) m v o p b t (first, os, e, i, f) h =
-    subst (λ l. Leads s es (after_digits s (digits.LowSurrogate x) (grow m v)) l []) (sym (ap (λ l. l ++ o ∷ []) e ∙ ap (λ l. 92 ∷ 117 ∷ l) (append_assoc first (92 ∷ 117 ∷ os) (o ∷ []))))
+    subst (λ l. Leads s es (after_digits s (digits.LowSurrogate x) (grow m v)) l [])
+    (sym (ap (λ l. l ++ o ∷ []) e ∙ ap (λ l. 92 ∷ 117 ∷ l) (append_assoc first (92 ∷ 117 ∷ os) (o ∷ []))))
     (second_leads s es x (grow m v) first (os ++ o ∷ []) b t i (full 4 m v o os f h))
 
-digit_leads : (s : Style) (es : List Element) (d : Digits) (left m o : ℕ) (p : List ℕ) (r : Option ℕ) → Base s es → TextOnly s d → 0 < left → HexPart d p left m → hexadecimal_digit o ≡ r → Leads s es (with_digit s d left m r) (p ++ o ∷ []) []
+digit_leads : (s : Style) (es : List Element) (d : Digits) (left m o : ℕ) (p : List ℕ) (r : Option ℕ) → Base s es → TextOnly s d → 0 < left → HexPart d p left m
+    → hexadecimal_digit o ≡ r → Leads s es (with_digit s d left m r) (p ++ o ∷ []) []
 digit_leads s es d left m o p None b t l h e = tt
 digit_leads s es d left m o p (Some v) b t l h e =
-    ⊎_elim (λ (i : left ≡ 1). subst (λ (x : ℕ). Leads s es (with_digit s d x m (Some v)) (p ++ o ∷ []) []) (sym i) (last_leads s es d m v o p b t (subst (λ (x : ℕ). HexPart d p x m) i h) e))
-    (λ n. by_action s es (p ++ o ∷ []) [] (more_digits s d left m v (omega arith)) (tt, part_only s es (within.Hexadecimal d (left - 1) (grow m v)) (p ++ o ∷ []) [] b tt (refl, t, part_more d p left m v o (omega arith) h e)))
+    ⊎_elim (λ (i : left ≡ 1). subst (λ (x : ℕ). Leads s es (with_digit s d x m (Some v)) (p ++ o ∷ []) []) (sym i)
+    (last_leads s es d m v o p b t (subst (λ (x : ℕ). HexPart d p x m) i h) e))
+    (λ n. by_action s es (p ++ o ∷ []) [] (more_digits s d left m v (omega arith))
+    (tt, part_only s es (within.Hexadecimal d (left - 1) (grow m v)) (p ++ o ∷ []) [] b tt (refl, t, part_more d p left m v o (omega arith) h e)))
     (eq_or left 1)
 
 some_left : (d : Digits) (p : List ℕ) (left m : ℕ) → HexPart d p left m → 0 < left
@@ -208,16 +246,20 @@ some_left digits.Scalar p left m h = h.2.2
 some_left (digits.LowSurrogate x) p left m h = h.4.2
 
 -- behind a CR that takes no LF
-return_over : (s : Style) (es : List Element) (f : Element) (o : ℕ) → Base s es → IsElement s f → ends_in_cr f ≡ true → is_raw_lf f ≡ false → is_raw_quote f ≡ false → o ≢ 10 → Leads s es (raw s o) (spelling f ++ o ∷ []) (meaning s f)
+return_over : (s : Style) (es : List Element) (f : Element) (o : ℕ) → Base s es → IsElement s f → ends_in_cr f ≡ true → is_raw_lf f ≡ false
+    → is_raw_quote f ≡ false → o ≢ 10 → Leads s es (raw s o) (spelling f ++ o ∷ []) (meaning s f)
 return_over s es f o b i c l q n = rebase s es f (raw s o) (o ∷ []) (raw_leads s (es ++ f ∷ []) o
     (record { base = base_more s es f b i (λ h. l) (λ h. q); lf = λ e. absurd (n e); quote = λ h e. last_is_last is_raw_quote es f ∙ q }))
 
-return_leads : (s : Style) (es : List Element) (o : ℕ) (p q : List ℕ) → Base s es → Part s within.AfterReturn p q → Leads s es (in_text s within.AfterReturn o) (p ++ o ∷ []) q
-return_leads s es o p q b (inl (e, f)) = subst (λ l. Leads s es (in_text s within.AfterReturn o) (l ++ o ∷ []) q) (sym e) (subst (λ l. Leads s es (in_text s within.AfterReturn o) (92 ∷ 13 ∷ o ∷ []) l) (sym f)
+return_leads : (s : Style) (es : List Element) (o : ℕ) (p q : List ℕ) → Base s es → Part s within.AfterReturn p q
+    → Leads s es (in_text s within.AfterReturn o) (p ++ o ∷ []) q
+return_leads s es o p q b (inl (e, f)) = subst (λ l. Leads s es (in_text s within.AfterReturn o) (l ++ o ∷ []) q) (sym e)
+    (subst (λ l. Leads s es (in_text s within.AfterReturn o) (92 ∷ 13 ∷ o ∷ []) l) (sym f)
     (⊎_elim (λ (i : o ≡ 10). subst (λ (x : ℕ). Leads s es (in_text s within.AfterReturn x) (92 ∷ 13 ∷ x ∷ []) []) (sym i)
     (tt, one_element s es (Hidden CrLf) (92 ∷ 13 ∷ 10 ∷ []) [] b (fits s es (Hidden CrLf) tt refl refl refl) refl refl))
     (λ n. by_action s es (92 ∷ 13 ∷ o ∷ []) [] (as_raw s within.AfterReturn o n) (return_over s es (Hidden Cr) o b tt refl refl refl n)) (eq_or o 10)))
-return_leads s es o p q b (inr (l, e, f)) = subst (λ x. Leads s es (in_text s within.AfterReturn o) (x ++ o ∷ []) q) (sym e) (subst (λ x. Leads s es (in_text s within.AfterReturn o) (13 ∷ o ∷ []) x) (sym f)
+return_leads s es o p q b (inr (l, e, f)) = subst (λ x. Leads s es (in_text s within.AfterReturn o) (x ++ o ∷ []) q) (sym e)
+    (subst (λ x. Leads s es (in_text s within.AfterReturn o) (13 ∷ o ∷ []) x) (sym f)
     (⊎_elim (λ (i : o ≡ 10). subst (λ (x : ℕ). Leads s es (in_text s within.AfterReturn x) (13 ∷ x ∷ []) (10 ∷ [])) (sym i)
     (tt, one_element s es (RawLine CrLf) (13 ∷ 10 ∷ []) (10 ∷ []) b (fits s es (RawLine CrLf) l refl refl refl) refl refl))
     (λ n. by_action s es (13 ∷ o ∷ []) (10 ∷ []) (as_raw s within.AfterReturn o n) (return_over s es (RawLine Cr) o b l refl refl refl n)) (eq_or o 10)))
@@ -226,39 +268,53 @@ raw_39 : (s : Style) → is_long s ≡ true → IsElement s (Raw 39)
 raw_39 s l = (refl, (λ e. omega arith), inl l, inr (inr (inr (omega arith))), (λ c. omega arith))
 
 -- a long text's quotes that close nothing
-one_quote_over : (s : Style) (es : List Element) (o : ℕ) → Base s es → is_long s ≡ true → last_is is_raw_quote es ≡ false → o ≢ 39 → Leads s es (raw s o) (39 ∷ o ∷ []) (39 ∷ [])
+one_quote_over : (s : Style) (es : List Element) (o : ℕ) → Base s es → is_long s ≡ true → last_is is_raw_quote es ≡ false → o ≢ 39
+    → Leads s es (raw s o) (39 ∷ o ∷ []) (39 ∷ [])
 unfolding encode
 one_quote_over s es o b l h n = rebase s es (Raw 39) (raw s o) (o ∷ []) (raw_leads s (es ++ Raw 39 ∷ []) o
     (record { base = base_quote s es b l (raw_39 s l) h; lf = λ e. last_is_last ends_in_cr es (Raw 39); quote = λ m e. absurd (n e) }))
 
-two_quotes_over : (s : Style) (es : List Element) (o : ℕ) → Base s es → is_long s ≡ true → last_is is_raw_quote es ≡ false → o ≢ 39 → Leads s es (raw s o) (39 ∷ 39 ∷ o ∷ []) (39 ∷ 39 ∷ [])
+two_quotes_over : (s : Style) (es : List Element) (o : ℕ) → Base s es → is_long s ≡ true → last_is is_raw_quote es ≡ false → o ≢ 39
+    → Leads s es (raw s o) (39 ∷ 39 ∷ o ∷ []) (39 ∷ 39 ∷ [])
 unfolding encode
 two_quotes_over s es o b l h n =
     let es2 : List Element = (es ++ Raw 39 ∷ []) ++ Raw 39 ∷ [] in
-    let over = raw_leads s es2 o (record { base = base_quotes s es b l (raw_39 s l) h; lf = λ e. last_is_last ends_in_cr (es ++ Raw 39 ∷ []) (Raw 39); quote = λ m e. absurd (n e) }) in
-    rebase_kept s es (Raw 39) (raw s o) (39 ∷ o ∷ []) (39 ∷ []) (leads_no_drop s es2 (raw s o) (o ∷ []) over) (rebase s (es ++ Raw 39 ∷ []) (Raw 39) (raw s o) (o ∷ []) over)
+    let over = raw_leads s es2 o (record {
+      base = base_quotes s es b l (raw_39 s l) h;
+      lf = λ e. last_is_last ends_in_cr (es ++ Raw 39 ∷ []) (Raw 39);
+      quote = λ m e. absurd (n e);
+    }) in
+    rebase_kept s es (Raw 39) (raw s o) (39 ∷ o ∷ []) (39 ∷ []) (leads_no_drop s es2 (raw s o) (o ∷ []) over)
+    (rebase s (es ++ Raw 39 ∷ []) (Raw 39) (raw s o) (o ∷ []) over)
 
-quote_pending : (s : Style) (es : List Element) (o : ℕ) (p q : List ℕ) → Base s es → last_is is_raw_quote es ≡ false → Part s within.OneQuote p q → Leads s es (in_text s within.OneQuote o) (p ++ o ∷ []) q
-quote_pending s es o p q b h (l, e, f) = subst (λ x. Leads s es (in_text s within.OneQuote o) (x ++ o ∷ []) q) (sym e) (subst (λ x. Leads s es (in_text s within.OneQuote o) (39 ∷ o ∷ []) x) (sym f)
-    (⊎_elim (λ (i : o ≡ 39). subst (λ (x : ℕ). Leads s es (in_text s within.OneQuote x) (39 ∷ x ∷ []) (39 ∷ [])) (sym i) (tt, part_only s es within.TwoQuotes (39 ∷ 39 ∷ []) (39 ∷ 39 ∷ []) b h (l, refl, refl)))
+quote_pending : (s : Style) (es : List Element) (o : ℕ) (p q : List ℕ) → Base s es → last_is is_raw_quote es ≡ false → Part s within.OneQuote p q
+    → Leads s es (in_text s within.OneQuote o) (p ++ o ∷ []) q
+quote_pending s es o p q b h (l, e, f) = subst (λ x. Leads s es (in_text s within.OneQuote o) (x ++ o ∷ []) q) (sym e)
+    (subst (λ x. Leads s es (in_text s within.OneQuote o) (39 ∷ o ∷ []) x) (sym f)
+    (⊎_elim (λ (i : o ≡ 39). subst (λ (x : ℕ). Leads s es (in_text s within.OneQuote x) (39 ∷ x ∷ []) (39 ∷ [])) (sym i)
+    (tt, part_only s es within.TwoQuotes (39 ∷ 39 ∷ []) (39 ∷ 39 ∷ []) b h (l, refl, refl)))
     (λ n. by_action s es (39 ∷ o ∷ []) (39 ∷ []) (as_raw s within.OneQuote o n) (one_quote_over s es o b l h n)) (eq_or o 39)))
 
-closed_long : (s : Style) (es : List Element) → Base s es → is_long s ≡ true → last_is is_raw_quote es ≡ false → Closes s (flat_map spelling es ++ 39 ∷ 39 ∷ 39 ∷ []) (flat_map (meaning s) es ++ [])
+closed_long : (s : Style) (es : List Element) → Base s es → is_long s ≡ true → last_is is_raw_quote es ≡ false
+    → Closes s (flat_map spelling es ++ 39 ∷ 39 ∷ 39 ∷ []) (flat_map (meaning s) es ++ [])
 closed_long s es b l h = record {
   content = flat_map spelling es;
   is = subst (λ k. IsQuoted s (flat_map spelling es) k) (sym (append-nil (flat_map (meaning s) es))) (quoted s es b (λ t. h));
   spelled = ap (λ c. flat_map spelling es ++ cond c (39 ∷ 39 ∷ 39 ∷ []) (quote_of s ∷ [])) (sym l);
 }
 
-long_closes : (s : Style) (es : List Element) → Base s es → is_long s ≡ true → last_is is_raw_quote es ≡ false → Leads s es (close_long s) (39 ∷ 39 ∷ 39 ∷ []) (39 ∷ 39 ∷ [])
+long_closes : (s : Style) (es : List Element) → Base s es → is_long s ≡ true → last_is is_raw_quote es ≡ false
+    → Leads s es (close_long s) (39 ∷ 39 ∷ 39 ∷ []) (39 ∷ 39 ∷ [])
 long_closes styles.LongString es b l h = (([], refl), tt, closed_long styles.LongString es b refl h)
 long_closes styles.LongClob es b l h = (([], refl), (tt, closed_long styles.LongClob es b refl h))
 long_closes styles.ShortString es b l h = absurd (false≢true l)
 long_closes styles.QuotedSymbol es b l h = absurd (false≢true l)
 long_closes styles.ShortClob es b l h = absurd (false≢true l)
 
-quotes_pending : (s : Style) (es : List Element) (o : ℕ) (p q : List ℕ) → Base s es → last_is is_raw_quote es ≡ false → Part s within.TwoQuotes p q → Leads s es (in_text s within.TwoQuotes o) (p ++ o ∷ []) q
-quotes_pending s es o p q b h (l, e, f) = subst (λ x. Leads s es (in_text s within.TwoQuotes o) (x ++ o ∷ []) q) (sym e) (subst (λ x. Leads s es (in_text s within.TwoQuotes o) (39 ∷ 39 ∷ o ∷ []) x) (sym f)
+quotes_pending : (s : Style) (es : List Element) (o : ℕ) (p q : List ℕ) → Base s es → last_is is_raw_quote es ≡ false → Part s within.TwoQuotes p q
+    → Leads s es (in_text s within.TwoQuotes o) (p ++ o ∷ []) q
+quotes_pending s es o p q b h (l, e, f) = subst (λ x. Leads s es (in_text s within.TwoQuotes o) (x ++ o ∷ []) q) (sym e)
+    (subst (λ x. Leads s es (in_text s within.TwoQuotes o) (39 ∷ 39 ∷ o ∷ []) x) (sym f)
     (⊎_elim (λ (i : o ≡ 39). subst (λ (x : ℕ). Leads s es (in_text s within.TwoQuotes x) (39 ∷ 39 ∷ x ∷ []) (39 ∷ 39 ∷ [])) (sym i) (long_closes s es b l h))
     (λ n. by_action s es (39 ∷ 39 ∷ o ∷ []) (39 ∷ 39 ∷ []) (as_raw s within.TwoQuotes o n) (two_quotes_over s es o b l h n)) (eq_or o 39)))
 
@@ -266,22 +322,32 @@ not_same : (a b : ℕ) → a ≢ b → (a == b) ≡ false
 not_same a b n = grind (arith, nat_tests)
 
 -- one octet more, in each state
-step_leads : (s : Style) (v : Within) (es : List Element) (o : ℕ) (p q : List ℕ) → Base s es → After s v es → Part s v p q → Leads s es (in_text s v o) (p ++ o ∷ []) q
+step_leads : (s : Style) (v : Within) (es : List Element) (o : ℕ) (p q : List ℕ) → Base s es → After s v es → Part s v p q
+    → Leads s es (in_text s v o) (p ++ o ∷ []) q
 step_leads s within.Plain es o p q b a (e, f) = subst (λ l. Leads s es (raw s o) (l ++ o ∷ []) q) (sym e) (subst (λ l. Leads s es (raw s o) (o ∷ []) l) (sym f)
     (raw_leads s es o (record { base = b; lf = λ i. a.0; quote = λ l i. a.1 l })))
 step_leads s within.AfterReturn es o p q b a h = return_leads s es o p q b h
 step_leads s within.OneQuote es o p q b a h = quote_pending s es o p q b a h
 step_leads s within.TwoQuotes es o p q b a h = quotes_pending s es o p q b a h
-step_leads s (within.Utf8 left lo hi) es o p q b a (t, e, l, h) = subst (λ x. Leads s es (in_utf8 s left lo hi o) (p ++ o ∷ []) x) (sym e) (utf8_leads s es left lo hi o p b t l h)
-step_leads s within.Escape es o p q b a (e, f) = subst (λ l. Leads s es (in_escape s o) (l ++ o ∷ []) q) (sym e) (subst (λ l. Leads s es (in_escape s o) (92 ∷ o ∷ []) l) (sym f) (escape_leads s es o b))
-step_leads s (within.Hexadecimal d left m) es o p q b a (e, t, h) = subst (λ l. Leads s es (in_text s (within.Hexadecimal d left m) o) (p ++ o ∷ []) l) (sym e) (digit_leads s es d left m o p (hexadecimal_digit o) b t (some_left d p left m h) h refl)
-step_leads s (within.HighSurrogate x) es o p q b a (e, t, first, f, h) = subst (λ l. Leads s es (in_text s (within.HighSurrogate x) o) (l ++ o ∷ []) q) (sym f) (subst (λ l. Leads s es (in_text s (within.HighSurrogate x) o) (92 ∷ 117 ∷ first ++ o ∷ []) l) (sym e)
-    (⊎_elim (λ (i : o ≡ 92). subst (λ (o : ℕ). Leads s es (in_text s (within.HighSurrogate x) o) (92 ∷ 117 ∷ first ++ o ∷ []) []) (sym i) (tt, part_only s es (within.HighSurrogateEscape x) (92 ∷ 117 ∷ first ++ 92 ∷ []) [] b tt (refl, t, first, refl, h)))
+step_leads s (within.Utf8 left lo hi) es o p q b a (t, e, l, h) =
+    subst (λ x. Leads s es (in_utf8 s left lo hi o) (p ++ o ∷ []) x) (sym e) (utf8_leads s es left lo hi o p b t l h)
+step_leads s within.Escape es o p q b a (e, f) = subst (λ l. Leads s es (in_escape s o) (l ++ o ∷ []) q) (sym e)
+    (subst (λ l. Leads s es (in_escape s o) (92 ∷ o ∷ []) l) (sym f) (escape_leads s es o b))
+step_leads s (within.Hexadecimal d left m) es o p q b a (e, t, h) =
+    subst (λ l. Leads s es (in_text s (within.Hexadecimal d left m) o) (p ++ o ∷ []) l) (sym e)
+    (digit_leads s es d left m o p (hexadecimal_digit o) b t (some_left d p left m h) h refl)
+step_leads s (within.HighSurrogate x) es o p q b a (e, t, first, f, h) =
+    subst (λ l. Leads s es (in_text s (within.HighSurrogate x) o) (l ++ o ∷ []) q) (sym f)
+    (subst (λ l. Leads s es (in_text s (within.HighSurrogate x) o) (92 ∷ 117 ∷ first ++ o ∷ []) l) (sym e)
+    (⊎_elim (λ (i : o ≡ 92). subst (λ (o : ℕ). Leads s es (in_text s (within.HighSurrogate x) o) (92 ∷ 117 ∷ first ++ o ∷ []) []) (sym i)
+    (tt, part_only s es (within.HighSurrogateEscape x) (92 ∷ 117 ∷ first ++ 92 ∷ []) [] b tt (refl, t, first, refl, h)))
     (λ n. by_action s es (92 ∷ 117 ∷ first ++ o ∷ []) [] (wrong o n) tt) (eq_or o 92)))
   where
     wrong : (o : ℕ) → o ≢ 92 → in_text s (within.HighSurrogate x) o ≡ actions.Refuse reasons.BadEscape
     wrong o n = rw (not_same o 92 n)
-step_leads s (within.HighSurrogateEscape x) es o p q b a (e, t, first, f, h) = subst (λ l. Leads s es (in_text s (within.HighSurrogateEscape x) o) (l ++ o ∷ []) q) (sym f) (subst (λ l. Leads s es (in_text s (within.HighSurrogateEscape x) o) ((92 ∷ 117 ∷ first ++ 92 ∷ []) ++ o ∷ []) l) (sym e)
+step_leads s (within.HighSurrogateEscape x) es o p q b a (e, t, first, f, h) =
+    subst (λ l. Leads s es (in_text s (within.HighSurrogateEscape x) o) (l ++ o ∷ []) q) (sym f)
+    (subst (λ l. Leads s es (in_text s (within.HighSurrogateEscape x) o) ((92 ∷ 117 ∷ first ++ 92 ∷ []) ++ o ∷ []) l) (sym e)
     (⊎_elim (λ (i : o ≡ 117). subst (λ (o : ℕ). Leads s es (in_text s (within.HighSurrogateEscape x) o) ((92 ∷ 117 ∷ first ++ 92 ∷ []) ++ o ∷ []) []) (sym i) (
       tt,
       part_only s es (within.Hexadecimal (digits.LowSurrogate x) 4 0) ((92 ∷ 117 ∷ first ++ 92 ∷ []) ++ 117 ∷ []) [] b tt
@@ -318,9 +384,19 @@ keeps_more front q kept (keeps.Character c) e h = tt
 keeps_more front q kept keeps.DropQuotes e (rest, f) = (front ++ rest, e ∙ ap (λ l. front ++ l) f ∙ sym (append_assoc front rest (39 ∷ 39 ∷ [])))
 
 -- behind the elements
-lift : (s : Style) (es : List Element) (a : Action) (w kept p q : List ℕ) → w ≡ flat_map spelling es ++ p → kept ≡ flat_map (meaning s) es ++ q → Leads s es a p q → LeadsText s a w kept
-lift s es (actions.Go m k) w kept p q e f (h, l) = (keeps_more (flat_map (meaning s) es) q kept k f h, subst (λ x. LeadsTo s m x (kept_after k kept)) (sym e) (subst (λ x. LeadsTo s m (flat_map spelling es ++ p) x) (sym (ap (kept_after k) f ∙ keeps_behind (flat_map (meaning s) es) q k h)) l))
-lift s es (actions.Give kind k) w kept p q e f (h, g, l) = (keeps_more (flat_map (meaning s) es) q kept k f h, g, subst (λ x. Closes s x (kept_after k kept)) (sym e) (subst (λ x. Closes s (flat_map spelling es ++ p) x) (sym (ap (kept_after k) f ∙ keeps_behind (flat_map (meaning s) es) q k h)) l))
+lift : (s : Style) (es : List Element) (a : Action) (w kept p q : List ℕ) → w ≡ flat_map spelling es ++ p → kept ≡ flat_map (meaning s) es ++ q
+    → Leads s es a p q → LeadsText s a w kept
+lift s es (actions.Go m k) w kept p q e f (h, l) = (
+  keeps_more (flat_map (meaning s) es) q kept k f h,
+  subst (λ x. LeadsTo s m x (kept_after k kept)) (sym e) (subst (λ x. LeadsTo s m (flat_map spelling es ++ p) x)
+      (sym (ap (kept_after k) f ∙ keeps_behind (flat_map (meaning s) es) q k h)) l),
+)
+lift s es (actions.Give kind k) w kept p q e f (h, g, l) = (
+  keeps_more (flat_map (meaning s) es) q kept k f h,
+  g,
+  subst (λ x. Closes s x (kept_after k kept)) (sym e)
+      (subst (λ x. Closes s (flat_map spelling es ++ p) x) (sym (ap (kept_after k) f ∙ keeps_behind (flat_map (meaning s) es) q k h)) l),
+)
 lift s es (actions.Refuse r) w kept p q e f h = tt
 lift s es (actions.Before _ _ _) w kept p q e f h = h
 lift s es actions.EndWord w kept p q e f h = h
@@ -330,7 +406,8 @@ lift s es actions.EndBlob w kept p q e f h = h
 -- One octet more of a text leads to what was read with it: more of the text, or all of it, or a refusal.
 pub text_step : (s : Style) (v : Within) (o : ℕ) (w kept : List ℕ) → Reads s v w kept → LeadsText s (in_text s v o) (w ++ o ∷ []) kept
 text_step s v o w kept h = lift s h.elements (in_text s v o) (w ++ o ∷ []) kept (h.p ++ o ∷ []) h.q
-    (ap (λ l. l ++ o ∷ []) h.spelled ∙ append_assoc (flat_map spelling h.elements) h.p (o ∷ [])) h.means (step_leads s v h.elements o h.p h.q h.base h.after h.part)
+    (ap (λ l. l ++ o ∷ []) h.spelled ∙ append_assoc (flat_map spelling h.elements) h.p (o ∷ [])) h.means
+    (step_leads s v h.elements o h.p h.q h.base h.after h.part)
 
 pub reads_none : (s : Style) → Reads s within.Plain [] []
 reads_none s = record { elements = []; p = []; q = []; base = base_none s; after = (refl, λ l. refl); part = (refl, refl); spelled = refl; means = refl }

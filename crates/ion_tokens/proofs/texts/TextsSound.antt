@@ -128,7 +128,8 @@ Leads s es _ p q = ⊥
 pub by_action : (s : Style) (es : List Element) {a b : Action} (p q : List ℕ) → a ≡ b → Leads s es b p q → Leads s es a p q
 by_action s es p q e h = subst (λ a. Leads s es a p q) (sym e) h
 
-pub part_only : (s : Style) (es : List Element) (v : Within) (p q : List ℕ) → Base s es → After s v es → Part s v p q → (s ≡ s) × Reads s v (flat_map spelling es ++ p) (flat_map (meaning s) es ++ q)
+pub part_only : (s : Style) (es : List Element) (v : Within) (p q : List ℕ) → Base s es → After s v es → Part s v p q → (s ≡ s)
+    × Reads s v (flat_map spelling es ++ p) (flat_map (meaning s) es ++ q)
 part_only s es v p q b a h = (refl, record { elements = es; p = p; q = q; base = b; after = a; part = h; spelled = refl; means = refl })
 
 -- the element fits behind the others, and neither ends in a CR nor is a long text's raw quote
@@ -138,7 +139,8 @@ pub record FitsBehind (s : Style) (es : List Element) (e : Element) : Type 0 whe
   pub cr : ends_in_cr e ≡ false
   pub quote : is_long s ≡ true → is_raw_quote e ≡ false
 
-pub one_element : (s : Style) (es : List Element) (e : Element) (p q : List ℕ) → Base s es → FitsBehind s es e → p ≡ spelling e → q ≡ meaning s e → (s ≡ s) × Reads s within.Plain (flat_map spelling es ++ p) (flat_map (meaning s) es ++ q)
+pub one_element : (s : Style) (es : List Element) (e : Element) (p q : List ℕ) → Base s es → FitsBehind s es e → p ≡ spelling e → q ≡ meaning s e → (s ≡ s)
+    × Reads s within.Plain (flat_map spelling es ++ p) (flat_map (meaning s) es ++ q)
 one_element s es e p q b f i m = (
   refl,
   record {
@@ -169,11 +171,17 @@ three_whole x y z a b d e f g =
     let first_high : x ≡ 237 → y ≤ 159 = grind (arith, nat_tests) in
     let c : ℕ = (x - 224) * 4096 + (y - 128) * 64 + (z - 128) in
     let least : 2048 ≤ c = ⊎_elim (λ i. omega (arith, first_low i)) (λ i. omega arith) (eq_or x 224) in
-    let gap : (c < 55296) ⊎ (57344 ≤ c) = ⊎_elim (λ i. inl (omega (arith, first_high i))) (λ i. ⊎_elim (λ j. inl (omega arith)) (λ j. inr (omega arith)) (order x 237)) (eq_or x 237) in
+    let gap : (c < 55296) ⊎ (57344 ≤ c) = ⊎_elim (λ i. inl (omega (arith, first_high i)))
+    (λ i. ⊎_elim (λ j. inl (omega arith)) (λ j. inr (omega arith)) (order x 237)) (eq_or x 237) in
     let one : 224 + c / 4096 ≡ x = omega arith in
     let two : 128 + (c / 64) % 64 ≡ y = omega arith in
-    let three : 128 + c % 64 ≡ z = omega arith in
-    (c, ⊎_elim (λ i. grind (arith, nat_tests)) (λ i. grind (arith, nat_tests)) gap, omega arith, law.three c least (omega arith) ∙ (λ i. one i ∷ two i ∷ three i ∷ []))
+    let three : 128 + c % 64 ≡ z = omega arith in (
+      c,
+      ⊎_elim (λ i. grind (arith, nat_tests)) (λ i. grind (arith, nat_tests)) gap,
+      omega arith,
+      law.three c least (omega arith)
+          ∙ (λ i. one i ∷ two i ∷ three i ∷ []),
+    )
 
 four_whole : (x y z v : ℕ) → 240 ≤ x → x ≤ 244 → least_four x ≤ y → y ≤ most_four x → 128 ≤ z → z ≤ 191 → 128 ≤ v → v ≤ 191 → Whole (x ∷ y ∷ z ∷ v ∷ [])
 four_whole x y z v a b d e f g h k =
@@ -231,12 +239,19 @@ pub fits_raw : (s : Style) (es : List Element) (c : ℕ) → IsRaw s c → c ≢
 fits_raw s es c i n = record { is = i; lf = λ h. refl; cr = refl; quote = λ l. no_quote_raw s c n l }
 
 ascii_leads : (s : Style) (es : List Element) (o : ℕ) → Behind s es o → o < 128 → o ≢ 92 → o ≢ quote_of s → StandsRaw o → Leads s es (raw s o) (o ∷ []) []
-ascii_leads s es o b l a n w = by_action s es (o ∷ []) [] (raw_one s o l a n w)
-    (tt, one_element s es (Raw o) (o ∷ []) (o ∷ []) b.base (fits_raw s es o (grind (arith, nat_tests), a, inr n, w, λ i. l) n) (sym (law.one o l)) (sym (law.one o l)))
+ascii_leads s es o b l a n w = by_action s es (o ∷ []) [] (raw_one s o l a n w) (
+  tt,
+  one_element s es (Raw o) (o ∷ []) (o ∷ []) b.base (fits_raw s es o (grind (arith, nat_tests), a, inr n, w, λ i. l) n) (sym (law.one o l))
+      (sym (law.one o l)),
+)
 
 lf_leads : (s : Style) (es : List Element) → Behind s es 10 → Leads s es (raw s 10) (10 ∷ []) []
 lf_leads s es b = ⊎_elim
-    (λ l. by_action s es (10 ∷ []) [] (raw_lf s l) (tt, one_element s es (RawLine Lf) (10 ∷ []) (10 ∷ []) b.base (record { is = l; lf = λ h. absurd (true≢false (sym h ∙ b.lf refl)); cr = refl; quote = λ m. refl }) refl refl))
+    (λ l. by_action s es (10 ∷ []) [] (raw_lf s l) (
+      tt,
+      one_element s es (RawLine Lf) (10 ∷ []) (10 ∷ []) b.base
+          (record { is = l; lf = λ h. absurd (true≢false (sym h ∙ b.lf refl)); cr = refl; quote = λ m. refl }) refl refl,
+    ))
     (λ f. by_action s es (10 ∷ []) [] (no_lf s f) tt) (bool_cases (is_long s))
 
 cr_leads : (s : Style) (es : List Element) → Behind s es 13 → Leads s es (raw s 13) (13 ∷ []) []
@@ -255,7 +270,8 @@ low_leads s es o b l n =
     (eq_or o 13)) (eq_or o 10)) (eq_or o 12)) (eq_or o 11)) (eq_or o 9)
 
 -- the quote of a style with one quote closes the text
-closed_short : (s : Style) (es : List Element) → Base s es → is_long s ≡ false → Closes s (flat_map spelling es ++ quote_of s ∷ []) (flat_map (meaning s) es ++ [])
+closed_short : (s : Style) (es : List Element) → Base s es → is_long s ≡ false
+    → Closes s (flat_map spelling es ++ quote_of s ∷ []) (flat_map (meaning s) es ++ [])
 closed_short s es b l = record {
   content = flat_map spelling es;
   is = subst (λ k. IsQuoted s (flat_map spelling es) k) (sym (append-nil (flat_map (meaning s) es))) (quoted s es b (λ t. absurd (true≢false (sym t ∙ l))));
@@ -278,9 +294,18 @@ quote_leads s es o b e = ⊎_elim
 high_leads : (s : Style) (es : List Element) (o : ℕ) → Base s es → is_clob s ≡ false → 128 ≤ o → Leads s es (raw s o) (o ∷ []) []
 high_leads s es o b t h =
     ⊎_elim (λ h'. by_action s es (o ∷ []) [] (raw_wrong s o t (quote_small s) h (inl h')) tt) (λ h'.
-    ⊎_elim (λ m. by_action s es (o ∷ []) [] (raw_two s o t (quote_small s) h' m) (tt, part_only s es (within.Utf8 1 128 191) (o ∷ []) (o ∷ []) b tt (t, refl, omega arith, λ y e f. two_whole o y h' m e f))) (λ m.
-    ⊎_elim (λ n. by_action s es (o ∷ []) [] (raw_three s o t (quote_small s) m n) (tt, part_only s es (within.Utf8 2 (least_three o) (most_three o)) (o ∷ []) (o ∷ []) b tt (t, refl, omega arith, λ y e f z g k. three_whole o y z m n e f g k))) (λ n.
-    ⊎_elim (λ k. by_action s es (o ∷ []) [] (raw_four s o t (quote_small s) n (omega arith)) (tt, part_only s es (within.Utf8 3 (least_four o) (most_four o)) (o ∷ []) (o ∷ []) b tt (t, refl, omega arith, λ y e f z g i v r x. four_whole o y z v n (omega arith) e f g i r x)))
+    ⊎_elim (λ m. by_action s es (o ∷ []) [] (raw_two s o t (quote_small s) h' m)
+    (tt, part_only s es (within.Utf8 1 128 191) (o ∷ []) (o ∷ []) b tt (t, refl, omega arith, λ y e f. two_whole o y h' m e f))) (λ m.
+    ⊎_elim (λ n. by_action s es (o ∷ []) [] (raw_three s o t (quote_small s) m n) (
+      tt,
+      part_only s es (within.Utf8 2 (least_three o) (most_three o)) (o ∷ []) (o ∷ []) b tt
+          (t, refl, omega arith, λ y e f z g k. three_whole o y z m n e f g k),
+    )) (λ n.
+    ⊎_elim (λ k. by_action s es (o ∷ []) [] (raw_four s o t (quote_small s) n (omega arith)) (
+      tt,
+      part_only s es (within.Utf8 3 (least_four o) (most_four o)) (o ∷ []) (o ∷ []) b tt
+          (t, refl, omega arith, λ y e f z g i v r x. four_whole o y z v n (omega arith) e f g i r x),
+    ))
     (λ k. by_action s es (o ∷ []) [] (raw_wrong s o t (quote_small s) h (inr (omega arith))) tt)
     (order o 245)) (order o 240)) (order o 224)) (order o 194)
 
@@ -303,29 +328,40 @@ no_drop k (front, e) = by front e where
   by (x ∷ xs) e = cc
 
 shift : (s : Style) (es : List Element) (f : Element) (p : List ℕ) (x : List ℕ) (m : Mode) (y : List ℕ) → y ≡ meaning s f ++ x
-    → LeadsTo s m (flat_map spelling (es ++ f ∷ []) ++ p) (flat_map (meaning s) (es ++ f ∷ []) ++ x) → LeadsTo s m (flat_map spelling es ++ (spelling f ++ p)) (flat_map (meaning s) es ++ y)
+    → LeadsTo s m (flat_map spelling (es ++ f ∷ []) ++ p) (flat_map (meaning s) (es ++ f ∷ []) ++ x)
+    → LeadsTo s m (flat_map spelling es ++ (spelling f ++ p)) (flat_map (meaning s) es ++ y)
 shift s es f p x m y e h =
-    let octets : flat_map spelling (es ++ f ∷ []) ++ p ≡ flat_map spelling es ++ (spelling f ++ p) = ap (λ l. l ++ p) (flat_last spelling es f) ∙ append_assoc (flat_map spelling es) (spelling f) p in
-    let kept : flat_map (meaning s) (es ++ f ∷ []) ++ x ≡ flat_map (meaning s) es ++ y = ap (λ l. l ++ x) (flat_last (meaning s) es f) ∙ append_assoc (flat_map (meaning s) es) (meaning s f) x ∙ ap (λ l. flat_map (meaning s) es ++ l) (sym e) in
+    let octets : flat_map spelling (es ++ f ∷ []) ++ p ≡ flat_map spelling es ++ (spelling f ++ p) = ap (λ l. l ++ p) (flat_last spelling es f)
+    ∙ append_assoc (flat_map spelling es) (spelling f) p in
+    let kept : flat_map (meaning s) (es ++ f ∷ []) ++ x ≡ flat_map (meaning s) es ++ y = ap (λ l. l ++ x) (flat_last (meaning s) es f)
+    ∙ append_assoc (flat_map (meaning s) es) (meaning s f) x ∙ ap (λ l. flat_map (meaning s) es ++ l) (sym e) in
     subst (λ l. LeadsTo s m l (flat_map (meaning s) es ++ y)) octets (subst (λ l. LeadsTo s m (flat_map spelling (es ++ f ∷ []) ++ p) l) kept h)
 
 shift_closes : (s : Style) (es : List Element) (f : Element) (p : List ℕ) (x : List ℕ) (y : List ℕ) → y ≡ meaning s f ++ x
-    → Closes s (flat_map spelling (es ++ f ∷ []) ++ p) (flat_map (meaning s) (es ++ f ∷ []) ++ x) → Closes s (flat_map spelling es ++ (spelling f ++ p)) (flat_map (meaning s) es ++ y)
+    → Closes s (flat_map spelling (es ++ f ∷ []) ++ p) (flat_map (meaning s) (es ++ f ∷ []) ++ x)
+    → Closes s (flat_map spelling es ++ (spelling f ++ p)) (flat_map (meaning s) es ++ y)
 shift_closes s es f p x y e h =
-    let octets : flat_map spelling (es ++ f ∷ []) ++ p ≡ flat_map spelling es ++ (spelling f ++ p) = ap (λ l. l ++ p) (flat_last spelling es f) ∙ append_assoc (flat_map spelling es) (spelling f) p in
-    let kept : flat_map (meaning s) (es ++ f ∷ []) ++ x ≡ flat_map (meaning s) es ++ y = ap (λ l. l ++ x) (flat_last (meaning s) es f) ∙ append_assoc (flat_map (meaning s) es) (meaning s f) x ∙ ap (λ l. flat_map (meaning s) es ++ l) (sym e) in
+    let octets : flat_map spelling (es ++ f ∷ []) ++ p ≡ flat_map spelling es ++ (spelling f ++ p) = ap (λ l. l ++ p) (flat_last spelling es f)
+    ∙ append_assoc (flat_map spelling es) (spelling f) p in
+    let kept : flat_map (meaning s) (es ++ f ∷ []) ++ x ≡ flat_map (meaning s) es ++ y = ap (λ l. l ++ x) (flat_last (meaning s) es f)
+    ∙ append_assoc (flat_map (meaning s) es) (meaning s f) x ∙ ap (λ l. flat_map (meaning s) es ++ l) (sym e) in
     subst (λ l. Closes s l (flat_map (meaning s) es ++ y)) octets (subst (λ l. Closes s (flat_map spelling (es ++ f ∷ []) ++ p) l) kept h)
 
 -- an action with nothing kept before
-pub rebase : (s : Style) (es : List Element) (f : Element) (a : Action) (p : List ℕ) → Leads s (es ++ f ∷ []) a p [] → Leads s es a (spelling f ++ p) (meaning s f)
+pub rebase : (s : Style) (es : List Element) (f : Element) (a : Action) (p : List ℕ) → Leads s (es ++ f ∷ []) a p []
+    → Leads s es a (spelling f ++ p) (meaning s f)
 rebase s es f (actions.Go m keeps.Nothing) p (t, h) = (tt, shift s es f p [] m (meaning s f) (sym (append-nil (meaning s f))) h)
 rebase s es f (actions.Go m (keeps.One o)) p (t, h) = (tt, shift s es f p (o ∷ []) m (meaning s f ++ o ∷ []) refl h)
-rebase s es f (actions.Go m (keeps.Two o x)) p (t, h) = (tt, shift s es f p (o ∷ x ∷ []) m ((meaning s f ++ o ∷ []) ++ x ∷ []) (append_assoc (meaning s f) (o ∷ []) (x ∷ [])) h)
+rebase s es f (actions.Go m (keeps.Two o x)) p (t, h) = (
+  tt,
+  shift s es f p (o ∷ x ∷ []) m ((meaning s f ++ o ∷ []) ++ x ∷ []) (append_assoc (meaning s f) (o ∷ []) (x ∷ [])) h,
+)
 rebase s es f (actions.Go m (keeps.Character c)) p (t, h) = (tt, shift s es f p (encode c) m (meaning s f ++ encode c) refl h)
 rebase s es f (actions.Go m keeps.DropQuotes) p (t, h) = absurd (no_drop [] t)
 rebase s es f (actions.Give kind keeps.Nothing) p (t, g, h) = (tt, g, shift_closes s es f p [] (meaning s f) (sym (append-nil (meaning s f))) h)
 rebase s es f (actions.Give kind (keeps.One o)) p (t, g, h) = (tt, g, shift_closes s es f p (o ∷ []) (meaning s f ++ o ∷ []) refl h)
-rebase s es f (actions.Give kind (keeps.Two o x)) p (t, g, h) = (tt, g, shift_closes s es f p (o ∷ x ∷ []) ((meaning s f ++ o ∷ []) ++ x ∷ []) (append_assoc (meaning s f) (o ∷ []) (x ∷ [])) h)
+rebase s es f (actions.Give kind (keeps.Two o x)) p (t, g, h) =
+    (tt, g, shift_closes s es f p (o ∷ x ∷ []) ((meaning s f ++ o ∷ []) ++ x ∷ []) (append_assoc (meaning s f) (o ∷ []) (x ∷ [])) h)
 rebase s es f (actions.Give kind (keeps.Character c)) p (t, g, h) = (tt, g, shift_closes s es f p (encode c) (meaning s f ++ encode c) refl h)
 rebase s es f (actions.Give kind keeps.DropQuotes) p (t, g, h) = absurd (no_drop [] t)
 rebase s es f (actions.Refuse e) p h = tt
@@ -340,16 +376,30 @@ NoDrop (actions.Go m keeps.DropQuotes) = ⊥
 NoDrop (actions.Give kind keeps.DropQuotes) = ⊥
 NoDrop _ = Unit {0}
 
-pub rebase_kept : (s : Style) (es : List Element) (f : Element) (a : Action) (p q : List ℕ) → NoDrop a → Leads s (es ++ f ∷ []) a p q → Leads s es a (spelling f ++ p) (meaning s f ++ q)
+pub rebase_kept : (s : Style) (es : List Element) (f : Element) (a : Action) (p q : List ℕ) → NoDrop a → Leads s (es ++ f ∷ []) a p q
+    → Leads s es a (spelling f ++ p) (meaning s f ++ q)
 rebase_kept s es f (actions.Go m keeps.Nothing) p q n (t, h) = (tt, shift s es f p q m (meaning s f ++ q) refl h)
-rebase_kept s es f (actions.Go m (keeps.One o)) p q n (t, h) = (tt, shift s es f p (q ++ o ∷ []) m ((meaning s f ++ q) ++ o ∷ []) (append_assoc (meaning s f) q (o ∷ [])) h)
-rebase_kept s es f (actions.Go m (keeps.Two o x)) p q n (t, h) = (tt, shift s es f p ((q ++ o ∷ []) ++ x ∷ []) m (((meaning s f ++ q) ++ o ∷ []) ++ x ∷ []) (ap (λ l. l ++ x ∷ []) (append_assoc (meaning s f) q (o ∷ [])) ∙ append_assoc (meaning s f) (q ++ o ∷ []) (x ∷ [])) h)
-rebase_kept s es f (actions.Go m (keeps.Character c)) p q n (t, h) = (tt, shift s es f p (q ++ encode c) m ((meaning s f ++ q) ++ encode c) (append_assoc (meaning s f) q (encode c)) h)
+rebase_kept s es f (actions.Go m (keeps.One o)) p q n (t, h) =
+    (tt, shift s es f p (q ++ o ∷ []) m ((meaning s f ++ q) ++ o ∷ []) (append_assoc (meaning s f) q (o ∷ [])) h)
+rebase_kept s es f (actions.Go m (keeps.Two o x)) p q n (t, h) = (
+  tt,
+  shift s es f p ((q ++ o ∷ []) ++ x ∷ []) m (((meaning s f ++ q) ++ o ∷ []) ++ x ∷ []) (ap (λ l. l ++ x ∷ []) (append_assoc (meaning s f) q (o ∷ []))
+      ∙ append_assoc (meaning s f) (q ++ o ∷ []) (x ∷ [])) h,
+)
+rebase_kept s es f (actions.Go m (keeps.Character c)) p q n (t, h) =
+    (tt, shift s es f p (q ++ encode c) m ((meaning s f ++ q) ++ encode c) (append_assoc (meaning s f) q (encode c)) h)
 rebase_kept s es f (actions.Go m keeps.DropQuotes) p q n h = absurd n
 rebase_kept s es f (actions.Give kind keeps.Nothing) p q n (t, g, h) = (tt, g, shift_closes s es f p q (meaning s f ++ q) refl h)
-rebase_kept s es f (actions.Give kind (keeps.One o)) p q n (t, g, h) = (tt, g, shift_closes s es f p (q ++ o ∷ []) ((meaning s f ++ q) ++ o ∷ []) (append_assoc (meaning s f) q (o ∷ [])) h)
-rebase_kept s es f (actions.Give kind (keeps.Two o x)) p q n (t, g, h) = (tt, g, shift_closes s es f p ((q ++ o ∷ []) ++ x ∷ []) (((meaning s f ++ q) ++ o ∷ []) ++ x ∷ []) (ap (λ l. l ++ x ∷ []) (append_assoc (meaning s f) q (o ∷ [])) ∙ append_assoc (meaning s f) (q ++ o ∷ []) (x ∷ [])) h)
-rebase_kept s es f (actions.Give kind (keeps.Character c)) p q n (t, g, h) = (tt, g, shift_closes s es f p (q ++ encode c) ((meaning s f ++ q) ++ encode c) (append_assoc (meaning s f) q (encode c)) h)
+rebase_kept s es f (actions.Give kind (keeps.One o)) p q n (t, g, h) =
+    (tt, g, shift_closes s es f p (q ++ o ∷ []) ((meaning s f ++ q) ++ o ∷ []) (append_assoc (meaning s f) q (o ∷ [])) h)
+rebase_kept s es f (actions.Give kind (keeps.Two o x)) p q n (t, g, h) = (
+  tt,
+  g,
+  shift_closes s es f p ((q ++ o ∷ []) ++ x ∷ []) (((meaning s f ++ q) ++ o ∷ []) ++ x ∷ [])
+      (ap (λ l. l ++ x ∷ []) (append_assoc (meaning s f) q (o ∷ [])) ∙ append_assoc (meaning s f) (q ++ o ∷ []) (x ∷ [])) h,
+)
+rebase_kept s es f (actions.Give kind (keeps.Character c)) p q n (t, g, h) =
+    (tt, g, shift_closes s es f p (q ++ encode c) ((meaning s f ++ q) ++ encode c) (append_assoc (meaning s f) q (encode c)) h)
 rebase_kept s es f (actions.Give kind keeps.DropQuotes) p q n h = absurd n
 rebase_kept s es f (actions.Refuse e) p q n h = tt
 rebase_kept s es f (actions.Before _ _ _) p q n h = h

@@ -50,7 +50,8 @@ acts_owe p s o (actions.Go m k) f = tt
 acts_owe p s o (actions.Give _ _) f = tt
 acts_owe p s o (actions.Before _ _ m) f = first_less (debt m) (debt s.mode) _ _ f.is
 acts_owe p s o actions.EndWord f = by ((o == 46) && bytes_eq s.kept (codes "null")) where
-  by : (b : Bool) → OwesLess (debt s.mode) (cond b (Next (go_to s modes.KindName [])) (Left (cut s kinds.Word s.kept s.used) (past p kinds.Word modes.Blank [] s.used s.used)))
+  by : (b : Bool) → OwesLess (debt s.mode) (cond b (Next (go_to s modes.KindName []))
+      (Left (cut s kinds.Word s.kept s.used) (past p kinds.Word modes.Blank [] s.used s.used)))
   by true = tt
   by false = last_least 1 (debt s.mode) true f.is
 acts_owe p s o (actions.Split n) f = last_least 2 (debt s.mode) _ f.is
@@ -75,7 +76,8 @@ left_owes p s t o l e = subst (λ x. OwesLess (debt s.mode) x) e (acts_owe p s o
 pub settles : (n : ℕ) (places : Places) (o : ℕ) (ts : List Told) (s : Known) → debt s.mode < n → takes n places o ts s ≡ takes (suc n) places o ts s
 settles zero places o ts s h = absurd (omega arith)
 settles (suc n) places o ts s h = by (feed (places ts) s o) refl (λ us t less. settles n places o us t less) where
-  again : (r : Result Content Reason) (l : Lexeme) (t : Known) (f g : List Told → Known → Trail) → ((us : List Told) → f us t ≡ g us t) → then_by (judged ts l (t.used + 1) t r) f ≡ then_by (judged ts l (t.used + 1) t r) g
+  again : (r : Result Content Reason) (l : Lexeme) (t : Known) (f g : List Told → Known → Trail) → ((us : List Told) → f us t ≡ g us t)
+      → then_by (judged ts l (t.used + 1) t r) f ≡ then_by (judged ts l (t.used + 1) t r) g
   again (Ok c) l t f g same = same _
   again (Err e) l t f g same = refl
 
@@ -91,10 +93,13 @@ state_in (Next s) t = s
 state_in _ t = t
 
 -- octets that are all used lead on from what the scanner knows behind them
-pub over_next : (places : Places) (ts : List Told) (p : Place) (octets rest : List ℕ) (s t : Known) → places ts ≡ p → run p octets s ≡ Next t → over places (octets ++ rest) ts s ≡ over places rest ts t
+pub over_next : (places : Places) (ts : List Told) (p : Place) (octets rest : List ℕ) (s t : Known) → places ts ≡ p → run p octets s ≡ Next t
+    → over places (octets ++ rest) ts s ≡ over places rest ts t
 over_next places ts p [] rest s t place e = ap (λ x. over places rest ts (state_in x s)) e
 over_next places ts p (o ∷ os) rest s t place e = by (feed p s o) refl e (λ s'. over_next places ts p os rest s' t place) where
-  by : (x : Outcome) → feed p s o ≡ x → follow x (λ s'. run p os s') ≡ Next t → ((s' : Known) → run p os s' ≡ Next t → over places (os ++ rest) ts s' ≡ over places rest ts t) → over places (o ∷ os ++ rest) ts s ≡ over places rest ts t
+  by : (x : Outcome) → feed p s o ≡ x → follow x (λ s'. run p os s') ≡ Next t
+      → ((s' : Known) → run p os s' ≡ Next t → over places (os ++ rest) ts s' ≡ over places rest ts t) → over places (o ∷ os ++ rest) ts s
+      ≡ over places rest ts t
   by (Next s') f g more =
       ap (λ q. then_by (comes (takes 2 places o) ts (feed q s o)) (over places (os ++ rest))) place
       ∙ ap (λ x. then_by (comes (takes 2 places o) ts x) (over places (os ++ rest))) f
@@ -121,19 +126,24 @@ refused_so l at r h = one_body l.kind l.octets (said l.kind l.octets) (Err r.rea
 told_is : (l : Lexeme) (t : Token) (total : ℕ) → IsToken l t → record { start = l.start; end = l.end; says = content t.body; total = total } ≡ told_as t total
 told_is l t total h = λ i. record { start = sym h.start i; end = sym h.end i; says = content t.body; total = total }
 
-judged_so : (ts : List Told) (l : Lexeme) (decided : ℕ) (s : Known) (t : Token) → IsToken l t → judged ts l decided s (said l.kind l.octets) ≡ Leads (ts ++ told_as t s.used ∷ []) s
+judged_so : (ts : List Told) (l : Lexeme) (decided : ℕ) (s : Known) (t : Token) → IsToken l t → judged ts l decided s (said l.kind l.octets)
+    ≡ Leads (ts ++ told_as t s.used ∷ []) s
 judged_so ts l decided s t h = ap (λ r. judged ts l decided s r) (said_so l t h) ∙ ap (λ (x : Told). Leads (ts ++ x ∷ []) s) (told_is l t s.used h)
 
-stopped_so : (ts : List Told) (l : Lexeme) (decided : ℕ) (s : Known) (r : Refusal) → RefusesToken l decided r → judged ts l decided s (said l.kind l.octets) ≡ Stops ts r
-stopped_so ts l decided s r h = ap (λ x. judged ts l decided s x) (refused_so l decided r h) ∙ (λ i. Stops ts (record { offset = sym h.offset i; reason = r.reason }))
+stopped_so : (ts : List Told) (l : Lexeme) (decided : ℕ) (s : Known) (r : Refusal) → RefusesToken l decided r → judged ts l decided s (said l.kind l.octets)
+    ≡ Stops ts r
+stopped_so ts l decided s r h = ap (λ x. judged ts l decided s x) (refused_so l decided r h)
+    ∙ (λ i. Stops ts (record { offset = sym h.offset i; reason = r.reason }))
 
 continues_more : (w rest ahead : List ℕ) → Continues w ahead → Continues (w ++ rest) ahead
 continues_more w rest ahead (more, e) = (more ++ rest, ap (λ l. l ++ rest) e ∙ append_assoc ahead more rest)
 
 module _ (p : Place) (s : Known) (piece : List ℕ) where
   -- behind these octets of a piece
-  stands_on : (places : Places) (u : List ℕ) (ts us : List Told) (ahead left w : List ℕ) (now : Known) → IsTraced places s u ts ahead → length left ≤ 1 → now.used ≡ s.used + length w
-      → ((rest : List ℕ) → Continues rest left → Continues (w ++ rest) ahead) → ((rest : List ℕ) → Continues rest left → over places (w ++ rest) ts s ≡ over places rest us now)
+  stands_on : (places : Places) (u : List ℕ) (ts us : List Told) (ahead left w : List ℕ) (now : Known) → IsTraced places s u ts ahead → length left ≤ 1
+      → now.used ≡ s.used + length w
+      → ((rest : List ℕ) → Continues rest left → Continues (w ++ rest) ahead)
+      → ((rest : List ℕ) → Continues rest left → over places (w ++ rest) ts s ≡ over places rest us now)
       → IsTraced places now (u ++ w) us left
   stands_on places u ts us ahead left w now h one n goes f = record {
     used = let size = h.used in omega (arith, n, size, length-append u w);
@@ -158,23 +168,28 @@ module _ (p : Place) (s : Known) (piece : List ℕ) where
     begins : (ahead : List ℕ) → length ahead ≤ 1 → Continues piece ahead → Continues shown ahead
     begins ahead one (more, c) = begins_front ahead shown d.rest more one (omega (arith, size_shown)) (sym cut_behind ∙ c)
 
-    over_shown : (places : Places) (ts : List Told) (rest : List ℕ) → places ts ≡ p → over places (shown ++ rest) ts s ≡ then_by (comes (takes 2 places d.octet) ts x) (over places rest)
+    over_shown : (places : Places) (ts : List Told) (rest : List ℕ) → places ts ≡ p → over places (shown ++ rest) ts s
+        ≡ then_by (comes (takes 2 places d.octet) ts x) (over places rest)
     over_shown places ts rest place = ap (λ l. over places l ts s) (append_assoc d.before (d.octet ∷ []) rest) ∙ over_end places ts p piece rest s x place d
 
     -- a refusal at the last octet shown
-    refuses : (places : Places) (u : List ℕ) (ts : List Told) (ahead : List ℕ) (r : Refusal) → IsTraced places s u ts ahead → Continues piece ahead → places ts ≡ p → r.offset ≡ d.known.used + 1
-        → comes (takes 2 places d.octet) ts x ≡ Stops ts r → (rest : List ℕ) → trace places (take r.offset (u ++ piece) ++ rest) ≡ record { told = ts; refused = Some r; ends = Err r }
+    refuses : (places : Places) (u : List ℕ) (ts : List Told) (ahead : List ℕ) (r : Refusal) → IsTraced places s u ts ahead → Continues piece ahead
+        → places ts ≡ p → r.offset ≡ d.known.used + 1
+        → comes (takes 2 places d.octet) ts x ≡ Stops ts r → (rest : List ℕ) → trace places (take r.offset (u ++ piece) ++ rest)
+        ≡ record { told = ts; refused = Some r; ends = Err r }
     refuses places u ts ahead r h c place at stops rest =
         let used = h.used in
         let size : r.offset ≡ length (u ++ shown) = omega (arith, at, used, before_used, size_shown, length-append u shown) in
-        let front : take r.offset (u ++ piece) ≡ u ++ shown = front_is (u ++ piece) (u ++ shown) d.rest r.offset (ap (λ l. u ++ l) cut_behind ∙ sym (append_assoc u shown d.rest)) size in
+        let front : take r.offset (u ++ piece) ≡ u ++ shown = front_is (u ++ piece) (u ++ shown) d.rest r.offset
+        (ap (λ l. u ++ l) cut_behind ∙ sym (append_assoc u shown d.rest)) size in
         ap (λ t. traced places t)
         (ap (λ l. over places (l ++ rest) [] initial) front ∙ ap (λ l. over places l [] initial) (append_assoc u shown rest)
         ∙ h.leads (shown ++ rest) (continues_more shown rest ahead (begins ahead h.one c)) ∙ over_shown places ts rest place
         ∙ ap (λ t. then_by t (over places rest)) stops)
 
   -- the same by other names
-  same_stand : (places : Places) (u w left : List ℕ) (told us : List Told) (scan : Stepped) (now t : Known) → take scan.used piece ≡ w → left_by scan piece ≡ left → told ≡ us → now ≡ t
+  same_stand : (places : Places) (u w left : List ℕ) (told us : List Told) (scan : Stepped) (now t : Known) → take scan.used piece ≡ w
+      → left_by scan piece ≡ left → told ≡ us → now ≡ t
       → IsTraced places t (u ++ w) us left → IsTraced places now (u ++ take scan.used piece) told (left_by scan piece)
   same_stand places u w left told us scan now t a b c d h =
       subst (λ x. IsTraced places x (u ++ take scan.used piece) told (left_by scan piece)) (sym d)
@@ -183,7 +198,8 @@ module _ (p : Place) (s : Known) (piece : List ℕ) where
       (subst (λ x. IsTraced places t (u ++ w) us x) (sym b) h)))
 
   -- behind a token that was given
-  given_stands : (places : Places) (u : List ℕ) (ts : List Told) (ahead : List ℕ) (l : Lexeme) (t : Known) (tok : Token) (d : LastOctet p piece s (Given l t)) → IsToken l tok → IsTraced places s u ts ahead
+  given_stands : (places : Places) (u : List ℕ) (ts : List Told) (ahead : List ℕ) (l : Lexeme) (t : Known) (tok : Token) (d : LastOctet p piece s (Given l t))
+      → IsToken l tok → IsTraced places s u ts ahead
       → Continues piece ahead → places ts ≡ p → t.used ≡ d.known.used + 1 → IsTraced places t (u ++ shown (Given l t) d) (ts ++ told_as tok t.used ∷ []) []
   given_stands places u ts ahead l t tok d is h c place one =
       let x = Given l t in
@@ -192,7 +208,8 @@ module _ (p : Place) (s : Known) (piece : List ℕ) where
       (λ rest k. over_shown x d places ts rest place ∙ ap (λ y. then_by y (over places rest)) (judged_so ts l t.used t tok is))
 
   -- and of one before which an octet is left
-  left_stands : (places : Places) (u : List ℕ) (ts : List Told) (ahead : List ℕ) (l : Lexeme) (t : Known) (tok : Token) (d : LastOctet p piece s (Left l t)) → IsToken l tok → IsTraced places s u ts ahead
+  left_stands : (places : Places) (u : List ℕ) (ts : List Told) (ahead : List ℕ) (l : Lexeme) (t : Known) (tok : Token) (d : LastOctet p piece s (Left l t))
+      → IsToken l tok → IsTraced places s u ts ahead
       → Continues piece ahead → places ts ≡ p → t.used ≡ d.known.used → IsTraced places t (u ++ d.before) (ts ++ told_as tok t.used ∷ []) (d.octet ∷ [])
   left_stands places u ts ahead l t tok d is h c place one =
       stands_on places u ts us ahead (d.octet ∷ []) d.before t h (omega arith) (omega (arith, one, before_used (Left l t) d))
@@ -225,7 +242,8 @@ module _ (p : Place) (s : Known) (piece : List ℕ) where
       let all : take scan.used piece ≡ piece = front_is piece piece [] scan.used (sym (append-nil piece)) (omega (arith, used, same, counted)) in
       same_stand places u piece [] (ts ++ told_by scan.token now.used) ts scan now t all
       (ap (λ b. take (deciding 0 b) (drop scan.used piece)) flag) (ap (λ o. ts ++ told_by o now.used) none ∙ append-nil ts) uses.known
-      (stands_on places u ts ts ahead [] piece t h (omega arith) used (λ rest k. continues_more piece rest ahead c) (λ rest k. over_next places ts p piece rest s t place e))
+      (stands_on places u ts ts ahead [] piece t h (omega arith) used (λ rest k. continues_more piece rest ahead c)
+      (λ rest k. over_next places ts p piece rest s t place e))
   step_traced (Given l t) scan now e (uses, gives, flag) = by scan.token refl gives where
     by : (o : Option Token) → scan.token ≡ o → GivesToken l o → AnswersTrace p s piece (Ok scan) now
     by None f g = absurd g
@@ -247,7 +265,8 @@ module _ (p : Place) (s : Known) (piece : List ℕ) where
         let same : now.used ≡ t.used = ap (λ (k : Known). k.used) uses.known in
         let counted = uses.counted in
         let size : scan.used ≡ length d.before = omega (arith, one, before_used (Left l t) d, same, counted) in
-        let back : drop scan.used piece ≡ d.octet ∷ d.rest = ap (λ l. drop scan.used l) d.cut ∙ ap (λ (n : ℕ). drop n (d.before ++ d.octet ∷ d.rest)) size ∙ drop-append_seam d.before (d.octet ∷ d.rest) in
+        let back : drop scan.used piece ≡ d.octet ∷ d.rest = ap (λ l. drop scan.used l) d.cut ∙ ap (λ (n : ℕ). drop n (d.before ++ d.octet ∷ d.rest)) size
+        ∙ drop-append_seam d.before (d.octet ∷ d.rest) in
         same_stand places u d.before (d.octet ∷ []) (ts ++ told_by scan.token now.used) (ts ++ told_as tok t.used ∷ []) scan now t
         (front_is piece d.before (d.octet ∷ d.rest) scan.used d.cut size) (ap (λ b. take (deciding 0 b) (drop scan.used piece)) flag ∙ ap (λ l. take 1 l) back)
         (λ i. ts ++ told_by (f i) (same i)) uses.known (left_stands places u ts ahead l t tok d g h c place one)
@@ -263,7 +282,8 @@ module _ (p : Place) (s : Known) (piece : List ℕ) where
   step_stops (Left l t) r now e a = λ n places u ts ahead h c place.
       let d = last_octet p piece s (Left l t) tt e in
       let one = left_one p d.octet d.known t l d.fed in
-      refuses (Left l t) d places u ts ahead r h c place ((a n).offset ∙ ap (λ (k : ℕ). k + 1) one) (ap (λ y. then_by y (takes 2 places d.octet)) (stopped_so ts l (t.used + 1) t r (a n)))
+      refuses (Left l t) d places u ts ahead r h c place ((a n).offset ∙ ap (λ (k : ℕ). k + 1) one)
+      (ap (λ y. then_by y (takes 2 places d.octet)) (stopped_so ts l (t.used + 1) t r (a n)))
   step_stops (Refused k q) r now e a = λ n places u ts ahead h c place.
       let d = last_octet p piece s (Refused k q) tt e in
       let one = refused_here p d.known d.octet k q d.fed in
@@ -279,10 +299,12 @@ module _ (p : Place) (s : Known) where
   end_traced x r e a = by x r e a where
     ends : (places : Places) (u : List ℕ) (ts : List Told) → IsTraced places s u ts [] → places ts ≡ p → (x : Result (Option Lexeme) Reason) → at_end p s ≡ x
         → trace places u ≡ record { told = ts; refused = None; ends = end_judged s.used x }
-    ends places u ts h place x e = ap (λ t. traced places t) (stands_at places s u ts h) ∙ (λ i. record { told = ts; refused = None; ends = end_judged s.used ((ap (λ q. at_end q s) place ∙ e) i) })
+    ends places u ts h place x e = ap (λ t. traced places t) (stands_at places s u ts h)
+        ∙ (λ i. record { told = ts; refused = None; ends = end_judged s.used ((ap (λ q. at_end q s) place ∙ e) i) })
 
     by : (x : Result (Option Lexeme) Reason) (r : Result (Option Token) Refusal) → at_end p s ≡ x → Ends s.used x r → EndsTrace p s r
-    by (Ok None) (Ok token) e a = λ places u ts h place. ends places u ts h place (Ok None) e ∙ (λ i. record { told = ts; refused = None; ends = Ok (last_of (sym a i) s.used) })
+    by (Ok None) (Ok token) e a = λ places u ts h place. ends places u ts h place (Ok None) e
+        ∙ (λ i. record { told = ts; refused = None; ends = Ok (last_of (sym a i) s.used) })
     by (Ok (Some l)) (Ok None) e a = absurd a
     by (Ok (Some l)) (Ok (Some t)) e a = λ places u ts h place. ends places u ts h place (Ok (Some l)) e
         ∙ (λ i. record { told = ts; refused = None; ends = last_judged l s.used (said_so l t a i) })
@@ -292,7 +314,8 @@ module _ (p : Place) (s : Known) where
     by (Ok (Some l)) (Err r) e a = λ n places u ts h place. ends places u ts h place (Ok (Some l)) e
         ∙ (λ i. record { told = ts; refused = None; ends = last_judged l s.used (refused_so l s.used r (a n) i) })
         ∙ (λ i. record { told = ts; refused = None; ends = Err (record { offset = sym (a n).offset i; reason = r.reason }) })
-    by (Err reason) (Err r) e a = λ n places u ts h place. ends places u ts h place (Err reason) e ∙ (λ i. record { told = ts; refused = None; ends = Err (sym (a n) i) })
+    by (Err reason) (Err r) e a = λ n places u ts h place. ends places u ts h place (Err reason) e
+        ∙ (λ i. record { told = ts; refused = None; ends = Err (sym (a n) i) })
 
 -- before any octet
 pub begins_traced : (places : Places) (s : Known) → s ≡ initial → IsTraced places s [] [] []
@@ -309,10 +332,12 @@ then_same (Stops ts r) f g h = refl
 
 over_append : (places : Places) (xs ys : List ℕ) (ts : List Told) (s : Known) → over places (xs ++ ys) ts s ≡ then_by (over places xs ts s) (over places ys)
 over_append places [] ys ts s = refl
-over_append places (x ∷ xs) ys ts s = then_same (takes 3 places x ts s) _ _ (λ us t. over_append places xs ys us t) ∙ sym (then_then (takes 3 places x ts s) _ _)
+over_append places (x ∷ xs) ys ts s = then_same (takes 3 places x ts s) _ _ (λ us t. over_append places xs ys us t)
+    ∙ sym (then_then (takes 3 places x ts s) _ _)
 
 -- Pieces lead where the whole leads.
-pub pieces_lead : (places : Places) (pieces : List (List ℕ)) (ts : List Told) (s : Known) → over_pieces places pieces ts s ≡ over places (flat_map (λ piece. piece) pieces) ts s
+pub pieces_lead : (places : Places) (pieces : List (List ℕ)) (ts : List Told) (s : Known) → over_pieces places pieces ts s
+    ≡ over places (flat_map (λ piece. piece) pieces) ts s
 pieces_lead places [] ts s = refl
 pieces_lead places (piece ∷ pieces) ts s =
     then_same (over places piece ts s) _ _ (λ us t. pieces_lead places pieces us t) ∙ sym (over_append places piece (flat_map (λ piece. piece) pieces) ts s)
@@ -326,7 +351,8 @@ abbrev known_on : Trail → Known → Known
 known_on (Leads ts s) t = s
 known_on (Stops ts r) t = t
 
-pub traced_alike : (places : Places) (a b : Known) (u : List ℕ) (ts us : List Told) → IsTraced places a u ts [] → IsTraced places b u us [] → (ts ≡ us) × (a ≡ b)
+pub traced_alike : (places : Places) (a b : Known) (u : List ℕ) (ts us : List Told) → IsTraced places a u ts [] → IsTraced places b u us [] → (ts ≡ us)
+    × (a ≡ b)
 traced_alike places a b u ts us h k =
     let same : Leads ts a ≡ Leads us b = sym (stands_at places a u ts h) ∙ stands_at places b u us k in
     (ap told_on same, ap (λ t. known_on t a) same)

@@ -63,7 +63,8 @@ left_there false n k t l x m e = let same : k ≡ t = cc in subst (λ (y : Known
 
 ends_word : (p : Place) (s t : Known) (o : ℕ) (x : Lexeme) (b : Bool) → acts p s o (cond b (add modes.Word o) actions.EndWord) ≡ Left x t → t.mode ≡ modes.Blank
 ends_word p s t o x true e = absurd cc
-ends_word p s t o x false e = left_there ((o == 46) && bytes_eq s.kept (codes "null")) (go_to s modes.KindName []) (past p kinds.Word modes.Blank [] s.used s.used) t (cut s kinds.Word s.kept s.used) x refl e
+ends_word p s t o x false e = left_there ((o == 46) && bytes_eq s.kept (codes "null")) (go_to s modes.KindName [])
+    (past p kinds.Word modes.Blank [] s.used s.used) t (cut s kinds.Word s.kept s.used) x refl e
 
 -- A word that ends before the octet leaves a blank.
 pub word_leaves : (p : Place) (s t : Known) (o : ℕ) (x : Lexeme) → s.mode ≡ modes.Word → feed p s o ≡ Left x t → t.mode ≡ modes.Blank
@@ -113,7 +114,8 @@ acts_leave p s o (actions.Go m k) h = tt
 acts_leave p s o (actions.Give kind k) h = tt
 acts_leave p s o (actions.Before kind k m) h = before_leaves o kind k m h
 acts_leave p s o actions.EndWord h = word ((o == 46) && bytes_eq s.kept (codes "null")) where
-  word : (b : Bool) → LeavesIn o (cond b (Next (go_to s modes.KindName [])) (Left (cut s kinds.Word s.kept s.used) (past p kinds.Word modes.Blank [] s.used s.used)))
+  word : (b : Bool) → LeavesIn o (cond b (Next (go_to s modes.KindName []))
+      (Left (cut s kinds.Word s.kept s.used) (past p kinds.Word modes.Blank [] s.used s.used)))
   word true = tt
   word false = tt
 acts_leave p s o (actions.Split n) h = tt
@@ -125,7 +127,8 @@ pub feed_leaves : (p : Place) (s : Known) (o : ℕ) → LeavesIn o (feed p s o)
 feed_leaves p s o = acts_leave p s o (next p s.colon s.mode o) (table_leaves p s.colon s.mode o)
 
 -- An octet before which a token ended is used next, or ends a word before it and is used then, whatever the places.
-pub used_at_last : (p q r : Place) (s t : Known) (o : ℕ) (x : Lexeme) → feed p s o ≡ Left x t → IsUsed (feed q t o) ⊎ ((y : Lexeme) × (k : Known) × (feed q t o ≡ Left y k) × IsUsed (feed r k o))
+pub used_at_last : (p q r : Place) (s t : Known) (o : ℕ) (x : Lexeme) → feed p s o ≡ Left x t → IsUsed (feed q t o)
+    ⊎ ((y : Lexeme) × (k : Known) × (feed q t o ≡ Left y k) × IsUsed (feed r k o))
 used_at_last p q r s t o x e = by t.mode refl (subst (LeavesIn o) e (feed_leaves p s o)) where
   Last : Type 0
   Last = IsUsed (feed q t o) ⊎ ((y : Lexeme) × (k : Known) × (feed q t o ≡ Left y k) × IsUsed (feed r k o))

@@ -63,8 +63,13 @@ symbols_are (a ∷ b ∷ []) h =
 symbols_are (a ∷ b ∷ c ∷ rest) h =
     let x = h.0 in
     let y = h.1.0 in
-    let z = h.1.1.0 in
-    (symbol_is (a / 4) (omega arith), (symbol_is (a % 4 * 16 + b / 16) (omega arith), (symbol_is (b % 16 * 4 + c / 64) (omega arith), (symbol_is (c % 64) (omega arith), symbols_are rest h.1.1.1))))
+    let z = h.1.1.0 in (
+      symbol_is (a / 4) (omega arith),
+      (
+        symbol_is (a % 4 * 16 + b / 16) (omega arith),
+        (symbol_is (b % 16 * 4 + c / 64) (omega arith), (symbol_is (c % 64) (omega arith), symbols_are rest h.1.1.1)),
+      ),
+    )
 
 pads_are : (n : ℕ) → Each is_base64 (replicate n 61)
 pads_are zero = tt
@@ -72,7 +77,8 @@ pads_are (suc n) = (refl, pads_are n)
 
 -- The base64 of octets is symbols and padding alone.
 pub base64_each : (octets : List ℕ) → AreOctets octets → Each is_base64 (base64_of octets)
-base64_each octets h = each_append is_base64 (encode_symbols alphabet octets) (replicate (padding_len (length octets)) 61) (symbols_are octets h) (pads_are (padding_len (length octets)))
+base64_each octets h = each_append is_base64 (encode_symbols alphabet octets) (replicate (padding_len (length octets)) 61) (symbols_are octets h)
+    (pads_are (padding_len (length octets)))
 
 -- 3. What decodes.
 
@@ -102,13 +108,15 @@ module _ (dec : List ℕ) (table : IsDecodeTable dec) (text : List ℕ) (octets 
       octets_append (groups_bytes dec text q) (group_bytes dec text i) (groups_octets q parts.0)
       (group_octets _ _ _ _ (symbol_small i first.0) (symbol_small (i + 1) second.0) (symbol_small (i + 2) third.0) (symbol_small (i + 3) third.1))
 
-  scan_octets : (pad at : ℕ) (bs : List ℕ) (i : ℕ) (r : _) → AreOctets bs → ((st : _) → r ≡ Ok st → IsLeftover st i) → AreOctets (scan_bytes (scan_steps dec pad at r i bs))
+  scan_octets : (pad at : ℕ) (bs : List ℕ) (i : ℕ) (r : _) → AreOctets bs → ((st : _) → r ≡ Ok st → IsLeftover st i)
+      → AreOctets (scan_bytes (scan_steps dec pad at r i bs))
   unfolding scan_steps
   scan_octets pad at bs i (Err e) small h = tt
   scan_octets pad at [] i (Ok st) small h =
       let left = h st refl in
       octets_take (st.morsels_count * 6 / 8) (decode_group _ _ _ _) (group_octets _ _ _ _ (left.3 0) (left.3 1) (left.3 2) (left.3 3))
-  scan_octets pad at (b ∷ bs) i (Ok st) small h = scan_octets pad at bs (i + 1) (push_leftover dec pad at st i b) small.1 (λ next e. IsLeftover_next dec pad at st i b next table (h st refl) small.0 e)
+  scan_octets pad at (b ∷ bs) i (Ok st) small h = scan_octets pad at bs (i + 1) (push_leftover dec pad at st i b) small.1
+      (λ next e. IsLeftover_next dec pad at st i b next table (h st refl) small.0 e)
 
   zeros_small : (k : ℕ) → slice_index (0 ∷ 0 ∷ 0 ∷ 0 ∷ []) k < 64
   zeros_small zero = omega arith
@@ -132,7 +140,8 @@ module _ (dec : List ℕ) (table : IsDecodeTable dec) (text : List ℕ) (octets 
       let second = none_of_both (groups_error dec text q) (suffix_error dec pad allow mode (4 * q) text) first.1 in
       octets_append (groups_bytes dec text q) (suffix_bytes dec pad (4 * q) text) (groups_octets q second.0) (suffix_octets pad (4 * q))
 
-outcome_octets : (error : Option DecodeError) (bytes octets : List ℕ) → (error ≡ None → AreOctets bytes) → result_ok (decode_outcome error bytes) ≡ Some octets → AreOctets octets
+outcome_octets : (error : Option DecodeError) (bytes octets : List ℕ) → (error ≡ None → AreOctets bytes) → result_ok (decode_outcome error bytes) ≡ Some octets
+    → AreOctets octets
 outcome_octets None bytes octets h e = let same : bytes ≡ octets = cc in subst AreOctets same (h refl)
 outcome_octets (Some x) bytes octets h e = cc
 
@@ -141,5 +150,7 @@ pub blob_octets : (text octets : List ℕ) → AreOctets text → blob_of text �
 unfolding blob_of decoded_of
 blob_octets text octets h e =
     outcome_octets _ _ octets
-    (bytes_octets standard.decode_table (IsDecodeTable_from standard.encode_table standard.decode_table (are_tables_inverse standard.encode_table standard.decode_table standard.padding.value standard.tables)) text h standard.padding.value standard.config.decode_allow_trailing_bits standard.config.decode_padding_mode)
+    (bytes_octets standard.decode_table (IsDecodeTable_from standard.encode_table standard.decode_table
+    (are_tables_inverse standard.encode_table standard.decode_table standard.padding.value standard.tables)) text h standard.padding.value
+    standard.config.decode_allow_trailing_bits standard.config.decode_padding_mode)
     e

@@ -70,7 +70,8 @@ acts_follow p s o (actions.Before kind k n) h =
     or_not false c h e = not_true c h
 acts_follow p s o actions.EndWord h = word ((o == 46) && bytes_eq s.kept (codes "null"))
   where
-    word : (b : Bool) → Follows p s.mode (cond b (Next (go_to s modes.KindName [])) (Left (cut s kinds.Word s.kept s.used) (past p kinds.Word modes.Blank [] s.used s.used)))
+    word : (b : Bool) → Follows p s.mode (cond b (Next (go_to s modes.KindName []))
+        (Left (cut s kinds.Word s.kept s.used) (past p kinds.Word modes.Blank [] s.used s.used)))
     word true = (refl, (λ e. refl), (λ e f. refl))
     word false = ((λ e. refl), (λ e. refl))
 acts_follow p s o (actions.Split n) h = let x = and_parts _ _ h in ((λ e. let never : true ≡ false = sym x.0 ∙ e in absurd cc), (λ e. refl))

@@ -51,10 +51,14 @@ digits_numeric base (c ∷ d ∷ os) b (h, inr mark) = (from_value base c b h, (
 whole_numeric : (os : List ℕ) → IsWholePart os → Each is_numeric_octet os
 whole_numeric os h = digits_numeric 10 os (omega arith) (whole_digits os h)
 
-radix_numeric : (base lower upper : ℕ) (os : List ℕ) (n : ℕ) → base ≤ 16 → is_numeric_octet lower ≡ true → is_numeric_octet upper ≡ true → IsRadix base lower upper os n → Each is_numeric_octet os
+radix_numeric : (base lower upper : ℕ) (os : List ℕ) (n : ℕ) → base ≤ 16 → is_numeric_octet lower ≡ true → is_numeric_octet upper ≡ true
+    → IsRadix base lower upper os n → Each is_numeric_octet os
 radix_numeric base lower upper [] n b l u h = absurd h
 radix_numeric base lower upper (c ∷ []) n b l u h = absurd h
-radix_numeric base lower upper (c ∷ x ∷ os) n b l u h = (same_octet c 48 refl h.0, (⊎_elim (same_octet x lower l) (same_octet x upper u) h.1, digits_numeric base os b h.2))
+radix_numeric base lower upper (c ∷ x ∷ os) n b l u h = (
+  same_octet c 48 refl h.0,
+  (⊎_elim (same_octet x lower l) (same_octet x upper u) h.1, digits_numeric base os b h.2),
+)
 
 magnitude_numeric : (os : List ℕ) (n : ℕ) → IsMagnitude os n → Each is_numeric_octet os
 magnitude_numeric os n (inl h) = whole_numeric os h.0
@@ -81,10 +85,11 @@ end_numeric os float below n (inl h) = subst (Each is_numeric_octet) (sym h.0) t
 end_numeric os float below n (inr h) = exponent_numeric os float below n h
 
 fraction_numeric : (os digits : List ℕ) (float below : Bool) (n : ℕ) → IsFraction os digits float below n → Each is_numeric_octet os
-fraction_numeric os digits float below n h = subst (Each is_numeric_octet) (sym h.cut) (each_append is_numeric_octet digits h.rest (some digits h.digits) (end_numeric h.rest float below n h.exponent)) where
-  some : (digits : List ℕ) → (digits ≡ []) ⊎ IsDigits 10 digits → Each is_numeric_octet digits
-  some digits (inl e) = subst (Each is_numeric_octet) (sym e) tt
-  some digits (inr h) = digits_numeric 10 digits (omega arith) h
+fraction_numeric os digits float below n h = subst (Each is_numeric_octet) (sym h.cut)
+    (each_append is_numeric_octet digits h.rest (some digits h.digits) (end_numeric h.rest float below n h.exponent)) where
+      some : (digits : List ℕ) → (digits ≡ []) ⊎ IsDigits 10 digits → Each is_numeric_octet digits
+      some digits (inl e) = subst (Each is_numeric_octet) (sym e) tt
+      some digits (inr h) = digits_numeric 10 digits (omega arith) h
 
 tail_numeric : (os digits : List ℕ) (float below : Bool) (n : ℕ) → IsTail os digits float below n → Each is_numeric_octet os
 tail_numeric [] digits float below n h = absurd h
@@ -92,7 +97,8 @@ tail_numeric (c ∷ os) digits float below n (inl h) = (same_octet c 46 refl h.0
 tail_numeric (c ∷ os) digits float below n (inr h) = exponent_numeric (c ∷ os) float below n h.1
 
 decimal_numeric : (os : List ℕ) (m : ℕ) (e : ℤ) → IsDecimalBody false os m e → Each is_numeric_octet os
-decimal_numeric os m e h = subst (Each is_numeric_octet) (sym h.octets) (each_append is_numeric_octet h.whole h.tail (whole_numeric h.whole h.is_whole) (tail_numeric h.tail h.fraction false h.below h.written h.is_tail))
+decimal_numeric os m e h = subst (Each is_numeric_octet) (sym h.octets)
+    (each_append is_numeric_octet h.whole h.tail (whole_numeric h.whole h.is_whole) (tail_numeric h.tail h.fraction false h.below h.written h.is_tail))
 
 -- what stands behind a sign begins with a digit
 value_digit : (c : ℕ) → digit_value c < 10 → is_digit c ≡ true
@@ -132,7 +138,8 @@ numeral_run : (token : List ℕ) (x : Number) → IsNumeral token x → IsNumeri
 numeral_run token x h = subst IsNumericRun (sym h.octets) (by x h.is) where
   by : (x : Number) → IsBehind h.negative h.body x → IsNumericRun (minus h.negative ++ h.body)
   by (numbers.Int z) (n, m, e) = behind_sign h.negative h.body (magnitude_begins h.body n m) (magnitude_numeric h.body n m)
-  by (numbers.Decimal d) (s, b) = behind_sign h.negative h.body (decimal_begins h.body d.magnitude d.exponent b) (decimal_numeric h.body d.magnitude d.exponent b)
+  by (numbers.Decimal d) (s, b) = behind_sign h.negative h.body (decimal_begins h.body d.magnitude d.exponent b)
+      (decimal_numeric h.body d.magnitude d.exponent b)
   by (numbers.Timestamp t) b = absurd b
 
 -- timestamps: octets that may stand in a numeric token up to a place, and from there to the next
@@ -140,10 +147,12 @@ abbrev front : List ℕ → ℕ → Type 0
 front os at = Each is_numeric_octet (take at os)
 
 one_more : (os : List ℕ) (at c : ℕ) → is_numeric_octet c ≡ true → IsAt os at c → front os at → front os (at + 1)
-one_more os at c h k f = subst (Each is_numeric_octet) (sym (take_more os at 0 k.0)) (each_last is_numeric_octet (take at os) (get_or os at 0) f (same_octet (get_or os at 0) c h k.1))
+one_more os at c h k f = subst (Each is_numeric_octet) (sym (take_more os at 0 k.0))
+    (each_last is_numeric_octet (take at os) (get_or os at 0) f (same_octet (get_or os at 0) c h k.1))
 
 digit_more : (os : List ℕ) (at : ℕ) → IsDigitAt os at → front os at → front os (at + 1)
-digit_more os at k f = subst (Each is_numeric_octet) (sym (take_more os at 0 k.0)) (each_last is_numeric_octet (take at os) (get_or os at 0) f (from_digit (get_or os at 0) k.1 k.2))
+digit_more os at k f = subst (Each is_numeric_octet) (sym (take_more os at 0 k.0))
+    (each_last is_numeric_octet (take at os) (get_or os at 0) f (from_digit (get_or os at 0) k.1 k.2))
 
 two_more : (os : List ℕ) (at : ℕ) → AreTwoAt os at → front os at → front os (at + 1 + 1)
 two_more os at k f = digit_more os (at + 1) k.1 (digit_more os at k.0 f)
@@ -174,7 +183,8 @@ offset_numeric os (inr h) = front_all os 6 h.0 (two_more os 4 h.4 (one_more os 3
   sign (inr k) = one_more os 0 45 refl k tt
 
 fraction_end_numeric : (os digits rest : List ℕ) → IsFractionEnd os digits rest → Each is_numeric_octet os
-fraction_end_numeric os digits rest h = subst (Each is_numeric_octet) (sym h.cut) (each_append is_numeric_octet digits rest (digits_numeric 10 digits (omega arith) h.plain.0) (offset_numeric rest h.offset))
+fraction_end_numeric os digits rest h = subst (Each is_numeric_octet) (sym h.cut)
+    (each_append is_numeric_octet digits rest (digits_numeric 10 digits (omega arith) h.plain.0) (offset_numeric rest h.offset))
 
 day_numeric : (os : List ℕ) → IsDay os → Each is_numeric_octet os
 day_numeric os (h, inl e) = front_all os 10 e (day_front os h)
@@ -186,7 +196,8 @@ timestamp_numeric os t (month h) = front_all os 8 h.0 (one_more os 7 84 refl h.2
 timestamp_numeric os t (day h) = day_numeric os h
 timestamp_numeric os t (minute h k) = front_then os 16 (minute_front os h) (offset_numeric (drop 16 os) k)
 timestamp_numeric os t (second h k) = front_then os 19 (second_front os h) (offset_numeric (drop 19 os) k)
-timestamp_numeric os t (fraction h k digits rest e) = front_then os 20 (one_more os 19 46 refl k (second_front os h)) (fraction_end_numeric (drop 20 os) digits rest e)
+timestamp_numeric os t (fraction h k digits rest e) = front_then os 20 (one_more os 19 46 refl k (second_front os h))
+    (fraction_end_numeric (drop 20 os) digits rest e)
 
 place_begins : (os : List ℕ) → IsDigitAt os 0 → begins_number os ≡ true
 place_begins [] h = absurd (omega (arith, h.0))

@@ -12,11 +12,13 @@ use Rattle.ion_tokens.specs.machine.Scanned.{Scanned, Continues, ShowsBegun}
 
 -- The octets used begin with the tokens told, each at its span, with blanks alone between them, however they go on.
 abbrev pub TellsRightly : Type 0
-TellsRightly = (p : Place) (s : Known) (u : List ℕ) (ts : List Placed) (ahead : List ℕ) → Scanned p s u ts ahead → (rest : List ℕ) → Continues rest ahead → BeginsLexed false 0 (u ++ rest) ts
+TellsRightly = (p : Place) (s : Known) (u : List ℕ) (ts : List Placed) (ahead : List ℕ) → Scanned p s u ts ahead → (rest : List ℕ) → Continues rest ahead
+    → BeginsLexed false 0 (u ++ rest) ts
 
 -- None but the tokens told has ended whatever octets follow.
 abbrev pub ToldAll : Type 0
-ToldAll = (p : Place) (s : Known) (u : List ℕ) (ts : List Placed) → Scanned p s u ts [] → (t : Placed) → t.place ≡ p → ((rest : List ℕ) → AreOctets rest → BeginsLexed false 0 (u ++ rest) (ts ++ t ∷ [])) → ⊥
+ToldAll = (p : Place) (s : Known) (u : List ℕ) (ts : List Placed) → Scanned p s u ts [] → (t : Placed) → t.place ≡ p
+    → ((rest : List ℕ) → AreOctets rest → BeginsLexed false 0 (u ++ rest) (ts ++ t ∷ [])) → ⊥
 
 -- Where a document goes on so, one answer alone shows what has begun.
 abbrev pub OneBegun : Type 0

@@ -151,7 +151,8 @@ lobs_rest [] us h = h
 lobs_rest (t ∷ ts) us h = lobs_rest ts us h.1
 
 -- The lobs among the tokens of octets have octets, whatever is left.
-pub lexes_lobs : (rest : Bool → ℕ → List ℕ → Type 0) (colon : Bool) (before : ℕ) (octets : List ℕ) (ts : List Placed) → LexesBefore rest colon before octets ts → AreLobsKept ts
+pub lexes_lobs : (rest : Bool → ℕ → List ℕ → Type 0) (colon : Bool) (before : ℕ) (octets : List ℕ) (ts : List Placed) → LexesBefore rest colon before octets ts
+    → AreLobsKept ts
 lexes_lobs rest colon before octets [] h = tt
 lexes_lobs rest colon before octets (t ∷ ts) (others, is, h) =
     (lexeme_kept t.place colon is.token others t.lexeme.kind t.lexeme.octets is.is, lexes_lobs rest (colon_behind t) t.lexeme.end others ts h)

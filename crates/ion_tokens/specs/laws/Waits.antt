@@ -13,22 +13,26 @@ use Rattle.ion_tokens.specs.machine.Scanning.{Known, Outcome, Next, Given, Left,
 use Rattle.ion_tokens.specs.Lexemes.{Lexeme, is_segment}
 
 -- a token that has begun is no mark, but for an open brace
-pub never_mark : (os : List ℕ) (p : Place) (s t : Known) (x : Lexeme) → is_sane s.mode ≡ true → is_idle s.mode ≡ false → run p os s ≡ Given x t → is_mark x.kind ≡ false
+pub never_mark : (os : List ℕ) (p : Place) (s t : Known) (x : Lexeme) → is_sane s.mode ≡ true → is_idle s.mode ≡ false → run p os s ≡ Given x t
+    → is_mark x.kind ≡ false
 never_mark [] p s t x n i e = absurd cc
 never_mark (o ∷ os) p s t x n i e = go (feed p s o) (feed_follows p s o n) (λ k. never_mark os p k t x) e
   where
-    go : (y : Outcome) → Follows p s.mode y → ((k : Known) → is_sane k.mode ≡ true → is_idle k.mode ≡ false → run p os k ≡ Given x t → is_mark x.kind ≡ false) → follow y (λ k. run p os k) ≡ Given x t → is_mark x.kind ≡ false
+    go : (y : Outcome) → Follows p s.mode y → ((k : Known) → is_sane k.mode ≡ true → is_idle k.mode ≡ false → run p os k ≡ Given x t → is_mark x.kind ≡ false)
+        → follow y (λ k. run p os k) ≡ Given x t → is_mark x.kind ≡ false
     go (Next k) f rest e = rest k f.0 (f.1 i) e
     go (Given l k) f rest e = let same : l ≡ x = cc in subst (λ (y : Lexeme). is_mark y.kind ≡ false) same (f.0 i)
     go (Left l k) f rest e = absurd cc
     go (Refused m r) f rest e = absurd cc
 
 -- a token that has begun and is no quote is no segment
-pub never_segment : (os : List ℕ) (p : Place) (s t : Known) (x : Lexeme) → is_sane s.mode ≡ true → is_idle s.mode ≡ false → is_quoting s.mode ≡ false → run p os s ≡ Given x t → is_segment x.kind ≡ false
+pub never_segment : (os : List ℕ) (p : Place) (s t : Known) (x : Lexeme) → is_sane s.mode ≡ true → is_idle s.mode ≡ false → is_quoting s.mode ≡ false
+    → run p os s ≡ Given x t → is_segment x.kind ≡ false
 never_segment [] p s t x n i q e = absurd cc
 never_segment (o ∷ os) p s t x n i q e = go (feed p s o) (feed_follows p s o n) (λ k. never_segment os p k t x) e
   where
-    go : (y : Outcome) → Follows p s.mode y → ((k : Known) → is_sane k.mode ≡ true → is_idle k.mode ≡ false → is_quoting k.mode ≡ false → run p os k ≡ Given x t → is_segment x.kind ≡ false) → follow y (λ k. run p os k) ≡ Given x t → is_segment x.kind ≡ false
+    go : (y : Outcome) → Follows p s.mode y → ((k : Known) → is_sane k.mode ≡ true → is_idle k.mode ≡ false → is_quoting k.mode ≡ false → run p os k ≡ Given x t
+        → is_segment x.kind ≡ false) → follow y (λ k. run p os k) ≡ Given x t → is_segment x.kind ≡ false
     go (Next k) f rest e = rest k f.0 (f.1 i) (f.2 i q) e
     go (Given l k) f rest e = let same : l ≡ x = cc in subst (λ (y : Lexeme). is_segment y.kind ≡ false) same (f.1 i q)
     go (Left l k) f rest e = absurd cc
@@ -55,7 +59,8 @@ marks_colons kinds.Clob h = absurd cc
 marks_colons kinds.Blob h = absurd cc
 
 -- a symbol waits over the octets of `::`
-pub colons_wait : (os : List ℕ) (p : Place) (s t : Known) (x : Lexeme) → is_sane s.mode ≡ true → run p os s ≡ Given x t → is_colons x.kind ≡ true → AtEach symbol_waits p os s
+pub colons_wait : (os : List ℕ) (p : Place) (s t : Known) (x : Lexeme) → is_sane s.mode ≡ true → run p os s ≡ Given x t → is_colons x.kind ≡ true
+    → AtEach symbol_waits p os s
 colons_wait [] p s t x n e k = tt
 colons_wait (o ∷ os) p s t x n e k = go (feed p s o) (feed_follows p s o n) (λ y. colons_wait os p y t x) e
   where
@@ -63,7 +68,8 @@ colons_wait (o ∷ os) p s t x n e k = go (feed p s o) (feed_follows p s o n) (�
     idle y true i m e = refl
     idle y false i m e = let a = never_mark os p y t x m i e in let b = marks_colons x.kind k in let never : true ≡ false = sym b ∙ a in absurd cc
 
-    go : (y : Outcome) → Follows p s.mode y → ((z : Known) → is_sane z.mode ≡ true → run p os z ≡ Given x t → is_colons x.kind ≡ true → AtEach symbol_waits p os z) → follow y (λ z. run p os z) ≡ Given x t
+    go : (y : Outcome) → Follows p s.mode y → ((z : Known) → is_sane z.mode ≡ true → run p os z ≡ Given x t → is_colons x.kind ≡ true
+        → AtEach symbol_waits p os z) → follow y (λ z. run p os z) ≡ Given x t
         → (symbol_waits y ≡ true) × OnNext y (λ z. AtEach symbol_waits p os z)
     go (Next z) f rest e = (idle z (is_idle z.mode) refl f.0 e, rest z f.0 e k)
     go (Given y z) f rest e = let same : y ≡ x = cc in (subst (λ (w : Lexeme). is_colons w.kind ≡ true) (sym same) k, tt)
@@ -71,7 +77,8 @@ colons_wait (o ∷ os) p s t x n e k = go (feed p s o) (feed_follows p s o n) (�
     go (Refused m r) f rest e = absurd cc
 
 -- a long string waits over the octets of its next segment, whether `''` counts for one or not
-pub segment_waits : (quotes : Bool) (os : List ℕ) (p : Place) (s t : Known) (x : Lexeme) → is_sane s.mode ≡ true → run p os s ≡ Given x t → is_segment x.kind ≡ true → AtEach (long_waits quotes) p os s
+pub segment_waits : (quotes : Bool) (os : List ℕ) (p : Place) (s t : Known) (x : Lexeme) → is_sane s.mode ≡ true → run p os s ≡ Given x t
+    → is_segment x.kind ≡ true → AtEach (long_waits quotes) p os s
 segment_waits quotes [] p s t x n e k = tt
 segment_waits quotes (o ∷ os) p s t x n e k = go (feed p s o) (feed_follows p s o n) (λ y. segment_waits quotes os p y t x) e
   where
@@ -80,7 +87,8 @@ segment_waits quotes (o ∷ os) p s t x n e k = go (feed p s o) (feed_follows p 
     open' y false true i q m e = refl
     open' y false false i q m e = let a = never_segment os p y t x m i q e in let never : true ≡ false = sym k ∙ a in absurd cc
 
-    go : (y : Outcome) → Follows p s.mode y → ((z : Known) → is_sane z.mode ≡ true → run p os z ≡ Given x t → is_segment x.kind ≡ true → AtEach (long_waits quotes) p os z) → follow y (λ z. run p os z) ≡ Given x t
+    go : (y : Outcome) → Follows p s.mode y → ((z : Known) → is_sane z.mode ≡ true → run p os z ≡ Given x t → is_segment x.kind ≡ true
+        → AtEach (long_waits quotes) p os z) → follow y (λ z. run p os z) ≡ Given x t
         → (long_waits quotes y ≡ true) × OnNext y (λ z. AtEach (long_waits quotes) p os z)
     go (Next z) f rest e = (open' z (is_idle z.mode) (is_quoting z.mode) refl refl f.0 e, rest z f.0 e k)
     go (Given y z) f rest e = let same : y ≡ x = cc in (subst (λ (w : Lexeme). is_segment w.kind ≡ true) (sym same) k, tt)

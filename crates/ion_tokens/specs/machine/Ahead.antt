@@ -52,7 +52,8 @@ is_sane _ = true
 -- What comes of an octet: a token that has begun isn't forgotten; a segment of a long string comes of what may be one; marks of one
 -- octet, and colons, come where none has begun; and but in s-expressions none is open behind a token that was left.
 abbrev pub Follows : Place → Mode → Outcome → Type 0
-Follows p m (Next s) = (is_sane s.mode ≡ true) × (is_idle m ≡ false → is_idle s.mode ≡ false) × (is_idle m ≡ false → is_quoting m ≡ false → is_quoting s.mode ≡ false)
+Follows p m (Next s) = (is_sane s.mode ≡ true) × (is_idle m ≡ false → is_idle s.mode ≡ false)
+    × (is_idle m ≡ false → is_quoting m ≡ false → is_quoting s.mode ≡ false)
 Follows p m (Given l s) = (is_idle m ≡ false → is_mark l.kind ≡ false) × (is_idle m ≡ false → is_quoting m ≡ false → is_segment l.kind ≡ false)
 Follows p m (Left l s) = (is_sexp p ≡ false → is_idle s.mode ≡ true) × (is_idle m ≡ false → is_closing l.kind ≡ false)
 Follows p m (Refused n e) = Unit {0}

@@ -49,7 +49,8 @@ AllSay ts = AllByRecursion (λ (t : Placed). (c : Content) × IsBody t.lexeme.ki
 pub record Tells (p : Place) (u piece : List ℕ) (ts : List Placed) (scan : Stepped) (t : Token) (now : Known) : Type 0 where
   pub lexeme : Lexeme
   pub is : IsToken lexeme t
-  pub longest : (rest : List ℕ) (others : List Placed) → LooksIn p others → Lexes false 0 ((u ++ take (deciding scan.used scan.left) piece) ++ rest) (ts ++ others) → IsNext lexeme others
+  pub longest : (rest : List ℕ) (others : List Placed) → LooksIn p others
+      → Lexes false 0 ((u ++ take (deciding scan.used scan.left) piece) ++ rest) (ts ++ others) → IsNext lexeme others
   pub ahead : List ℕ
   pub left : deciding scan.used scan.left ≡ scan.used + length ahead
   pub again : Continues (drop scan.used piece) ahead
@@ -62,7 +63,8 @@ GoesWith p u piece ts scan now (Some t) = Tells p u piece ts scan t now
 
 -- what a step did that went from one state of knowledge to the other, behind all octets and tokens told that led to the first
 abbrev pub Goes : Place → Known → List ℕ → Stepped → Known → Type 0
-Goes p s piece scan now = (u : List ℕ) (ts : List Placed) (ahead : List ℕ) → Scanned p s u ts ahead → Continues piece ahead → GoesWith p u piece ts scan now scan.token
+Goes p s piece scan now = (u : List ℕ) (ts : List Placed) (ahead : List ℕ) → Scanned p s u ts ahead → Continues piece ahead
+    → GoesWith p u piece ts scan now scan.token
 
 -- No document begins with these octets and these tokens and goes on with one that is looked for in this place.
 abbrev pub NoDocument : Place → List ℕ → List Placed → Type 0
@@ -70,7 +72,8 @@ NoDocument p octets ts = (rest : List ℕ) (others : List Placed) → LooksIn p 
 
 -- So where a step refused a piece at this offset, with the octets up to it.
 abbrev pub RefusesAt : Place → Known → List ℕ → ℕ → Type 0
-RefusesAt p s piece offset = (u : List ℕ) (ts : List Placed) (ahead : List ℕ) → Scanned p s u ts ahead → Continues piece ahead → NoDocument p (take offset (u ++ piece)) ts
+RefusesAt p s piece offset = (u : List ℕ) (ts : List Placed) (ahead : List ℕ) → Scanned p s u ts ahead → Continues piece ahead
+    → NoDocument p (take offset (u ++ piece)) ts
 
 -- at the end the octets are the tokens told, with blanks between, and a last one if one is told
 abbrev pub EndsSo : Place → List ℕ → List Placed → Option Token → Type 0

@@ -5,7 +5,8 @@ use Rattle.ion_scalar.specs.binary.VarEnds.{groups_more, seven_bits_octet, too_l
 use Rattle.ion_scalar.proofs.fields.read_rest.Goals as goal
 
 -- the value with one octet more
-more : (front : ℕ) (os : List ℕ) (i : ℕ) → i < length os → get_or os i 0 < 256 → groups front (take (i + 1) os) ≡ groups front (take i os) * 128 + get_or os i 0 % 128
+more : (front : ℕ) (os : List ℕ) (i : ℕ) → i < length os → get_or os i 0 < 256 → groups front (take (i + 1) os)
+    ≡ groups front (take i os) * 128 + get_or os i 0 % 128
 more front os i h octet = rw (← seven_bits_octet (get_or os i 0) octet) (groups_more front os i h)
 
 pub returns-then-value : goal.returns-then-value
@@ -30,6 +31,7 @@ loop-i-preserved c =
 pub returns : goal.returns
 returns c =
     let e : c.loop-i.i ≡ length c.args.octets.now = omega arith in
-    let all : groups c.args.front (take c.loop-i.i c.args.octets.now) ≡ groups c.args.front c.args.octets.now = ap (groups c.args.front) (take_all c.loop-i.i c.args.octets.now (omega arith)) in
+    let all : groups c.args.front (take c.loop-i.i c.args.octets.now) ≡ groups c.args.front c.args.octets.now =
+    ap (groups c.args.front) (take_all c.loop-i.i c.args.octets.now (omega arith)) in
     let before : (k : ℕ) → k < length c.args.octets.now → get_or c.args.octets.now k 0 < 128 = λ k h. c.loop-i.invariant.before k (omega arith) in
     sym (no_end c.args.front c.args.used c.args.octets.now before (omega arith))

@@ -10,7 +10,8 @@ returns-in-Some c =
     let body = c.args.body.now in
     let digits : IsDigits c.args.base (drop 2 body) = rw (take_rest body 2) at (c.in-Some.ensures.digits.0 refl) in
     int_answer c.args.negative body (number c.args.base (drop 2 body)) c.in-Some.digits.value c.int_number.result
-    (base_magnitude c.args.base body c.requires digits) (c.in-Some.ensures.value ∙ (rw (take_rest body 2) (ap (λ (v : ℕ). min v (2 ^ 127)) (continued_none c.args.base (drop 2 body)))))
+    (base_magnitude c.args.base body c.requires digits) (c.in-Some.ensures.value
+    ∙ (rw (take_rest body 2) (ap (λ (v : ℕ). min v (2 ^ 127)) (continued_none c.args.base (drop 2 body)))))
     c.int_number.ensures.ok c.int_number.ensures.err
 
 pub returns-in-None : goal.returns-in-None

@@ -18,15 +18,18 @@ pub returns-in-None : goal.returns-in-None
 returns-in-None c =
     let body = c.args.body.now in
     let within = c.in-Some.ensures.within in
-    no_plain_tail c.args.negative body c.in-Some.whole.used c.requires (omega (arith, c.if-whole-body.false)) c.in-Some.ensures.only (rw (take_rest body c.in-Some.whole.used) at c.in-None.ensures.none)
+    no_plain_tail c.args.negative body c.in-Some.whole.used c.requires (omega (arith, c.if-whole-body.false)) c.in-Some.ensures.only
+    (rw (take_rest body c.in-Some.whole.used) at c.in-None.ensures.none)
 
 pub returns-in-Some-tail_of : goal.returns-in-Some-tail_of
 returns-in-Some-tail_of c =
     let body = c.args.body.now in
-    float_body body c.in-Some.whole.used c.in-Some.whole.value c.in-Some-tail_of.tail c.in-Some.ensures.whole (rw (take_rest body c.in-Some.whole.used) at c.in-Some-tail_of.ensures.some) c.if-tail.true
+    float_body body c.in-Some.whole.used c.in-Some.whole.value c.in-Some-tail_of.tail c.in-Some.ensures.whole
+    (rw (take_rest body c.in-Some.whole.used) at c.in-Some-tail_of.ensures.some) c.if-tail.true
 
 pub returns-in-Some-2 : goal.returns-in-Some-2
 returns-in-Some-2 c =
     let body = c.args.body.now in
-    decimal_answer c.args.negative body c.in-Some.whole.used c.in-Some.whole.value c.in-Some-tail_of.tail c.decimal_number.result c.in-Some.ensures.whole c.in-Some.ensures.value
+    decimal_answer c.args.negative body c.in-Some.whole.used c.in-Some.whole.value c.in-Some-tail_of.tail c.decimal_number.result c.in-Some.ensures.whole
+    c.in-Some.ensures.value
     (rw (take_rest body c.in-Some.whole.used) at c.in-Some-tail_of.ensures.some) c.if-tail.false c.decimal_number.ensures.ok c.decimal_number.ensures.err

@@ -16,7 +16,8 @@ pub returns-then-not-has_day-clause-value : goal.returns-then-not-has_day-clause
 returns-then-not-has_day-clause-value c =
     let last = month_length c.args.year c.args.month in
     elim (cases_lt last c.in_ok-day.day) [
-      | inl more ↦ sym (day_beyond last (month_most c.args.year c.args.month) c.args.octets.now (c.in_ok-day.day, c.in_ok-day.used) (sym c.in_ok-day.ensures.value) more)
+      | inl more ↦ sym (day_beyond last (month_most c.args.year c.args.month) c.args.octets.now (c.in_ok-day.day, c.in_ok-day.used)
+          (sym c.in_ok-day.ensures.value) more)
       | inr within ↦ absurd (let some = c.if-not-has_day.ensures.1 (c.in_ok-day.ensures.range.0, within) in cc)
     ]
 

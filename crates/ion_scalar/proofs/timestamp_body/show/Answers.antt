@@ -10,7 +10,8 @@ use Rattle.ion_scalar.proofs.timestamp_body.show.Goals as goal
 pub returns-in_default : goal.returns-in_default
 returns-in_default c =
     let fits : FitsSigned w16 c.ahead_of_utc.result = near_fits c.ahead_of_utc.result c.ahead_of_utc.ensures.near in
-    let by : c.ahead_of_utc.result ≡ minutes_ahead (kept_offset c.args.utc.precision c.args.offset) = c.ahead_of_utc.ensures.value ∙ ap minutes_ahead c.offset_at-offset.ensures.value in
+    let by : c.ahead_of_utc.result ≡ minutes_ahead (kept_offset c.args.utc.precision c.args.offset) =
+    c.ahead_of_utc.ensures.value ∙ ap minutes_ahead c.offset_at-offset.ensures.value in
     let some = simp to_z-of_z at c.in_default.ensures.some in
     sym (shown_none c.args.utc c.requires.utc c.args.offset c.requires.offset
     (λ w. false≢true (some.1 (subst (λ z. InYears (pos (minute_number c.args.utc.minute) +ℤ z)) (sym by) w))))
@@ -18,7 +19,8 @@ returns-in_default c =
 pub of_parts-requires : goal.of_parts-requires
 of_parts-requires c =
     let fits : FitsSigned w16 c.ahead_of_utc.result = near_fits c.ahead_of_utc.result c.ahead_of_utc.ensures.near in
-    let by : c.ahead_of_utc.result ≡ minutes_ahead (kept_offset c.args.utc.precision c.args.offset) = c.ahead_of_utc.ensures.value ∙ ap minutes_ahead c.offset_at-offset.ensures.value in
+    let by : c.ahead_of_utc.result ≡ minutes_ahead (kept_offset c.args.utc.precision c.args.offset) =
+    c.ahead_of_utc.ensures.value ∙ ap minutes_ahead c.offset_at-offset.ensures.value in
     let m = simp to_z-of_z at c.in-Some.ensures.value in
     let number = m.1 ∙ ap (λ z. pos (minute_number c.args.utc.minute) +ℤ z) by in
     rw (c.local_of.ensures, c.offset_at-offset.ensures.value)
@@ -27,7 +29,8 @@ of_parts-requires c =
 pub returns : goal.returns
 returns c =
     let fits : FitsSigned w16 c.ahead_of_utc.result = near_fits c.ahead_of_utc.result c.ahead_of_utc.ensures.near in
-    let by : c.ahead_of_utc.result ≡ minutes_ahead (kept_offset c.args.utc.precision c.args.offset) = c.ahead_of_utc.ensures.value ∙ ap minutes_ahead c.offset_at-offset.ensures.value in
+    let by : c.ahead_of_utc.result ≡ minutes_ahead (kept_offset c.args.utc.precision c.args.offset) =
+    c.ahead_of_utc.ensures.value ∙ ap minutes_ahead c.offset_at-offset.ensures.value in
     let m = simp to_z-of_z at c.in-Some.ensures.value in
     let number = m.1 ∙ ap (λ z. pos (minute_number c.args.utc.minute) +ℤ z) by in
     let here = shown_some c.args.utc c.requires.utc c.args.offset c.requires.offset c.in-Some.minute m.0 number in

@@ -19,7 +19,13 @@ returns-clause-value c =
     let m = simp to_z-of_z at c.in-Some.ensures.value in
     let n = rw (c.local-local.ensures.value, by) at m in
     let found = moved_found (local_minute t.local) c.in-Some.minute (neg_ℤ (minutes_ahead t.offset)) (local_minute-is t is) (near_utc t is) n.0 n.1 in
-    λ i. record { minute = found i; second = (c.local-local.ensures.value i).second; fraction = (c.local-local.ensures.value i).fraction; precision = c.precision.ensures i }
+    λ i. record {
+      minute = found i;
+      second = (c.local-local.ensures.value i).second;
+      fraction =
+          (c.local-local.ensures.value i).fraction;
+      precision = c.precision.ensures i;
+    }
 
 pub returns-clause-small : goal.returns-clause-small
 returns-clause-small c = rw (c.local-local.ensures.value) (fraction_small c.args.timestamp c.local-local.ensures.kept)

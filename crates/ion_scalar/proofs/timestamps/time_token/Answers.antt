@@ -12,7 +12,8 @@ returns-then-not-is_at-clause-some c =
 pub returns-then-not-is_at-clause-none : goal.returns-then-not-is_at-clause-none
 returns-then-not-is_at-clause-none c =
     let os = c.args.token.now in
-    none_some c.with_offset.result _ _ _ (rw (take_rest os 16) at c.with_offset.ensures) (λ n b. no_minute os b (λ is. false≢true (c.if-not-is_at.ensures.1 is)) n)
+    none_some c.with_offset.result _ _ _ (rw (take_rest os 16) at c.with_offset.ensures)
+    (λ n b. no_minute os b (λ is. false≢true (c.if-not-is_at.ensures.1 is)) n)
 
 pub returns-in_default-two_at-clause-none : goal.returns-in_default-two_at-clause-none
 returns-in_default-two_at-clause-none c =
@@ -34,10 +35,12 @@ returns-then-not-is_at-2-clause-none c =
 pub returns-clause-some : goal.returns-clause-some
 returns-clause-some c =
     let os = c.args.token.now in
-    fraction_some os _ c.with_fraction.result c.in-Some.ensures.0 (c.if-not-is_at.ensures.0 refl) c.in-Some-two_at.ensures.value.0 (c.if-not-is_at-2.ensures.0 refl)
+    fraction_some os _ c.with_fraction.result c.in-Some.ensures.0 (c.if-not-is_at.ensures.0 refl) c.in-Some-two_at.ensures.value.0
+    (c.if-not-is_at-2.ensures.0 refl)
     (λ i. record (c.in-Some.ensures.1 i) { second = c.in-Some-two_at.ensures.value.1 i }) (rw (take_rest os 20) at c.with_fraction.ensures.some)
 
 pub returns-clause-none : goal.returns-clause-none
 returns-clause-none c =
     let os = c.args.token.now in
-    none_map c.with_fraction.result _ _ (rw (take_rest os 20) at c.with_fraction.ensures.none) (λ n b. no_fraction_end os b (c.if-not-is_at.ensures.0 refl) (c.if-not-is_at-2.ensures.0 refl) n)
+    none_map c.with_fraction.result _ _ (rw (take_rest os 20) at c.with_fraction.ensures.none)
+    (λ n b. no_fraction_end os b (c.if-not-is_at.ensures.0 refl) (c.if-not-is_at-2.ensures.0 refl) n)

@@ -32,7 +32,8 @@ either : {A : Type 0} (P : A → Type 0) (b : Bool) (x y : A) → P x → P y �
 either P true x y p q = p
 either P false x y p q = q
 
-and_then_judges : {X : Type 0} (octets : List ℕ) (judge : ℕ → List ℕ → Result X Reason) (r : Result (ℕ × ℕ) Reason) → JudgesBody r → ((n : ℕ) (rest : List ℕ) → JudgesBody (judge n rest)) → JudgesBody (and_then octets judge r)
+and_then_judges : {X : Type 0} (octets : List ℕ) (judge : ℕ → List ℕ → Result X Reason) (r : Result (ℕ × ℕ) Reason) → JudgesBody r
+    → ((n : ℕ) (rest : List ℕ) → JudgesBody (judge n rest)) → JudgesBody (and_then octets judge r)
 and_then_judges octets judge (Ok read) p q = q read.0 (drop read.1 octets)
 and_then_judges octets judge (Err e) p q = p
 
@@ -47,7 +48,8 @@ field_judges least most octets = range_judges least most (var_uint octets)
 
 digits_judge : (digits : ℕ) (minute : Minute) (second : ℕ) (octets : List ℕ) → JudgesBody (read_digits digits minute second octets)
 digits_judge digits minute second octets =
-    either (JudgesBody {X = Utc}) (int_negative octets && nat_lt 0 (int_magnitude octets)) _ _ tt (either (JudgesBody {X = Utc}) (nat_lt (int_magnitude octets) (10 ^ digits)) _ _ tt tt)
+    either (JudgesBody {X = Utc}) (int_negative octets && nat_lt 0 (int_magnitude octets)) _ _ tt
+    (either (JudgesBody {X = Utc}) (nat_lt (int_magnitude octets) (10 ^ digits)) _ _ tt tt)
 
 no_digits_judge : (minute : Minute) (second : ℕ) (octets : List ℕ) → JudgesBody (read_no_digits minute second octets)
 no_digits_judge minute second octets = either (JudgesBody {X = Utc}) (nat_lt 0 (int_magnitude octets)) _ _ tt tt
@@ -73,27 +75,32 @@ second_judges minute second (octet ∷ rest) = power_judges minute second (octet
 minute_judges : (minute : Minute) (octets : List ℕ) → JudgesBody (read_behind_minute minute octets)
 unfolding read_behind_minute
 minute_judges minute [] = tt
-minute_judges minute (octet ∷ rest) = and_then_judges (octet ∷ rest) (read_behind_second minute) (read_field 0 59 (octet ∷ rest)) (field_judges 0 59 (octet ∷ rest)) (second_judges minute)
+minute_judges minute (octet ∷ rest) = and_then_judges (octet ∷ rest) (read_behind_second minute) (read_field 0 59 (octet ∷ rest))
+    (field_judges 0 59 (octet ∷ rest)) (second_judges minute)
 
 hour_judges : (date : Date) (hour : ℕ) (octets : List ℕ) → JudgesBody (read_behind_hour date hour octets)
 unfolding read_behind_hour
-hour_judges date hour octets = and_then_judges octets (λ minute. read_behind_minute (minute_of date hour minute)) (read_field 0 59 octets) (field_judges 0 59 octets) (λ minute. minute_judges (minute_of date hour minute))
+hour_judges date hour octets = and_then_judges octets (λ minute. read_behind_minute (minute_of date hour minute)) (read_field 0 59 octets)
+    (field_judges 0 59 octets) (λ minute. minute_judges (minute_of date hour minute))
 
 day_judges : (date : Date) (octets : List ℕ) → JudgesBody (read_behind_day date octets)
 unfolding read_behind_day
 day_judges date [] = tt
-day_judges date (octet ∷ rest) = and_then_judges (octet ∷ rest) (read_behind_hour date) (read_field 0 23 (octet ∷ rest)) (field_judges 0 23 (octet ∷ rest)) (hour_judges date)
+day_judges date (octet ∷ rest) = and_then_judges (octet ∷ rest) (read_behind_hour date) (read_field 0 23 (octet ∷ rest)) (field_judges 0 23 (octet ∷ rest))
+    (hour_judges date)
 
 month_judges : (year month : ℕ) (octets : List ℕ) → JudgesBody (read_behind_month year month octets)
 unfolding read_behind_month
 month_judges year month [] = tt
 month_judges year month (octet ∷ rest) =
-    and_then_judges (octet ∷ rest) (λ day. read_behind_day (day_of year month day)) (read_field 1 (month_length year month) (octet ∷ rest)) (field_judges 1 (month_length year month) (octet ∷ rest)) (λ day. day_judges (day_of year month day))
+    and_then_judges (octet ∷ rest) (λ day. read_behind_day (day_of year month day)) (read_field 1 (month_length year month) (octet ∷ rest))
+    (field_judges 1 (month_length year month) (octet ∷ rest)) (λ day. day_judges (day_of year month day))
 
 year_judges : (year : ℕ) (octets : List ℕ) → JudgesBody (read_behind_year year octets)
 unfolding read_behind_year
 year_judges year [] = tt
-year_judges year (octet ∷ rest) = and_then_judges (octet ∷ rest) (read_behind_month year) (read_field 1 12 (octet ∷ rest)) (field_judges 1 12 (octet ∷ rest)) (month_judges year)
+year_judges year (octet ∷ rest) = and_then_judges (octet ∷ rest) (read_behind_month year) (read_field 1 12 (octet ∷ rest)) (field_judges 1 12 (octet ∷ rest))
+    (month_judges year)
 
 fields_judge : (octets : List ℕ) → JudgesBody (read_fields octets)
 unfolding read_fields

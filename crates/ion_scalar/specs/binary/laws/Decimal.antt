@@ -57,21 +57,25 @@ unfolding decimal_of_body
 nothing = refl
 
 -- a body with an exponent is judged by it and by the rest
-parts_judged : (body : List ℕ) (d : DecimalParts) (is : IsDecimalParts body d) → decimal_of_body body ≡ with_coefficient (signed_of is.below is.written) is.coefficient
+parts_judged : (body : List ℕ) (d : DecimalParts) (is : IsDecimalParts body d)
+    → decimal_of_body body ≡ with_coefficient (signed_of is.below is.written) is.coefficient
 parts_judged body d is =
     let whole = begins_so (is.power ++ is.coefficient) (not_empty is.power is.coefficient is.below is.written is.is_power) in
     let power = var_int_read is.power is.coefficient is.below is.written is.is_power in
-    let judged : with_exponent (is.power ++ is.coefficient) (var_int (is.power ++ is.coefficient)) ≡ with_coefficient (signed_of is.below is.written) is.coefficient =
+    let judged : with_exponent (is.power ++ is.coefficient) (var_int (is.power ++ is.coefficient))
+    ≡ with_coefficient (signed_of is.below is.written) is.coefficient =
     ap (with_exponent (is.power ++ is.coefficient)) power ∙ rw (drop-append_seam is.power is.coefficient) refl in
     ap decimal_of_body is.octets ∙ (whole ∙ judged)
 
-parts_read : (body : List ℕ) (negative : Bool) (m : ℕ) (e : ℤ) → IsDecimalField body (decimal_with negative m e) → IsDecimal (decimal_with negative m e) → decimal_of_body body ≡ Ok (decimal_with negative m e)
+parts_read : (body : List ℕ) (negative : Bool) (m : ℕ) (e : ℤ) → IsDecimalField body (decimal_with negative m e) → IsDecimal (decimal_with negative m e)
+    → decimal_of_body body ≡ Ok (decimal_with negative m e)
 parts_read body negative m e (inl d) k = rw (d.0, d.1, d.2, d.3) nothing
 parts_read body negative m e (inr d) k =
     let at_most : InRange e = (k.1, k.2) in
     let range : InRange (signed d.below d.written) = rw d.exponent at at_most in
     let few : int_magnitude d.coefficient < 2 ^ 127 = rw d.magnitude at k.0 in
-    let read : with_coefficient (signed_of d.below d.written) d.coefficient ≡ Ok (decimal_with (int_negative d.coefficient) (int_magnitude d.coefficient) (signed d.below d.written)) =
+    let read : with_coefficient (signed_of d.below d.written) d.coefficient
+    ≡ Ok (decimal_with (int_negative d.coefficient) (int_magnitude d.coefficient) (signed d.below d.written)) =
     rw (fits d.below d.written range, lt-ltb (int_magnitude d.coefficient) (2 ^ 127) few) refl in
     rw (d.sign, d.magnitude, d.exponent) (parts_judged body _ d ∙ read)
 
@@ -147,7 +151,8 @@ power_small : (e : ℤ) → InRange e → unsigned_abs e < 2 ^ 63
 power_small (pos k) h = omega (arith, ints)
 power_small (negsuc k) h = omega (arith, ints)
 
-spelled : (negative : Bool) (m : ℕ) (e : ℤ) → InRange e → IsDecimalField (var_int_octets (int_lt e (pos 0)) (unsigned_abs e) ++ int_octets negative m) (decimal_with negative m e)
+spelled : (negative : Bool) (m : ℕ) (e : ℤ) → InRange e → IsDecimalField (var_int_octets (int_lt e (pos 0)) (unsigned_abs e) ++ int_octets negative m)
+    (decimal_with negative m e)
 spelled negative m e h =
     let int = int_parts negative m in
     inr (record {
@@ -173,7 +178,8 @@ zero_is false m e h =
     (refl, eqb-true m 0 parts.0, (Decides-int_eq e (pos 0)).0 parts.1)
 
 -- one of the two spellings
-chosen : (b : Bool) (negative : Bool) (m : ℕ) (e : ℤ) → (b ≡ true → (negative ≡ false) × (m ≡ 0) × (e ≡ pos 0)) → InRange e → IsDecimalField (cond b [] (var_int_octets (int_lt e (pos 0)) (unsigned_abs e) ++ int_octets negative m)) (decimal_with negative m e)
+chosen : (b : Bool) (negative : Bool) (m : ℕ) (e : ℤ) → (b ≡ true → (negative ≡ false) × (m ≡ 0) × (e ≡ pos 0)) → InRange e
+    → IsDecimalField (cond b [] (var_int_octets (int_lt e (pos 0)) (unsigned_abs e) ++ int_octets negative m)) (decimal_with negative m e)
 chosen true negative m e zero_is h = let z = zero_is refl in inl (refl, z.0, z.1, z.2)
 chosen false negative m e zero_is h = spelled negative m e h
 

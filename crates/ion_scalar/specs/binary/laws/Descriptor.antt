@@ -26,7 +26,11 @@ table = record {
   null = refl;
   truth_false = refl;
   truth_true = refl;
-  no_truth = λ length h k. row 1 length (omega arith) ∙ rw (ne_eqb length 15 (λ e. omega arith), ne_eqb length 0 (λ e. omega arith), ne_eqb length 1 (λ e. omega arith)) refl;
+  no_truth = λ length h k. row 1 length (omega arith) ∙ rw (
+    ne_eqb length 15 (λ e. omega arith),
+    ne_eqb length 0 (λ e. omega arith),
+    ne_eqb length 1 (λ e. omega arith),
+  ) refl;
   null_bool = refl;
   int = has_body 2 (λ _. refl);
   null_int = refl;
@@ -35,7 +39,8 @@ table = record {
   float_none = refl;
   float_four = refl;
   float_eight = refl;
-  no_float = λ length h a b c. row 4 length (omega arith) ∙ rw (ne_eqb length 15 (λ e. omega arith), ne_eqb length 0 a, ne_eqb length 4 b, ne_eqb length 8 c) refl;
+  no_float = λ length h a b c. row 4 length (omega arith) ∙ rw (ne_eqb length 15 (λ e. omega arith), ne_eqb length 0 a, ne_eqb length 4 b, ne_eqb length 8 c)
+      refl;
   null_float = refl;
   decimal = has_body 5 (λ _. refl);
   null_decimal = refl;
@@ -55,13 +60,23 @@ table = record {
   null_sexp = refl;
   struct_empty = refl;
   struct_ordered = refl;
-  struct = λ length h k. row 13 length (omega arith) ∙ rw (ne_eqb length 15 (λ e. omega arith), ne_eqb length 1 (λ e. omega arith), ne_eqb length 14 (λ e. omega arith)) refl;
+  struct = λ length h k. row 13 length (omega arith) ∙ rw (
+    ne_eqb length 15 (λ e. omega arith),
+    ne_eqb length 1 (λ e. omega arith),
+    ne_eqb length 14 (λ e. omega arith),
+  ) refl;
   long_struct = refl;
   null_struct = refl;
   marker = refl;
   short_wrapper_one = refl;
   short_wrapper_two = refl;
-  wrapper = λ length h k. row 14 length (omega arith) ∙ rw (ne_eqb length 0 (λ e. omega arith), ne_eqb length 1 (λ e. omega arith), ne_eqb length 2 (λ e. omega arith), ne_eqb length 15 (λ e. omega arith), ne_eqb length 14 (λ e. omega arith)) refl;
+  wrapper = λ length h k. row 14 length (omega arith) ∙ rw (
+    ne_eqb length 0 (λ e. omega arith),
+    ne_eqb length 1 (λ e. omega arith),
+    ne_eqb length 2 (λ e. omega arith),
+    ne_eqb length 15 (λ e. omega arith),
+    ne_eqb length 14 (λ e. omega arith),
+  ) refl;
   long_wrapper = refl;
   null_wrapper = refl;
   none = λ length h. row 15 length h;

@@ -27,7 +27,8 @@ fewest_digits : (base : ℕ) (ds : List ℕ) → 2 ≤ base → AreBelow base ds
 fewest_digits base ds b all = length-digits_of-le base (length ds) (positional base ds) b (positional_below base ds all)
 
 -- a first digit that needs the sign's bit leaves one digit fewer behind it
-signed_length : (base bit k n : ℕ) (ds : List ℕ) (negative : Bool) → 2 ≤ base → length ds ≤ suc k → positional base ds ≡ n → n < bit * base ^ k → length (signed_digits bit negative ds) ≤ suc k
+signed_length : (base bit k n : ℕ) (ds : List ℕ) (negative : Bool) → 2 ≤ base → length ds ≤ suc k → positional base ds ≡ n → n < bit * base ^ k
+    → length (signed_digits bit negative ds) ≤ suc k
 signed_length base bit k n [] negative b size value bound = omega arith
 signed_length base bit k n (d ∷ ds) negative b size value bound =
     elim (cases_lt d bit) [
@@ -42,7 +43,8 @@ signed_length base bit k n (d ∷ ds) negative b size value bound =
       ])
     ]
 
-signed_fewest : (base bit first : ℕ) (rest : List ℕ) (negative : Bool) → 2 ≤ base → first < bit → bit ≤ base → AreBelow base rest → length (signed_digits bit negative (digits_of base (positional base (first ∷ rest)))) ≤ suc (length rest)
+signed_fewest : (base bit first : ℕ) (rest : List ℕ) (negative : Bool) → 2 ≤ base → first < bit → bit ≤ base → AreBelow base rest
+    → length (signed_digits bit negative (digits_of base (positional base (first ∷ rest)))) ≤ suc (length rest)
 signed_fewest base bit first rest negative b free room all =
     let n = positional base (first ∷ rest) in
     let below = positional_below base rest all in
@@ -78,7 +80,8 @@ six_below octet h =
       | inr high ↦ rw (le-leb 64 (seven_bits octet) high) (omega arith)
     ]
 
-var_int_size : (negative : Bool) (n k : ℕ) → 1 ≤ k → length (signed_digits 64 negative (digits_of 128 (n / 128)) ++ (128 + n % 128) ∷ []) ≤ k → length (var_int_octets negative n) ≤ k
+var_int_size : (negative : Bool) (n k : ℕ) → 1 ≤ k → length (signed_digits 64 negative (digits_of 128 (n / 128)) ++ (128 + n % 128) ∷ []) ≤ k
+    → length (var_int_octets negative n) ≤ k
 var_int_size negative n k one h =
     elim (cases_lt n 64) [
       | inl small ↦ rw (lt-ltb n 64 small) one
@@ -99,7 +102,8 @@ var_int_fewest _ _ _ octets (long octet digits last low s bound) =
     let fewest = signed_fewest 128 64 (six_bits octet) digits negative (omega arith) (six_below octet seven) (omega arith) (digits_below digits s) in
     let size = length-append digits ((128 + last) ∷ []) in
     let written = length-append (signed_digits 64 negative (digits_of 128 (n / 128))) ((128 + n % 128) ∷ []) in
-    var_int_size negative n (suc (length (digits ++ (128 + last) ∷ []))) (omega arith) (omega (arith, ap (λ m. length (signed_digits 64 negative (digits_of 128 m))) front))
+    var_int_size negative n (suc (length (digits ++ (128 + last) ∷ []))) (omega arith)
+    (omega (arith, ap (λ m. length (signed_digits 64 negative (digits_of 128 m))) front))
 
 pub uint_fewest : (w : List ℕ) → AreBelow 256 w → length (uint_octets (positional 256 w)) ≤ length w
 uint_fewest w octets = fewest_digits 256 w (omega arith) octets

@@ -39,7 +39,8 @@ seven_bits_push : (ds : List ℕ) (octet : ℕ) → Digits128 ds → map seven_b
 seven_bits_push ds octet s = rw (map-append seven_bits ds (octet ∷ []), digits_seven ds s) refl
 
 -- digits and an octet that ends are read back, whatever follows
-pub rest_read : (front used : ℕ) (digits : List ℕ) (last : ℕ) (rest : List ℕ) → Digits128 digits → positional 128 (front ∷ digits ++ last ∷ []) < 2 ^ 63 → var_rest front used (digits ++ (128 + last) ∷ rest) ≡ Ok (positional 128 (front ∷ digits ++ last ∷ []), used + length digits + 1)
+pub rest_read : (front used : ℕ) (digits : List ℕ) (last : ℕ) (rest : List ℕ) → Digits128 digits → positional 128 (front ∷ digits ++ last ∷ []) < 2 ^ 63
+    → var_rest front used (digits ++ (128 + last) ∷ rest) ≡ Ok (positional 128 (front ∷ digits ++ last ∷ []), used + length digits + 1)
 rest_read front used digits last rest s bound =
     let i = length digits in
     let os = digits ++ (128 + last) ∷ rest in
@@ -61,7 +62,8 @@ rest_reaches front used os r =
     let on : GoOn whole i = λ k h. rw (get_or-append r.digits (r.octet ∷ r.rest) 0 k h) (digits_below r.digits r.small k h) in
     let within : i < length whole = omega (arith, length-append r.digits (r.octet ∷ r.rest)) in
     let cut : take (i + 1) whole ≡ r.digits ++ r.octet ∷ [] = rw (take_more whole i 0 within, here, take-append_seam r.digits (r.octet ∷ r.rest)) refl in
-    let value : groups front (take (i + 1) whole) ≡ positional 128 (front ∷ r.digits ++ seven_bits r.octet ∷ []) = rw (cut, seven_bits_push r.digits r.octet r.small) refl in
+    let value : groups front (take (i + 1) whole) ≡ positional 128 (front ∷ r.digits ++ seven_bits r.octet ∷ []) =
+    rw (cut, seven_bits_push r.digits r.octet r.small) refl in
     subst (λ (xs : List ℕ). var_rest front used xs ≡ Err TooLarge) (sym r.cut) (too_large_at front used whole i within on (rw value r.large))
 
 -- digits that stay below 2^63, and that no octet ends, are the beginning of a number
@@ -107,7 +109,8 @@ module _ (front : ℕ) (os : List ℕ) where
     large = rw (groups_at i h on) at big;
   }
 
-  ended_at : (i : ℕ) → i < length os → GoOn os i → 128 ≤ get_or os i 0 → groups front (take (i + 1) os) < 2 ^ 63 → Ended front os (groups front (take (i + 1) os)) (i + 1)
+  ended_at : (i : ℕ) → i < length os → GoOn os i → 128 ≤ get_or os i 0 → groups front (take (i + 1) os) < 2 ^ 63
+      → Ended front os (groups front (take (i + 1) os)) (i + 1)
   ended_at i h on here small =
       let last = get_or os i 0 - 128 in
       let octet : get_or os i 0 ≡ 128 + last = omega arith in
@@ -156,7 +159,8 @@ rest_answers front used os bound =
     let p = position_or_len is_last os in
     elim (cases_lt p (length os)) [
       | inl lt ↦ elim (cases_lt (groups front (up_to_last os)) (2 ^ 63)) [
-        | inl small ↦ rw (lt-leb (2 ^ 63) (groups front (up_to_last os)) small, lt-ltb p (length os) lt) (p + 1, omega arith, ended_at front os p lt (go_on os) (leb-true 128 _ (passes_at_first is_last os 0 lt)) small)
+        | inl small ↦ rw (lt-leb (2 ^ 63) (groups front (up_to_last os)) small, lt-ltb p (length os) lt)
+            (p + 1, omega arith, ended_at front os p lt (go_on os) (leb-true 128 _ (passes_at_first is_last os 0 lt)) small)
         | inr big ↦ rw (le-leb (2 ^ 63) (groups front (up_to_last os)) big) (reaches_at front os p lt (go_on os) big)
       ]
       | inr le ↦

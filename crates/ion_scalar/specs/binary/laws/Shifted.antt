@@ -107,7 +107,8 @@ module _ (d : Date) (h : IsDate d) where
         ]
       where
         previous_high : (previous_day d).year ≤ 9999
-        previous_high = high_of _ _ _ h.year.1 (high_of _ (day_of d.year (d.month - 1) (month_length d.year (d.month - 1))) (day_of (d.year - 1) 12 31) h.year.1 (omega (arith, h.year)))
+        previous_high = high_of _ _ _ h.year.1 (high_of _ (day_of d.year (d.month - 1) (month_length d.year (d.month - 1))) (day_of (d.year - 1) 12 31) h.year.1
+            (omega (arith, h.year)))
 
 abs_is : (z : ℤ) → pos 0 ≤ℤ z → pos (unsigned_abs z) ≡ z
 abs_is (pos k) h = refl
@@ -143,17 +144,20 @@ module _ (m : Minute) (by : ℤ) (h : IsMinute m) (o : IsOffset by) where
       let high = at_high m.date h.date count bound (omega (arith, ints, count_is, within.1)) in
       rw moved_at (low, high)
 
-pub moved_is : (m : Minute) (by : ℤ) → IsMinute m → IsOffset by → InYears (pos (minute_number m) +ℤ by) → IsMinute (moved m by) × (pos (minute_number (moved m by)) ≡ pos (minute_number m) +ℤ by)
+pub moved_is : (m : Minute) (by : ℤ) → IsMinute m → IsOffset by → InYears (pos (minute_number m) +ℤ by) → IsMinute (moved m by)
+    × (pos (minute_number (moved m by)) ≡ pos (minute_number m) +ℤ by)
 moved_is m by h o within =
     let years = in_years m by h o within in
     (moved_minute m by h o years.0 years.1, moved_number m by h o)
 
-pub moved_out : (m : Minute) (by : ℤ) → IsMinute m → IsOffset by → 1 ≤ (moved m by).date.year → (moved m by).date.year ≤ 9999 → InYears (pos (minute_number m) +ℤ by)
+pub moved_out : (m : Minute) (by : ℤ) → IsMinute m → IsOffset by → 1 ≤ (moved m by).date.year → (moved m by).date.year ≤ 9999
+    → InYears (pos (minute_number m) +ℤ by)
 moved_out m by h o low high =
     let is = moved_minute m by h o low high in
     rw (moved_number m by h o) at (minute-in_years (moved m by) is)
 
-pub moved_years : (m : Minute) (by : ℤ) → IsMinute m → IsOffset by → InYears (pos (minute_number m) +ℤ by) → (1 ≤ (moved m by).date.year) × ((moved m by).date.year ≤ 9999)
+pub moved_years : (m : Minute) (by : ℤ) → IsMinute m → IsOffset by → InYears (pos (minute_number m) +ℤ by) → (1 ≤ (moved m by).date.year)
+    × ((moved m by).date.year ≤ 9999)
 moved_years m by h o within = in_years m by h o within
 
 -- the minute of that number is the one

@@ -61,7 +61,8 @@ has_offset (precisions.Fraction digits) None h = tt
 has_offset (precisions.Fraction digits) (Some z) h = h
 
 -- moving the minute leaves the fields cut
-pub cut_kept : (p : Precision) (offset : Option ℤ) (l k : Local) → IsCut p l → k.second ≡ l.second → k.fraction ≡ l.fraction → (kept_offset p offset ≡ None → k ≡ l) → IsCut p k
+pub cut_kept : (p : Precision) (offset : Option ℤ) (l k : Local) → IsCut p l → k.second ≡ l.second → k.fraction ≡ l.fraction
+    → (kept_offset p offset ≡ None → k ≡ l) → IsCut p k
 cut_kept precisions.Year offset l k cut second fraction same = subst (IsCut precisions.Year) (sym (same refl)) cut
 cut_kept precisions.Month offset l k cut second fraction same = subst (IsCut precisions.Month) (sym (same refl)) cut
 cut_kept precisions.Day offset l k cut second fraction same = subst (IsCut precisions.Day) (sym (same refl)) cut
@@ -198,16 +199,27 @@ module _ (body : List ℕ) (t : TimestampParts) where
   timestamp_told e = offset_on (var_int body) (var_int_answers body) e
 
 -- fields that are shown as a timestamp of that instant
-shown_so : (t : TimestampParts) (utc : Utc) (offset : Option ℤ) → IsUtc utc → IfSome offset IsOffset → IsTimestamp t → t.precision ≡ utc.precision → t.offset ≡ kept_offset utc.precision offset
+shown_so : (t : TimestampParts) (utc : Utc) (offset : Option ℤ) → IsUtc utc → IfSome offset IsOffset → IsTimestamp t → t.precision ≡ utc.precision
+    → t.offset ≡ kept_offset utc.precision offset
     → instant t ≡ record { minute = pos (minute_number utc.minute); second = utc.second; fraction = utc.fraction } → shown offset utc ≡ Ok t
 shown_so t utc offset u o is precision same at =
     let m = local_minute t.local in
     let ahead : minutes_ahead t.offset ≡ minutes_ahead (kept_offset utc.precision offset) = ap minutes_ahead same in
     let utc_is : utc_minute t ≡ pos (minute_number utc.minute) = ap (λ x. x.minute) at in
-    let number : pos (minute_number m) ≡ pos (minute_number utc.minute) +ℤ minutes_ahead (kept_offset utc.precision offset) = omega (arith, ints, ahead, utc_is) in
+    let number : pos (minute_number m) ≡ pos (minute_number utc.minute) +ℤ minutes_ahead (kept_offset utc.precision offset) =
+    omega (arith, ints, ahead, utc_is) in
     let l = t.local in
     let whole : parts utc u offset o m ≡ t = λ i. record {
-      local = record { year = l.year; month = l.month; day = l.day; hour = l.hour; minute = l.minute; second = (sym at i).second; fraction = (sym at i).fraction };
+      local = record {
+        year = l.year;
+        month = l.month;
+        day = l.day;
+        hour = l.hour;
+        minute = l.minute;
+        second =
+            (sym at i).second;
+        fraction = (sym at i).fraction;
+      };
       precision = sym precision i;
       offset = sym same i;
     } in
@@ -220,5 +232,10 @@ timestamp_read body t b =
     let offset = offset_from b.below b.minutes in
     let so = shown_so t b.utc offset (fields_are b.fields b.utc b.are_fields) (near_from b.below b.minutes b.range) b.is b.precision b.offset b.at in
     let here : P (b.ahead ++ b.fields) =
-    rw (var_int_read b.ahead b.fields b.below b.minutes b.is_ahead, le-leb b.minutes 1439 b.range, drop-append_seam b.ahead b.fields, fields_read b.utc b.fields b.are_fields) so in
+    rw (
+      var_int_read b.ahead b.fields b.below b.minutes b.is_ahead,
+      le-leb b.minutes 1439 b.range,
+      drop-append_seam b.ahead b.fields,
+      fields_read b.utc b.fields b.are_fields,
+    ) so in
     subst P (sym b.cut) here

@@ -72,7 +72,8 @@ int_first false d h =
     let low = lt-leb 128 (0 + d) (omega arith) in
     (low, rw low (omega arith))
 
-int_signed : (negative : Bool) (ds : List ℕ) → (int_negative (signed_digits 128 negative ds) ≡ negative) × (int_magnitude (signed_digits 128 negative ds) ≡ positional 256 ds)
+int_signed : (negative : Bool) (ds : List ℕ) → (int_negative (signed_digits 128 negative ds) ≡ negative)
+    × (int_magnitude (signed_digits 128 negative ds) ≡ positional 256 ds)
 int_signed true [] = (refl, refl)
 int_signed false [] = (refl, refl)
 int_signed negative (d ∷ ds) =
@@ -118,7 +119,8 @@ var_first false d h =
     let low' = lt-leb 64 (0 + d) (omega arith) in
     (rw low low', rw (low, low') (omega arith))
 
-long_as : (octet : ℕ) (digits : List ℕ) (last : ℕ) (negative : Bool) (n : ℕ) → octet < 128 → Digits128 digits → is_negative octet ≡ negative → n ≡ positional 128 (six_bits octet ∷ digits ++ last ∷ []) → n < 2 ^ 63 → VarInt (octet ∷ digits ++ (128 + last) ∷ []) negative n
+long_as : (octet : ℕ) (digits : List ℕ) (last : ℕ) (negative : Bool) (n : ℕ) → octet < 128 → Digits128 digits → is_negative octet ≡ negative
+    → n ≡ positional 128 (six_bits octet ∷ digits ++ last ∷ []) → n < 2 ^ 63 → VarInt (octet ∷ digits ++ (128 + last) ∷ []) negative n
 long_as octet digits last negative n low s sign value bound =
     rw (← sign, value) (long octet digits last low s (rw value at bound))
 
@@ -131,26 +133,30 @@ sign_small : (negative : Bool) → sign_bit 64 negative ≤ 64
 sign_small true = omega arith
 sign_small false = omega arith
 
-var_int_signed : (negative : Bool) (ds : List ℕ) (last n : ℕ) → Digits128 ds → n ≡ positional 128 (ds ++ last ∷ []) → n < 2 ^ 63 → VarInt (signed_digits 64 negative ds ++ (128 + last) ∷ []) negative n
+var_int_signed : (negative : Bool) (ds : List ℕ) (last n : ℕ) → Digits128 ds → n ≡ positional 128 (ds ++ last ∷ []) → n < 2 ^ 63
+    → VarInt (signed_digits 64 negative ds ++ (128 + last) ∷ []) negative n
 var_int_signed true [] last n s value bound = long_as 64 [] last true n (omega arith) none refl (value ∙ omega arith) bound
 var_int_signed false [] last n s value bound = long_as 0 [] last false n (omega arith) none refl (value ∙ omega arith) bound
 var_int_signed negative (d ∷ ds) last n s value bound =
     elim (cases_lt d 64) [
       | inl free ↦
           let f = var_first negative d free in
-          rw (lt-ltb d 64 free) (long_as (sign_bit 64 negative + d) ds last negative n (omega (arith, sign_small negative)) (digits_tail d ds s) f.0 (rw f.1 value) bound)
+          rw (lt-ltb d 64 free) (long_as (sign_bit 64 negative + d) ds last negative n (omega (arith, sign_small negative)) (digits_tail d ds s) f.0
+          (rw f.1 value) bound)
       | inr taken ↦
           let f = var_first negative 0 (omega arith) in
           let zero_bits : sign_bit 64 negative + 0 ≡ sign_bit 64 negative = omega arith in
           let f' = rw zero_bits at f in
-          rw (le-ltb d 64 taken) (long_as (sign_bit 64 negative) (d ∷ ds) last negative n (omega (arith, sign_small negative)) s f'.0 (rw f'.1 (value ∙ omega arith)) bound)
+          rw (le-ltb d 64 taken) (long_as (sign_bit 64 negative) (d ∷ ds) last negative n (omega (arith, sign_small negative)) s f'.0
+          (rw f'.1 (value ∙ omega arith)) bound)
     ]
 
 short_as : (octet : ℕ) (negative : Bool) (n : ℕ) → 128 ≤ octet → (is_negative octet ≡ negative) × (six_bits octet ≡ n) → VarInt (octet ∷ []) negative n
 short_as octet negative n high f = rw (← f.0, ← f.1) (short octet high)
 
 -- the only octet of a VarInt, by what it is without its highest bit
-only : (negative : Bool) (d : ℕ) → (is_negative (sign_bit 64 negative + d) ≡ negative) × (six_bits (sign_bit 64 negative + d) ≡ d) → sign_bit 64 negative + d < 128 → VarInt ((128 + (sign_bit 64 negative + d)) ∷ []) negative d
+only : (negative : Bool) (d : ℕ) → (is_negative (sign_bit 64 negative + d) ≡ negative) × (six_bits (sign_bit 64 negative + d) ≡ d)
+    → sign_bit 64 negative + d < 128 → VarInt ((128 + (sign_bit 64 negative + d)) ∷ []) negative d
 only negative d f low =
     let b = sign_bit 64 negative + d in
     let high = le-leb 128 (128 + b) (omega arith) in
@@ -167,5 +173,6 @@ var_int_spelled negative n bound =
       | inr large ↦ rw (le-ltb n 64 large) (var_int_signed negative (digits_of 128 (n / 128)) (n % 128) n (digits_are (n / 128)) (sym (last_digit n)) bound)
     ]
 
-pub var_int_again : (negative : Bool) (n : ℕ) (rest : List ℕ) → n < 2 ^ 63 → var_int (var_int_octets negative n ++ rest) ≡ Ok (signed_of negative n, length (var_int_octets negative n))
+pub var_int_again : (negative : Bool) (n : ℕ) (rest : List ℕ) → n < 2 ^ 63 → var_int (var_int_octets negative n ++ rest)
+    ≡ Ok (signed_of negative n, length (var_int_octets negative n))
 var_int_again negative n rest bound = var_int_read (var_int_octets negative n) rest negative n (var_int_spelled negative n bound)

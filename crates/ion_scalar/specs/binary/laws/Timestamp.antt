@@ -33,7 +33,8 @@ pub record Told (least most : ℕ) (octets : List ℕ) (x : ℕ × ℕ) : Type 0
   pub is : BeginsWith octets x.0 x.1
   pub range : (least ≤ x.0) × (x.0 ≤ most)
 
-in_range_told : (least most : ℕ) (octets : List ℕ) (r : Result (ℕ × ℕ) Reason) (x : ℕ × ℕ) → ReadsVarUInt octets r → in_range least most r ≡ Ok x → Told least most octets x
+in_range_told : (least most : ℕ) (octets : List ℕ) (r : Result (ℕ × ℕ) Reason) (x : ℕ × ℕ) → ReadsVarUInt octets r → in_range least most r ≡ Ok x
+    → Told least most octets x
 in_range_told least most octets (Ok read) x a e =
     elim (cases_lt read.0 least) [
       | inl low ↦ absurd (let h = rw (lt-leb least read.0 low) at e in cc)
@@ -84,7 +85,8 @@ module _ (least most : ℕ) (judge : ℕ → List ℕ → Result Utc Reason) (Be
   part_read octets behind b =
       let P : List ℕ → Type 0 = λ os. and_then os judge (read_field least most os) ≡ answer in
       let here : P (b.field ++ b.rest) =
-      rw (field_read least most b.field b.rest b.number b.is b.range.0 b.range.1, drop-append_seam b.field b.rest) (behind b.number b.rest b.range.0 b.range.1 b.behind) in
+      rw (field_read least most b.field b.rest b.number b.is b.range.0 b.range.1, drop-append_seam b.field b.rest)
+      (behind b.number b.rest b.range.0 b.range.1 b.behind) in
       subst P (sym b.cut) here
 
 -- a part that begins has an octet
@@ -101,14 +103,16 @@ module _ (minute : Minute) (second : ℕ) (octets : List ℕ) (utc : Utc) where
   abbrev DigitsTold : ℕ → Type 0
   DigitsTold digits = (int_magnitude octets < 10 ^ digits) × (utc ≡ time_known (precisions.Fraction digits) minute second (int_magnitude octets))
 
-  bounded : (digits : ℕ) → cond (nat_lt (int_magnitude octets) (10 ^ digits)) (Ok (time_known (precisions.Fraction digits) minute second (int_magnitude octets))) (Err Malformed) ≡ Ok utc → DigitsTold digits
+  bounded : (digits : ℕ) → cond (nat_lt (int_magnitude octets) (10 ^ digits))
+      (Ok (time_known (precisions.Fraction digits) minute second (int_magnitude octets))) (Err Malformed) ≡ Ok utc → DigitsTold digits
   bounded digits e =
       elim (cases_lt (int_magnitude octets) (10 ^ digits)) [
         | inl small ↦ (small, let h = rw (lt-ltb (int_magnitude octets) (10 ^ digits) small) at e in cc)
         | inr large ↦ absurd (let h = rw (le-ltb (int_magnitude octets) (10 ^ digits) large) at e in cc)
       ]
 
-  digits_case : (digits : ℕ) (negative : Bool) → int_negative octets ≡ negative → read_digits digits minute second octets ≡ Ok utc → ((int_negative octets ≡ false) ⊎ (int_magnitude octets ≡ 0)) × DigitsTold digits
+  digits_case : (digits : ℕ) (negative : Bool) → int_negative octets ≡ negative → read_digits digits minute second octets ≡ Ok utc
+      → ((int_negative octets ≡ false) ⊎ (int_magnitude octets ≡ 0)) × DigitsTold digits
   digits_case digits false sign e = (inl sign, bounded digits (rw sign at e))
   digits_case digits true sign e =
       elim (cases_lt 0 (int_magnitude octets)) [
@@ -123,7 +127,8 @@ module _ (minute : Minute) (second : ℕ) (octets : List ℕ) (utc : Utc) where
         | inr none ↦ (omega arith, let h = rw (le-ltb 0 (int_magnitude octets) none) at e in cc)
       ]
 
-  fraction_case : (below : Bool) (power : ℕ) → read_fraction minute second (signed_of below power) octets ≡ Ok utc → IsFractionOf below power octets minute second utc
+  fraction_case : (below : Bool) (power : ℕ) → read_fraction minute second (signed_of below power) octets ≡ Ok utc
+      → IsFractionOf below power octets minute second utc
   unfolding read_fraction
   fraction_case below power e =
       elim (cases_lt (int_magnitude octets) (2 ^ 127)) [
@@ -139,7 +144,8 @@ module _ (minute : Minute) (second : ℕ) (octets : List ℕ) (utc : Utc) where
             | inr few ↦ let k = rw (le-ltb 38 power few, le-ltb (int_magnitude octets) (2 ^ 127) large) at h in cc
           ]
 
-      fits : (b : Bool) → read_fraction minute second (signed_of b power) octets ≡ Ok utc → int_magnitude octets < 2 ^ 127 → IsFractionOf b power octets minute second utc
+      fits : (b : Bool) → read_fraction minute second (signed_of b power) octets ≡ Ok utc → int_magnitude octets < 2 ^ 127
+          → IsFractionOf b power octets minute second utc
       fits false h small =
           let none = no_digits (rw (lt-ltb (int_magnitude octets) (2 ^ 127) small) at h) in
           inr (inl refl, none.0, none.1)
@@ -148,7 +154,8 @@ module _ (minute : Minute) (second : ℕ) (octets : List ℕ) (utc : Utc) where
             | inl many ↦ absurd (let k = rw (lt-ltb 38 power many) at h in cc)
             | inr few ↦ elim (cases_lt 0 power) [
               | inl some ↦
-                  let d = digits_case power (int_negative octets) refl (rw (le-ltb 38 power few, lt-ltb (int_magnitude octets) (2 ^ 127) small, lt-ltb 0 power some) at h) in
+                  let d = digits_case power (int_negative octets) refl
+                  (rw (le-ltb 38 power few, lt-ltb (int_magnitude octets) (2 ^ 127) small, lt-ltb 0 power some) at h) in
                   inl (refl, some, few, d.0, d.1.0, d.1.1)
               | inr zeroth ↦
                   let none = no_digits (rw (le-ltb 38 power few, lt-ltb (int_magnitude octets) (2 ^ 127) small, le-ltb 0 power zeroth) at h) in
@@ -156,7 +163,8 @@ module _ (minute : Minute) (second : ℕ) (octets : List ℕ) (utc : Utc) where
             ]
           ]
 
-  pub fraction_read : (below : Bool) (power : ℕ) → IsFractionOf below power octets minute second utc → read_fraction minute second (signed_of below power) octets ≡ Ok utc
+  pub fraction_read : (below : Bool) (power : ℕ) → IsFractionOf below power octets minute second utc
+      → read_fraction minute second (signed_of below power) octets ≡ Ok utc
   unfolding read_fraction
   fraction_read below power (inl (b, some, few, sign, bound, same)) =
       let most : 10 ^ power ≤ 10 ^ 38 = pow-le-pow_right (omega arith) few in
@@ -165,7 +173,14 @@ module _ (minute : Minute) (second : ℕ) (octets : List ℕ) (utc : Utc) where
         | inl plus ↦ rw plus refl
         | inr nothing ↦ rw nothing (and_false (int_negative octets))
       ] in
-      rw (b, le-ltb 38 power few, lt-ltb (int_magnitude octets) (2 ^ 127) small, lt-ltb 0 power some, no_minus, lt-ltb (int_magnitude octets) (10 ^ power) bound) (ap Ok (sym same))
+      rw (
+        b,
+        le-ltb 38 power few,
+        lt-ltb (int_magnitude octets) (2 ^ 127) small,
+        lt-ltb 0 power some,
+        no_minus,
+        lt-ltb (int_magnitude octets) (10 ^ power) bound,
+      ) (ap Ok (sym same))
   fraction_read below power (inr (whole, nothing, same)) =
       let few : (below && nat_lt 38 power) ≡ false = elim whole [
         | inl plus ↦ rw plus refl
@@ -177,7 +192,8 @@ module _ (minute : Minute) (second : ℕ) (octets : List ℕ) (utc : Utc) where
       ] in
       rw (few, nothing, no_power) (ap Ok (sym same))
 
-power_told : (minute : Minute) (second : ℕ) (octets : List ℕ) (utc : Utc) (r : Result (Signed × ℕ) Reason) → ReadsVarInt octets r → with_power minute second octets r ≡ Ok utc → IsSecondsFraction minute second octets utc
+power_told : (minute : Minute) (second : ℕ) (octets : List ℕ) (utc : Utc) (r : Result (Signed × ℕ) Reason) → ReadsVarInt octets r
+    → with_power minute second octets r ≡ Ok utc → IsSecondsFraction minute second octets utc
 power_told minute second octets utc (Ok read) a e = record {
   exponent = take read.1 octets;
   coefficient = drop read.1 octets;
@@ -191,7 +207,8 @@ power_told minute second octets utc (Err TooLarge) a e = absurd cc
 power_told minute second octets utc (Err Incomplete) a e = absurd cc
 power_told minute second octets utc (Err _) a e = absurd a
 
-second_told : (minute : Minute) (second : ℕ) (utc : Utc) (octets : List ℕ) → read_behind_second minute second octets ≡ Ok utc → IsBehindSecond minute second octets utc
+second_told : (minute : Minute) (second : ℕ) (utc : Utc) (octets : List ℕ) → read_behind_second minute second octets ≡ Ok utc
+    → IsBehindSecond minute second octets utc
 unfolding read_behind_second
 second_told minute second utc [] e = inl (refl, cc)
 second_told minute second utc (o ∷ os) e = inr (power_told minute second (o ∷ os) utc (var_int (o ∷ os)) (var_int_answers (o ∷ os)) e)
@@ -203,7 +220,8 @@ minute_told minute utc (o ∷ os) e = inr (part_told 0 59 (o ∷ os) (read_behin
 
 hour_told : (date : Date) (hour : ℕ) (utc : Utc) (octets : List ℕ) → read_behind_hour date hour octets ≡ Ok utc → IsBehindHour date hour octets utc
 unfolding read_behind_hour
-hour_told date hour utc octets e = part_told 0 59 octets (λ n. read_behind_minute (minute_of date hour n)) _ utc (λ n rest low high. minute_told (minute_of date hour n) utc rest) e
+hour_told date hour utc octets e = part_told 0 59 octets (λ n. read_behind_minute (minute_of date hour n)) _ utc
+    (λ n rest low high. minute_told (minute_of date hour n) utc rest) e
 
 day_told : (date : Date) (utc : Utc) (octets : List ℕ) → read_behind_day date octets ≡ Ok utc → IsBehindDay date octets utc
 unfolding read_behind_day
@@ -213,7 +231,8 @@ day_told date utc (o ∷ os) e = inr (part_told 0 23 (o ∷ os) (read_behind_hou
 month_told : (year month : ℕ) (utc : Utc) (octets : List ℕ) → read_behind_month year month octets ≡ Ok utc → IsBehindMonth year month octets utc
 unfolding read_behind_month
 month_told year month utc [] e = inl (refl, cc)
-month_told year month utc (o ∷ os) e = inr (part_told 1 (month_length year month) (o ∷ os) (λ n. read_behind_day (day_of year month n)) _ utc (λ n rest low high. day_told (day_of year month n) utc rest) e)
+month_told year month utc (o ∷ os) e = inr (part_told 1 (month_length year month) (o ∷ os) (λ n. read_behind_day (day_of year month n)) _ utc
+    (λ n rest low high. day_told (day_of year month n) utc rest) e)
 
 year_told : (year : ℕ) (utc : Utc) (octets : List ℕ) → read_behind_year year octets ≡ Ok utc → IsBehindYear year octets utc
 unfolding read_behind_year
@@ -229,14 +248,17 @@ pub int_some : (w rest : List ℕ) (below : Bool) (n : ℕ) → VarInt w below n
 int_some _ rest _ _ (short octet high) e = cc
 int_some _ rest _ _ (long octet digits last low s bound) e = cc
 
-power_read : (minute : Minute) (second : ℕ) (utc : Utc) (octets : List ℕ) → IsSecondsFraction minute second octets utc → with_power minute second octets (var_int octets) ≡ Ok utc
+power_read : (minute : Minute) (second : ℕ) (utc : Utc) (octets : List ℕ) → IsSecondsFraction minute second octets utc
+    → with_power minute second octets (var_int octets) ≡ Ok utc
 power_read minute second utc octets f =
     let P : List ℕ → Type 0 = λ os. with_power minute second os (var_int os) ≡ Ok utc in
     let here : P (f.exponent ++ f.coefficient) =
-    rw (var_int_read f.exponent f.coefficient f.below f.power f.is, drop-append_seam f.exponent f.coefficient) (fraction_read minute second f.coefficient utc f.below f.power f.fraction) in
+    rw (var_int_read f.exponent f.coefficient f.below f.power f.is, drop-append_seam f.exponent f.coefficient)
+    (fraction_read minute second f.coefficient utc f.below f.power f.fraction) in
     subst P (sym f.cut) here
 
-second_read : (minute : Minute) (second : ℕ) (utc : Utc) (octets : List ℕ) → IsBehindSecond minute second octets utc → read_behind_second minute second octets ≡ Ok utc
+second_read : (minute : Minute) (second : ℕ) (utc : Utc) (octets : List ℕ) → IsBehindSecond minute second octets utc → read_behind_second minute second octets
+    ≡ Ok utc
 unfolding read_behind_second
 second_read minute second utc octets (inl none) = rw (none.0, none.1) refl
 second_read minute second utc [] (inr f) = absurd (int_some f.exponent f.coefficient f.below f.power f.is f.cut)
@@ -250,7 +272,8 @@ minute_read minute utc (o ∷ os) (inr b) = part_read 0 59 (read_behind_second m
 
 hour_read : (date : Date) (hour : ℕ) (utc : Utc) (octets : List ℕ) → IsBehindHour date hour octets utc → read_behind_hour date hour octets ≡ Ok utc
 unfolding read_behind_hour
-hour_read date hour utc octets b = part_read 0 59 (λ n. read_behind_minute (minute_of date hour n)) _ (Ok utc) octets (λ n rest low high. minute_read (minute_of date hour n) utc rest) b
+hour_read date hour utc octets b = part_read 0 59 (λ n. read_behind_minute (minute_of date hour n)) _ (Ok utc) octets
+    (λ n rest low high. minute_read (minute_of date hour n) utc rest) b
 
 day_read : (date : Date) (utc : Utc) (octets : List ℕ) → IsBehindDay date octets utc → read_behind_day date octets ≡ Ok utc
 unfolding read_behind_day
@@ -262,7 +285,8 @@ month_read : (year month : ℕ) (utc : Utc) (octets : List ℕ) → IsBehindMont
 unfolding read_behind_month
 month_read year month utc octets (inl none) = rw (none.0, none.1) refl
 month_read year month utc [] (inr b) = absurd (begins_some 1 _ _ b)
-month_read year month utc (o ∷ os) (inr b) = part_read 1 (month_length year month) (λ n. read_behind_day (day_of year month n)) _ (Ok utc) (o ∷ os) (λ n rest low high. day_read (day_of year month n) utc rest) b
+month_read year month utc (o ∷ os) (inr b) = part_read 1 (month_length year month) (λ n. read_behind_day (day_of year month n)) _ (Ok utc) (o ∷ os)
+    (λ n rest low high. day_read (day_of year month n) utc rest) b
 
 year_read : (year : ℕ) (utc : Utc) (octets : List ℕ) → IsBehindYear year octets utc → read_behind_year year octets ≡ Ok utc
 unfolding read_behind_year
@@ -292,19 +316,35 @@ hour_is date hour octets utc h k b = minute_is (minute_of date hour b.number) b.
 
 day_is : (date : Date) (octets : List ℕ) (utc : Utc) → IsDate date → IsBehindDay date octets utc → IsUtc utc
 day_is date octets utc h (inl none) =
-    subst IsUtc (sym none.1) (record { minute = record { date = h; hour = omega arith; minute = omega arith }; second = omega arith; cut = (refl, refl, refl, refl) })
+    subst IsUtc (sym none.1) (record {
+      minute = record { date = h; hour = omega arith; minute = omega arith };
+      second =
+          omega arith;
+      cut = (refl, refl, refl, refl);
+    })
 day_is date octets utc h (inr b) = hour_is date b.number b.rest utc h b.range.1 b.behind
 
-month_is : (year month : ℕ) (octets : List ℕ) (utc : Utc) → (1 ≤ year) × (year ≤ 9999) → (1 ≤ month) × (month ≤ 12) → IsBehindMonth year month octets utc → IsUtc utc
+month_is : (year month : ℕ) (octets : List ℕ) (utc : Utc) → (1 ≤ year) × (year ≤ 9999) → (1 ≤ month) × (month ≤ 12) → IsBehindMonth year month octets utc
+    → IsUtc utc
 month_is year month octets utc y m (inl none) =
     let date : IsDate (day_of year month 1) = record { year = y; month = m; day = (omega arith, omega (arith, month_least year month)) } in
-    subst IsUtc (sym none.1) (record { minute = record { date = date; hour = omega arith; minute = omega arith }; second = omega arith; cut = (refl, refl, refl, refl, refl) })
+    subst IsUtc (sym none.1) (record {
+      minute = record { date = date; hour = omega arith; minute = omega arith };
+      second =
+          omega arith;
+      cut = (refl, refl, refl, refl, refl);
+    })
 month_is year month octets utc y m (inr b) = day_is (day_of year month b.number) b.rest utc (record { year = y; month = m; day = b.range }) b.behind
 
 year_is : (year : ℕ) (octets : List ℕ) (utc : Utc) → (1 ≤ year) × (year ≤ 9999) → IsBehindYear year octets utc → IsUtc utc
 year_is year octets utc y (inl none) =
     let date : IsDate (day_of year 1 1) = record { year = y; month = (omega arith, omega arith); day = (omega arith, omega arith) } in
-    subst IsUtc (sym none.1) (record { minute = record { date = date; hour = omega arith; minute = omega arith }; second = omega arith; cut = (refl, refl, refl, refl, refl, refl) })
+    subst IsUtc (sym none.1) (record {
+      minute = record { date = date; hour = omega arith; minute = omega arith };
+      second =
+          omega arith;
+      cut = (refl, refl, refl, refl, refl, refl);
+    })
 year_is year octets utc y (inr b) = month_is year b.number b.rest utc y b.range b.behind
 
 pub fields_are : (octets : List ℕ) (utc : Utc) → AreFields octets utc → IsUtc utc

@@ -29,7 +29,8 @@ Refused Large reason = ((reason ≡ TooLarge) × Large) ⊎ (reason ≡ Malforme
 abbrev large : Result Utc Reason
 large = Err TooLarge
 
-in_range_err : (least most : ℕ) (octets : List ℕ) (r : Result (ℕ × ℕ) Reason) (reason : Reason) → ReadsVarUInt octets r → in_range least most r ≡ Err reason → Refused (Reaches 0 octets) reason
+in_range_err : (least most : ℕ) (octets : List ℕ) (r : Result (ℕ × ℕ) Reason) (reason : Reason) → ReadsVarUInt octets r → in_range least most r ≡ Err reason
+    → Refused (Reaches 0 octets) reason
 in_range_err least most octets (Ok read) reason a e =
     elim (cases_lt read.0 least) [
       | inl low ↦ inr (let h = rw (lt-leb least read.0 low) at e in cc)
@@ -47,13 +48,26 @@ unfolding read_field
 field_err least most octets reason e = in_range_err least most octets (var_uint octets) reason (var_uint_answers octets) e
 
 module _ (least most : ℕ) (octets : List ℕ) (judge : ℕ → List ℕ → Result Utc Reason) (Large : ℕ → List ℕ → Type 0) (reason : Reason) where
-  err_on : (r : Result (ℕ × ℕ) Reason) → ((x : ℕ × ℕ) → r ≡ Ok x → Told least most octets x) → ((other : Reason) → r ≡ Err other → Refused (Reaches 0 octets) other)
+  err_on : (r : Result (ℕ × ℕ) Reason) → ((x : ℕ × ℕ) → r ≡ Ok x → Told least most octets x)
+      → ((other : Reason) → r ≡ Err other → Refused (Reaches 0 octets) other)
       → ((n : ℕ) (rest : List ℕ) → judge n rest ≡ Err reason → Refused (Large n rest) reason)
       → and_then octets judge r ≡ Err reason → Refused (IsLargePart least most Large octets) reason
   err_on (Ok x) told refused behind e =
       let t = told x refl in
       elim (behind x.0 (drop x.1 octets) e) [
-        | inl p ↦ inl (p.0, inr (record { field = take x.1 octets; rest = drop x.1 octets; number = x.0; cut = sym (take-append-drop x.1 octets); is = t.is.is; range = t.range; behind = p.1 }))
+        | inl p ↦ inl (
+          p.0,
+          inr (record {
+            field = take x.1 octets;
+            rest = drop x.1 octets;
+            number = x.0;
+            cut = sym (take-append-drop x.1 octets);
+            is =
+                t.is.is;
+            range = t.range;
+            behind = p.1;
+          }),
+        )
         | inr q ↦ inr q
       ]
   err_on (Err other) told refused behind e =
@@ -80,11 +94,13 @@ module _ (minute : Minute) (second : ℕ) (octets : List ℕ) (reason : Reason) 
   picked_none true utc e = cc
   picked_none false utc e = absurd cc
 
-  which : (b : Bool) (x y : Result Utc Reason) → (x ≡ Err reason → reason ≡ Malformed) → (y ≡ Err reason → reason ≡ Malformed) → cond b x y ≡ Err reason → reason ≡ Malformed
+  which : (b : Bool) (x y : Result Utc Reason) → (x ≡ Err reason → reason ≡ Malformed) → (y ≡ Err reason → reason ≡ Malformed) → cond b x y ≡ Err reason
+      → reason ≡ Malformed
   which true x y f g e = f e
   which false x y f g e = g e
 
-  fraction_err : (below : Bool) (power : ℕ) → read_fraction minute second (signed_of below power) octets ≡ Err reason → Refused (LargeParts below power octets) reason
+  fraction_err : (below : Bool) (power : ℕ) → read_fraction minute second (signed_of below power) octets ≡ Err reason
+      → Refused (LargeParts below power octets) reason
   unfolding read_fraction
   fraction_err below power e =
       elim (cases_lt (int_magnitude octets) (2 ^ 127)) [
@@ -99,18 +115,33 @@ module _ (minute : Minute) (second : ℕ) (octets : List ℕ) (reason : Reason) 
           one true k = cc
           one false k = cc
 
-      fits : (b : Bool) → read_fraction minute second (signed_of b power) octets ≡ Err reason → int_magnitude octets < 2 ^ 127 → Refused (LargeParts b power octets) reason
+      fits : (b : Bool) → read_fraction minute second (signed_of b power) octets ≡ Err reason → int_magnitude octets < 2 ^ 127
+          → Refused (LargeParts b power octets) reason
       fits false h small = inr (picked_none _ _ (rw (lt-ltb (int_magnitude octets) (2 ^ 127) small) at h))
       fits true h small =
           elim (cases_lt 38 power) [
             | inl many ↦ inl (let k = rw (lt-ltb 38 power many) at h in cc, inl (refl, many))
-            | inr few ↦ inr (which (nat_lt 0 power) (read_digits power minute second octets) (read_no_digits minute second octets) (picked _ _ _) (picked_none _ _) (rw (le-ltb 38 power few, lt-ltb (int_magnitude octets) (2 ^ 127) small) at h))
+            | inr few ↦ inr (which (nat_lt 0 power) (read_digits power minute second octets) (read_no_digits minute second octets) (picked _ _ _)
+                (picked_none _ _) (rw (le-ltb 38 power few, lt-ltb (int_magnitude octets) (2 ^ 127) small) at h))
           ]
 
-power_err : (minute : Minute) (second : ℕ) (octets : List ℕ) (reason : Reason) (r : Result (Signed × ℕ) Reason) → ReadsVarInt octets r → with_power minute second octets r ≡ Err reason → Refused (IsLargeBehindSecond octets) reason
+power_err : (minute : Minute) (second : ℕ) (octets : List ℕ) (reason : Reason) (r : Result (Signed × ℕ) Reason) → ReadsVarInt octets r
+    → with_power minute second octets r ≡ Err reason → Refused (IsLargeBehindSecond octets) reason
 power_err minute second octets reason (Ok read) a e =
     elim (fraction_err minute second (drop read.1 octets) reason read.0.negative read.0.magnitude e) [
-      | inl p ↦ inl (p.0, inr (record { exponent = take read.1 octets; coefficient = drop read.1 octets; below = read.0.negative; power = read.0.magnitude; cut = sym (take-append-drop read.1 octets); is = a.is; large = p.1 }))
+      | inl p ↦ inl (
+        p.0,
+        inr (record {
+          exponent = take read.1 octets;
+          coefficient = drop read.1 octets;
+          below = read.0.negative;
+          power =
+              read.0.magnitude;
+          cut = sym (take-append-drop read.1 octets);
+          is = a.is;
+          large = p.1;
+        }),
+      )
       | inr q ↦ inr q
     ]
 power_err minute second octets reason (Err TooLarge) a e = inl (cc, inl a)
@@ -118,7 +149,8 @@ power_err minute second octets reason (Err Incomplete) a e = inr cc
 power_err minute second octets reason (Err _) a e = absurd a
 
 module _ (reason : Reason) where
-  second_err : (minute : Minute) (second : ℕ) (octets : List ℕ) → read_behind_second minute second octets ≡ Err reason → Refused (IsLargeBehindSecond octets) reason
+  second_err : (minute : Minute) (second : ℕ) (octets : List ℕ) → read_behind_second minute second octets ≡ Err reason
+      → Refused (IsLargeBehindSecond octets) reason
   unfolding read_behind_second
   second_err minute second [] e = absurd cc
   second_err minute second (o ∷ os) e = power_err minute second (o ∷ os) reason (var_int (o ∷ os)) (var_int_answers (o ∷ os)) e
@@ -130,7 +162,8 @@ module _ (reason : Reason) where
 
   hour_err : (date : Date) (hour : ℕ) (octets : List ℕ) → read_behind_hour date hour octets ≡ Err reason → Refused (IsLargeBehindHour octets) reason
   unfolding read_behind_hour
-  hour_err date hour octets e = part_err 0 59 octets (λ n. read_behind_minute (minute_of date hour n)) _ reason (λ n rest. minute_err (minute_of date hour n) rest) e
+  hour_err date hour octets e = part_err 0 59 octets (λ n. read_behind_minute (minute_of date hour n)) _ reason
+      (λ n rest. minute_err (minute_of date hour n) rest) e
 
   day_err : (date : Date) (octets : List ℕ) → read_behind_day date octets ≡ Err reason → Refused (IsLargeBehindDay octets) reason
   unfolding read_behind_day
@@ -140,7 +173,8 @@ module _ (reason : Reason) where
   month_err : (year month : ℕ) (octets : List ℕ) → read_behind_month year month octets ≡ Err reason → Refused (IsLargeBehindMonth year month octets) reason
   unfolding read_behind_month
   month_err year month [] e = absurd cc
-  month_err year month (o ∷ os) e = part_err 1 (month_length year month) (o ∷ os) (λ n. read_behind_day (day_of year month n)) _ reason (λ n rest. day_err (day_of year month n) rest) e
+  month_err year month (o ∷ os) e = part_err 1 (month_length year month) (o ∷ os) (λ n. read_behind_day (day_of year month n)) _ reason
+      (λ n rest. day_err (day_of year month n) rest) e
 
   year_err : (year : ℕ) (octets : List ℕ) → read_behind_year year octets ≡ Err reason → Refused (IsLargeBehindYear year octets) reason
   unfolding read_behind_year
@@ -163,7 +197,8 @@ no_part : (least most : ℕ) (Large : ℕ → List ℕ → Type 0) → IsLargePa
 no_part least most Large (inl r) = absurd (omega (arith, ap length r.cut, length-append r.digits (r.octet ∷ r.rest)))
 no_part least most Large (inr b) = begins_some least most Large b
 
-fraction_large : (minute : Minute) (second : ℕ) (octets : List ℕ) (below : Bool) (power : ℕ) → LargeParts below power octets → read_fraction minute second (signed_of below power) octets ≡ Err TooLarge
+fraction_large : (minute : Minute) (second : ℕ) (octets : List ℕ) (below : Bool) (power : ℕ) → LargeParts below power octets
+    → read_fraction minute second (signed_of below power) octets ≡ Err TooLarge
 unfolding read_fraction
 fraction_large minute second octets below power (inl (b, many)) = rw (b, lt-ltb 38 power many) refl
 fraction_large minute second octets below power (inr high) = rw (le-ltb (int_magnitude octets) (2 ^ 127) high) (one (below && nat_lt 38 power))
@@ -176,7 +211,8 @@ power_large : (minute : Minute) (second : ℕ) (octets : List ℕ) → IsLargeFr
 power_large minute second octets f =
     let P : List ℕ → Type 0 = λ os. with_power minute second os (var_int os) ≡ Err TooLarge in
     let here : P (f.exponent ++ f.coefficient) =
-    rw (var_int_read f.exponent f.coefficient f.below f.power f.is, drop-append_seam f.exponent f.coefficient) (fraction_large minute second f.coefficient f.below f.power f.large) in
+    rw (var_int_read f.exponent f.coefficient f.below f.power f.is, drop-append_seam f.exponent f.coefficient)
+    (fraction_large minute second f.coefficient f.below f.power f.large) in
     subst P (sym f.cut) here
 
 second_large : (minute : Minute) (second : ℕ) (octets : List ℕ) → IsLargeBehindSecond octets → read_behind_second minute second octets ≡ Err TooLarge
@@ -193,7 +229,8 @@ minute_large minute (o ∷ os) l = part_large 0 59 (read_behind_second minute) _
 
 hour_large : (date : Date) (hour : ℕ) (octets : List ℕ) → IsLargeBehindHour octets → read_behind_hour date hour octets ≡ Err TooLarge
 unfolding read_behind_hour
-hour_large date hour octets l = part_large 0 59 (λ n. read_behind_minute (minute_of date hour n)) _ octets (λ n rest. minute_large (minute_of date hour n) rest) l
+hour_large date hour octets l = part_large 0 59 (λ n. read_behind_minute (minute_of date hour n)) _ octets (λ n rest. minute_large (minute_of date hour n) rest)
+    l
 
 day_large : (date : Date) (octets : List ℕ) → IsLargeBehindDay octets → read_behind_day date octets ≡ Err TooLarge
 unfolding read_behind_day
@@ -203,7 +240,8 @@ day_large date (o ∷ os) l = part_large 0 23 (read_behind_hour date) _ (o ∷ o
 month_large : (year month : ℕ) (octets : List ℕ) → IsLargeBehindMonth year month octets → read_behind_month year month octets ≡ Err TooLarge
 unfolding read_behind_month
 month_large year month [] l = absurd (no_part 1 (month_length year month) _ l)
-month_large year month (o ∷ os) l = part_large 1 (month_length year month) (λ n. read_behind_day (day_of year month n)) _ (o ∷ os) (λ n rest. day_large (day_of year month n) rest) l
+month_large year month (o ∷ os) l = part_large 1 (month_length year month) (λ n. read_behind_day (day_of year month n)) _ (o ∷ os)
+    (λ n rest. day_large (day_of year month n) rest) l
 
 year_large : (year : ℕ) (octets : List ℕ) → IsLargeBehindYear year octets → read_behind_year year octets ≡ Err TooLarge
 unfolding read_behind_year
@@ -225,12 +263,26 @@ shown_err offset utc reason e = pick _ _ e
 
 module _ (body : List ℕ) (reason : Reason) where
   fields_on : (read : Signed × ℕ) → VarInt (take read.1 body) read.0.negative read.0.magnitude → read.0.magnitude ≤ 1439
-      → (r : Result Utc Reason) → read_fields (drop read.1 body) ≡ r → shown_by (offset_from read.0.negative read.0.magnitude) r ≡ Err reason → Refused (IsLargeBody body) reason
+      → (r : Result Utc Reason) → read_fields (drop read.1 body) ≡ r → shown_by (offset_from read.0.negative read.0.magnitude) r ≡ Err reason
+      → Refused (IsLargeBody body) reason
   fields_on read is range (Ok utc) fields e = inr (shown_err (offset_from read.0.negative read.0.magnitude) utc reason e)
   fields_on read is range (Err other) fields e =
       let same : reason ≡ other = cc in
       elim (fields_err other (drop read.1 body) fields) [
-        | inl p ↦ inl (same ∙ p.0, inr (record { ahead = take read.1 body; fields = drop read.1 body; below = read.0.negative; minutes = read.0.magnitude; cut = sym (take-append-drop read.1 body); is = is; range = range; large = p.1 }))
+        | inl p ↦ inl (
+          same ∙ p.0,
+          inr (record {
+            ahead = take read.1 body;
+            fields = drop read.1 body;
+            below = read.0.negative;
+            minutes = read.0.magnitude;
+            cut =
+                sym (take-append-drop read.1 body);
+            is = is;
+            range = range;
+            large = p.1;
+          }),
+        )
         | inr q ↦ inr (same ∙ q)
       ]
 
@@ -254,7 +306,8 @@ body_large body (inl r) = rw (var_int_reaches body r) refl
 body_large body (inr l) =
     let P : List ℕ → Type 0 = λ os. with_offset os (near (var_int os)) ≡ Err TooLarge in
     let here : P (l.ahead ++ l.fields) =
-    rw (var_int_read l.ahead l.fields l.below l.minutes l.is, le-leb l.minutes 1439 l.range, drop-append_seam l.ahead l.fields, fields_large l.fields l.large) refl in
+    rw (var_int_read l.ahead l.fields l.below l.minutes l.is, le-leb l.minutes 1439 l.range, drop-append_seam l.ahead l.fields, fields_large l.fields l.large)
+    refl in
     subst P (sym l.cut) here
 
 answer_is : (body : List ℕ) (r : Result TimestampParts Reason) → timestamp_of_body body ≡ r → ReadsTimestampBody body r
@@ -273,7 +326,8 @@ pub timestamp_answers : (body : List ℕ) → ReadsTimestampBody body (timestamp
 timestamp_answers body = answer_is body (timestamp_of_body body) refl
 
 -- and no other answer says so
-neither : (body : List ℕ) (answer : Result TimestampParts Reason) → ReadsTimestampBody body answer → ReadsTimestampBody body (Err Malformed) → answer ≡ Err Malformed
+neither : (body : List ℕ) (answer : Result TimestampParts Reason) → ReadsTimestampBody body answer → ReadsTimestampBody body (Err Malformed)
+    → answer ≡ Err Malformed
 neither body (Ok t) is none = absurd (none.0 t is)
 neither body (Err TooLarge) large none = absurd (none.1 large)
 neither body (Err Malformed) a none = refl

@@ -25,7 +25,8 @@ use Rattle.ion_scalar.specs.binary.laws.Timestamp.{IsUtc}
 use Rattle.ion_scalar.specs.binary.laws.Shown.{cut_kept, timestamp_read}
 use Rattle.ion_scalar.specs.binary.TimestampSpellings.{ahead_octets, utc_of, octets_behind_second, octets_behind_minute, fields_octets, timestamp_octets}
 
-begins : (least most : ℕ) (Behind : ℕ → List ℕ → Type 0) (n : ℕ) (rest : List ℕ) → most < 2 ^ 63 → least ≤ n → n ≤ most → Behind n rest → Begins least most Behind (var_uint_octets n ++ rest)
+begins : (least most : ℕ) (Behind : ℕ → List ℕ → Type 0) (n : ℕ) (rest : List ℕ) → most < 2 ^ 63 → least ≤ n → n ≤ most → Behind n rest
+    → Begins least most Behind (var_uint_octets n ++ rest)
 begins least most Behind n rest small low high behind = record {
   field = var_uint_octets n;
   rest = rest;
@@ -43,7 +44,8 @@ module _ (m : Minute) (h : IsMinute m) (s : ℕ) (k : s ≤ 59) (f : ℕ) where
   abbrev IsCutTo : Precision → Type 0
   IsCutTo p = IsCut p (local_in (time_known p m s f) m)
 
-  fraction_spelled : (digits : ℕ) → IsCutTo (precisions.Fraction digits) → IsBehindSecond m s (octets_behind_second (precisions.Fraction digits) (utc (precisions.Fraction digits))) (utc (precisions.Fraction digits))
+  fraction_spelled : (digits : ℕ) → IsCutTo (precisions.Fraction digits)
+      → IsBehindSecond m s (octets_behind_second (precisions.Fraction digits) (utc (precisions.Fraction digits))) (utc (precisions.Fraction digits))
   fraction_spelled digits cut =
       let parts = int_parts false f in
       inr (record {
@@ -73,7 +75,8 @@ module _ (m : Minute) (h : IsMinute m) (s : ℕ) (k : s ≤ 59) (f : ℕ) where
 
   days : (u : Utc) (rest : List ℕ) → IsBehindDay m.date rest u → IsBehindMonth m.date.year m.date.month (var_uint_octets m.date.day ++ rest) u
   days u rest is =
-      inr (begins 1 (month_length m.date.year m.date.month) (λ n r. IsBehindDay (day_of m.date.year m.date.month n) r u) m.date.day rest (omega (arith, month_most m.date.year m.date.month)) h.date.day.0 h.date.day.1 is)
+      inr (begins 1 (month_length m.date.year m.date.month) (λ n r. IsBehindDay (day_of m.date.year m.date.month n) r u) m.date.day rest
+      (omega (arith, month_most m.date.year m.date.month)) h.date.day.0 h.date.day.1 is)
 
   months : (u : Utc) (rest : List ℕ) → IsBehindMonth m.date.year m.date.month rest u → IsBehindYear m.date.year (var_uint_octets m.date.month ++ rest) u
   months u rest is =

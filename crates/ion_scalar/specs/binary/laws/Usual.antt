@@ -41,7 +41,8 @@ int_small : (octets : List ℕ) → AreBelow 256 octets → length octets < 16 �
 int_small [] all few = omega arith
 int_small (octet ∷ rest) all few = small (seven_bits octet ∷ rest) (without_sign octet rest all) (omega arith)
 
-coefficient : (negative : Bool) (n : ℕ) (octets : List ℕ) → n < 64 → int_magnitude octets < 2 ^ 127 → is_ok (with_coefficient (signed_of negative n) octets) ≡ true
+coefficient : (negative : Bool) (n : ℕ) (octets : List ℕ) → n < 64 → int_magnitude octets < 2 ^ 127 → is_ok (with_coefficient (signed_of negative n) octets)
+    ≡ true
 coefficient true n octets few h = rw (le-leb n (2 ^ 31) (omega arith), lt-ltb (int_magnitude octets) (2 ^ 127) h) refl
 coefficient false n octets few h = rw (lt-ltb n (2 ^ 31) (omega arith), lt-ltb (int_magnitude octets) (2 ^ 127) h) refl
 
@@ -70,12 +71,14 @@ far_shown offset (Ok utc) far =
     rw (le-leb 1 (moved utc.minute by).date.year years.0, le-leb (moved utc.minute by).date.year 9999 years.1) refl
 far_shown offset (Err reason) far = absurd far
 
-pub usual_timestamp : (body : List ℕ) (offset : Option ℤ) (used : ℕ) → Ok (offset, used) ≡ read_offset body → IsOkAnd (read_fields (drop used body)) FarFromEnds → is_ok (timestamp_of_body body) ≡ true
+pub usual_timestamp : (body : List ℕ) (offset : Option ℤ) (used : ℕ) → Ok (offset, used) ≡ read_offset body → IsOkAnd (read_fields (drop used body)) FarFromEnds
+    → is_ok (timestamp_of_body body) ≡ true
 unfolding timestamp_of_body
 usual_timestamp body offset used e far =
     rw (← e) (far_shown offset (read_fields (drop used body)) far)
 
-pairs : (octets : List ℕ) (negative : Bool) (n : ℕ) → ◌≡◌ {A = Result (Bool × ℕ) Reason} (Ok (negative, n)) (Ok (int_negative octets, int_magnitude octets)) → (int_negative octets ≡ negative) × (int_magnitude octets ≡ n)
+pairs : (octets : List ℕ) (negative : Bool) (n : ℕ) → ◌≡◌ {A = Result (Bool × ℕ) Reason} (Ok (negative, n)) (Ok (int_negative octets, int_magnitude octets))
+    → (int_negative octets ≡ negative) × (int_magnitude octets ≡ n)
 pairs octets negative n e =
     let same : ◌≡◌ {A = Bool × ℕ} (negative, n) (int_negative octets, int_magnitude octets) = cc in
     (λ i. (sym same i).0, λ i. (sym same i).1)
@@ -88,11 +91,13 @@ int_told octets negative n e =
       | inr large ↦ absurd (let h = rw (le-ltb (int_magnitude octets) (2 ^ 127) large) at e in cc)
     ]
 
-as_power : (minute : Minute) (second : ℕ) (rest : List ℕ) (answer : Result Utc Reason) (below : Bool) (n power : ℕ) → below ≡ true → n ≡ power → read_fraction minute second (signed_of true power) rest ≡ answer → read_fraction minute second (signed_of below n) rest ≡ answer
+as_power : (minute : Minute) (second : ℕ) (rest : List ℕ) (answer : Result Utc Reason) (below : Bool) (n power : ℕ) → below ≡ true → n ≡ power
+    → read_fraction minute second (signed_of true power) rest ≡ answer → read_fraction minute second (signed_of below n) rest ≡ answer
 as_power minute second rest answer below n power b e is = rw (b, e) is
 
 -- an exponent of one octet, and a coefficient of so many digits
-pub usual_fraction : (octets : List ℕ) → 193 ≤ get_or octets 0 0 → get_or octets 0 0 ≤ 230 → int_negative (drop 1 octets) ≡ false → int_magnitude (drop 1 octets) < 10 ^ (get_or octets 0 0 - 192)
+pub usual_fraction : (octets : List ℕ) → 193 ≤ get_or octets 0 0 → get_or octets 0 0 ≤ 230 → int_negative (drop 1 octets) ≡ false
+    → int_magnitude (drop 1 octets) < 10 ^ (get_or octets 0 0 - 192)
     → (minute : Minute) (second : ℕ) → IsOkAnd (read_behind_second minute second octets) (λ utc. utc.minute ≡ minute)
 unfolding read_behind_second
 usual_fraction [] some few plus bound minute second = refl
@@ -104,5 +109,6 @@ usual_fraction (octet ∷ rest) some few plus bound minute second =
     let utc : Utc = time_known (precisions.Fraction power) minute second (int_magnitude rest) in
     let read = ap (with_power minute second (octet ∷ rest)) (var_int_read (octet ∷ []) rest (is_negative octet) (six_bits octet) (short octet (omega arith))) in
     let is = fraction_read minute second rest utc true power (inl (refl, omega arith, omega arith, inl plus, bound, refl)) in
-    let whole : with_power minute second (octet ∷ rest) (var_int (octet ∷ rest)) ≡ Ok utc = read ∙ as_power minute second rest (Ok utc) (is_negative octet) (six_bits octet) power below six is in
+    let whole : with_power minute second (octet ∷ rest) (var_int (octet ∷ rest)) ≡ Ok utc =
+    read ∙ as_power minute second rest (Ok utc) (is_negative octet) (six_bits octet) power below six is in
     subst (λ (r : Result Utc Reason). IsOkAnd r (λ u. u.minute ≡ minute)) (sym whole) refl

@@ -22,14 +22,17 @@ module _ (octet : ℕ) (rest : List ℕ) where
   goes_on low = ap pick (lt-leb 128 octet low)
 
 -- octets that begin with a VarInt are read as its sign, magnitude and length
-pub var_int_read : (w rest : List ℕ) (negative : Bool) (magnitude : ℕ) → VarInt w negative magnitude → var_int (w ++ rest) ≡ Ok (signed_of negative magnitude, length w)
+pub var_int_read : (w rest : List ℕ) (negative : Bool) (magnitude : ℕ) → VarInt w negative magnitude
+    → var_int (w ++ rest) ≡ Ok (signed_of negative magnitude, length w)
 var_int_read _ rest _ _ (short octet high) = ends_here octet rest high
 var_int_read _ rest _ _ (long octet digits last low s bound) =
     let size : 1 + length digits + 1 ≡ suc (length (digits ++ (128 + last) ∷ [])) = omega (arith, length-append digits ((128 + last) ∷ [])) in
     let same : (digits ++ (128 + last) ∷ []) ++ rest ≡ digits ++ (128 + last) ∷ rest = append_assoc digits ((128 + last) ∷ []) rest in
     let read = rest_read (six_bits octet) 1 digits last rest s bound in
     let on = goes_on octet ((digits ++ (128 + last) ∷ []) ++ rest) low in
-    on ∙ (ap (λ (os : List ℕ). with_sign (is_negative octet) (var_rest (six_bits octet) 1 os)) same ∙ (ap (with_sign (is_negative octet)) read ∙ ap (λ (n : ℕ). Ok (signed_of (is_negative octet) (positional 128 (six_bits octet ∷ digits ++ last ∷ [])), n)) size))
+    on ∙ (ap (λ (os : List ℕ). with_sign (is_negative octet) (var_rest (six_bits octet) 1 os)) same
+    ∙ (ap (with_sign (is_negative octet)) read ∙ ap (λ (n : ℕ).
+    Ok (signed_of (is_negative octet) (positional 128 (six_bits octet ∷ digits ++ last ∷ [])), n)) size))
 
 six_small : (octet : ℕ) → octet < 128 → six_bits octet < 2 ^ 63
 six_small octet low =
@@ -54,7 +57,8 @@ pub var_int_answers : (os : List ℕ) → ReadsVarInt os (var_int os)
 var_int_answers [] = tt
 var_int_answers (octet ∷ rest) =
     elim (cases_lt octet 128) [
-      | inl low ↦ subst (ReadsVarInt (octet ∷ rest)) (sym (goes_on octet rest low)) (answers octet rest low _ (rest_answers (six_bits octet) 1 rest (six_small octet low)))
+      | inl low ↦ subst (ReadsVarInt (octet ∷ rest)) (sym (goes_on octet rest low))
+          (answers octet rest low _ (rest_answers (six_bits octet) 1 rest (six_small octet low)))
       | inr high ↦ subst (ReadsVarInt (octet ∷ rest)) (sym (ends_here octet rest high)) (record { within = omega arith; is = short octet high })
     ]
 

@@ -148,11 +148,13 @@ decimal_cut float body s =
     record { front = d.whole; rest = d.tail; octets = d.octets; is = (d.is_whole, (d.fraction, d.below, d.written, d.is_tail)) }
 
 decimal : (float : Bool) (body : List ℕ) → Dec (SomeDecimal float body)
-decimal float body = map_dec (cut_decimal float body) (decimal_cut float body) (some_cut (DecimalCut float) (λ front rest. both (whole front) (tail float rest)) body)
+decimal float body = map_dec (cut_decimal float body) (decimal_cut float body)
+    (some_cut (DecimalCut float) (λ front rest. both (whole front) (tail float rest)) body)
 
 float_body : (body : List ℕ) → Dec (IsFloatBody body)
 float_body body =
-    map_dec (λ s. record { magnitude = s.magnitude; exponent = s.exponent; is = s.is }) (λ f. record { magnitude = f.magnitude; exponent = f.exponent; is = f.is }) (decimal true body)
+    map_dec (λ s. record { magnitude = s.magnitude; exponent = s.exponent; is = s.is })
+    (λ f. record { magnitude = f.magnitude; exponent = f.exponent; is = f.is }) (decimal true body)
 
 -- 4. Whole tokens.
 

@@ -98,7 +98,8 @@ timestamp_form os _ (month h) = inr (inl h)
 timestamp_form os _ (day h) = inr (inr (inl h))
 timestamp_form os _ (minute h o) = inr (inr (inr (inl (h, o))))
 timestamp_form os _ (second h o) = inr (inr (inr (inr (inl (h, o)))))
-timestamp_form os _ (fraction h p digits rest e) = inr (inr (inr (inr (inr (h, p, record { front = digits; rest = rest; octets = e.cut; is = (e.plain, e.offset) })))))
+timestamp_form os _ (fraction h p digits rest e) = inr (inr
+    (inr (inr (inr (h, p, record { front = digits; rest = rest; octets = e.cut; is = (e.plain, e.offset) })))))
 
 pub timestamp : (os : List ℕ) → Dec (SomeTimestamp os)
 timestamp os = map_dec (form_timestamp os) (λ h. timestamp_form os h.0 h.1) (form os)
@@ -108,7 +109,8 @@ timestamp os = map_dec (form_timestamp os) (λ h. timestamp_form os h.0 h.1) (fo
 date : (d : Date) → Dec (IsDate d)
 date d =
     map_dec (λ p. record { year = p.0; month = p.1; day = p.2 }) (λ p. (p.year, p.month, p.day))
-    (three (both (dec_le 1 d.year) (dec_le d.year 9999)) (both (dec_le 1 d.month) (dec_le d.month 12)) (both (dec_le 1 d.day) (dec_le d.day (month_length d.year d.month))))
+    (three (both (dec_le 1 d.year) (dec_le d.year 9999)) (both (dec_le 1 d.month) (dec_le d.month 12))
+    (both (dec_le 1 d.day) (dec_le d.day (month_length d.year d.month))))
 
 time : (l : Local) → Dec (IsTime l)
 time l = three (dec_le l.hour 23) (dec_le l.minute 59) (dec_le l.second 59)
@@ -121,7 +123,8 @@ no_time l = map_dec (λ p. (p.0, p.1, p.2.0, p.2.1)) (λ p. (p.0, p.1, (p.2, p.3
 
 cut_there : (p : Precision) (l : Local) → Dec (IsCut p l)
 cut_there precisions.Year l =
-    map_dec (λ p. (p.0, p.1, p.2.0, p.2.1, p.2.2, p.2.3)) (λ p. (p.0, p.1, (p.2, p.3, p.4, p.5))) (three (ℕ_discrete l.month 1) (ℕ_discrete l.day 1) (no_time l))
+    map_dec (λ p. (p.0, p.1, p.2.0, p.2.1, p.2.2, p.2.3)) (λ p. (p.0, p.1, (p.2, p.3, p.4, p.5)))
+    (three (ℕ_discrete l.month 1) (ℕ_discrete l.day 1) (no_time l))
 cut_there precisions.Month l =
     map_dec (λ p. (p.0, p.1.0, p.1.1, p.1.2, p.1.3)) (λ p. (p.0, (p.1, p.2, p.3, p.4))) (both (ℕ_discrete l.day 1) (no_time l))
 cut_there precisions.Day l = no_time l

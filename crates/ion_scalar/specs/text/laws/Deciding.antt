@@ -85,7 +85,8 @@ pub record Behind (Is : Bool → List ℕ → Type 0) (token : List ℕ) : Type 
   pub octets : token ≡ minus negative ++ body
   pub is : Is negative body
 
-not_behind : (Is : Bool → List ℕ → Type 0) (token : List ℕ) → (Is false token → ⊥) → ((body : List ℕ) → token ≡ 45 ∷ body → Is true body → ⊥) → Behind Is token → ⊥
+not_behind : (Is : Bool → List ℕ → Type 0) (token : List ℕ) → (Is false token → ⊥) → ((body : List ℕ) → token ≡ 45 ∷ body → Is true body → ⊥) → Behind Is token
+    → ⊥
 not_behind Is token n m b = go b.negative b.body b.octets b.is where
   go : (s : Bool) (body : List ℕ) → token ≡ minus s ++ body → Is s body → ⊥
   go false body e i = let P : List ℕ → Type 0 = Is false in n (subst P (sym e) i)

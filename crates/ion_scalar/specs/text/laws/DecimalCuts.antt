@@ -17,8 +17,10 @@ pub whole_digits : (w : List ℕ) → IsWholePart w → IsDigits 10 w
 whole_digits w (inl one) = let P : List ℕ → Type 0 = IsDigits 10 in subst P (sym one) (omega arith)
 whole_digits w (inr some) = some.0
 
-pub one_whole : (os w t : List ℕ) (used : ℕ) → IsDigits 10 (take used os) → GoesNotOn 10 (drop used os) → os ≡ w ++ t → IsWholePart w → GoesNotOn 10 t → w ≡ take used os
-one_whole os w t used d g cut h n = one_run 10 w (take used os) t (drop used os) (omega arith) (whole_digits w h) d n g (sym cut ∙ sym (take-append-drop used os))
+pub one_whole : (os w t : List ℕ) (used : ℕ) → IsDigits 10 (take used os) → GoesNotOn 10 (drop used os) → os ≡ w ++ t → IsWholePart w → GoesNotOn 10 t
+    → w ≡ take used os
+one_whole os w t used d g cut h n = one_run 10 w (take used os) t (drop used os) (omega arith) (whole_digits w h) d n g
+    (sym cut ∙ sym (take-append-drop used os))
 
 pub no_whole : (os w t : List ℕ) → BeginsWithNone 10 os → os ≡ w ++ t → IsWholePart w → ⊥
 no_whole os w t none cut h = begins_front 10 w t (whole_digits w h) (let P : List ℕ → Type 0 = BeginsWithNone 10 in subst P cut none)
@@ -30,7 +32,11 @@ no_zero_first os w used more within zeroth e (inr some) = some.1 (ap (λ (x : Li
 pub tail_stops : (t f : List ℕ) (float s : Bool) (n : ℕ) → IsTail t f float s n → GoesNotOn 10 t
 tail_stops [] f float s n h = tt
 tail_stops (c ∷ []) f float s n (inl p) = let P : ℕ → Type 0 = λ x. 10 ≤ digit_value x in subst P (sym p.0) (omega arith)
-tail_stops (c ∷ d ∷ os) f float s n (inl p) = (let P : ℕ → Type 0 = λ x. 10 ≤ digit_value x in subst P (sym p.0) (omega arith), λ m. absurd (omega (arith, p.0)))
+tail_stops (c ∷ d ∷ os) f float s n (inl p) = (
+  let P : ℕ → Type 0 = λ x. 10 ≤ digit_value x in
+      subst P (sym p.0) (omega arith),
+  λ m. absurd (omega (arith, p.0)),
+)
 tail_stops (c ∷ os) f float s n (inr p) = end_stops (c ∷ os) float s n (inr (p.1))
 
 continued_number : (w f : List ℕ) → continued 10 (number 10 w) f ≡ number 10 (w ++ f)
@@ -42,7 +48,8 @@ coefficient w f v e =
     ∙ (cap_more (number 10 w) (2 ^ 127) (10 ^ length (digits_in f)) (number 10 f) (one-le-pow (length (digits_in f)) 10 (omega arith))
     ∙ ap (λ x. min x (2 ^ 127)) (continued_number w f))
 
-pub body_is : (os : List ℕ) (used v : ℕ) (t : Tail) → IsWholePart (take used os) → (s : Shows (IsTail (drop used os)) v t) → IsDecimalBody t.float os (number 10 (take used os ++ s.fraction)) (signed t.below s.exponent -ℤ pos t.count)
+pub body_is : (os : List ℕ) (used v : ℕ) (t : Tail) → IsWholePart (take used os) → (s : Shows (IsTail (drop used os)) v t)
+    → IsDecimalBody t.float os (number 10 (take used os ++ s.fraction)) (signed t.below s.exponent -ℤ pos t.count)
 body_is os used v t w s = record {
   whole = take used os;
   tail = drop used os;
@@ -57,13 +64,15 @@ body_is os used v t w s = record {
 }
 
 -- the octets of a decimal are cut behind the whole part
-pub whole_cut : (float : Bool) (os : List ℕ) (used m : ℕ) (e : ℤ) → ((w t : List ℕ) → os ≡ w ++ t → IsWholePart w → GoesNotOn 10 t → w ≡ take used os) → (d : IsDecimalBody float os m e)
+pub whole_cut : (float : Bool) (os : List ℕ) (used m : ℕ) (e : ℤ) → ((w t : List ℕ) → os ≡ w ++ t → IsWholePart w → GoesNotOn 10 t → w ≡ take used os)
+    → (d : IsDecimalBody float os m e)
     → (d.whole ≡ take used os) × (d.tail ≡ drop used os)
 whole_cut float os used m e only d =
     let front = only d.whole d.tail d.octets d.is_whole (tail_stops d.tail d.fraction float d.below d.written d.is_tail) in
     (front, one_rest used os d.whole d.tail front d.octets)
 
-pub no_body : (float : Bool) (os : List ℕ) (used m : ℕ) (e : ℤ) → ((w t : List ℕ) → os ≡ w ++ t → IsWholePart w → GoesNotOn 10 t → w ≡ take used os) → ((f : List ℕ) (float s : Bool) (n : ℕ) → IsTail (drop used os) f float s n → ⊥) → IsDecimalBody float os m e → ⊥
+pub no_body : (float : Bool) (os : List ℕ) (used m : ℕ) (e : ℤ) → ((w t : List ℕ) → os ≡ w ++ t → IsWholePart w → GoesNotOn 10 t → w ≡ take used os)
+    → ((f : List ℕ) (float s : Bool) (n : ℕ) → IsTail (drop used os) f float s n → ⊥) → IsDecimalBody float os m e → ⊥
 no_body float os used m e only none d =
     let P : List ℕ → Type 0 = λ x. IsTail x d.fraction float d.below d.written in
     none d.fraction float d.below d.written (subst P (whole_cut float os used m e only d).1 d.is_tail)

@@ -8,10 +8,14 @@ use Rattle.ion_scalar.specs.text.laws.OneRun.{first_digit, one_run}
 
 -- a letter of an exponent is no digit, no `_` and no point
 pub letter : (float : Bool) (c : ℕ) → IsLetter float c → (10 ≤ digit_value c) × (c ≢ 95) × (c ≢ 46)
-letter false c (inl e) = let P : ℕ → Type 0 = λ x. (10 ≤ digit_value x) × (x ≢ 95) × (x ≢ 46) in subst P (sym e) (omega arith, λ h. absurd (omega arith), λ h. absurd (omega arith))
-letter false c (inr e) = let P : ℕ → Type 0 = λ x. (10 ≤ digit_value x) × (x ≢ 95) × (x ≢ 46) in subst P (sym e) (omega arith, λ h. absurd (omega arith), λ h. absurd (omega arith))
-letter true c (inl e) = let P : ℕ → Type 0 = λ x. (10 ≤ digit_value x) × (x ≢ 95) × (x ≢ 46) in subst P (sym e) (omega arith, λ h. absurd (omega arith), λ h. absurd (omega arith))
-letter true c (inr e) = let P : ℕ → Type 0 = λ x. (10 ≤ digit_value x) × (x ≢ 95) × (x ≢ 46) in subst P (sym e) (omega arith, λ h. absurd (omega arith), λ h. absurd (omega arith))
+letter false c (inl e) = let P : ℕ → Type 0 = λ x. (10 ≤ digit_value x) × (x ≢ 95) × (x ≢ 46) in
+    subst P (sym e) (omega arith, λ h. absurd (omega arith), λ h. absurd (omega arith))
+letter false c (inr e) = let P : ℕ → Type 0 = λ x. (10 ≤ digit_value x) × (x ≢ 95) × (x ≢ 46) in
+    subst P (sym e) (omega arith, λ h. absurd (omega arith), λ h. absurd (omega arith))
+letter true c (inl e) = let P : ℕ → Type 0 = λ x. (10 ≤ digit_value x) × (x ≢ 95) × (x ≢ 46) in
+    subst P (sym e) (omega arith, λ h. absurd (omega arith), λ h. absurd (omega arith))
+letter true c (inr e) = let P : ℕ → Type 0 = λ x. (10 ≤ digit_value x) × (x ≢ 95) × (x ≢ 46) in
+    subst P (sym e) (omega arith, λ h. absurd (omega arith), λ h. absurd (omega arith))
 
 -- an end begins with no digit
 pub end_stops : (rest : List ℕ) (float s : Bool) (n : ℕ) → IsEnd rest float s n → GoesNotOn 10 rest
@@ -37,35 +41,44 @@ begins_front base [] rest h n = h
 begins_front base (c ∷ f) rest h n = absurd (omega (arith, first_digit base c f h))
 
 -- one cut
-pub one_cut : (used : ℕ) (os f rest : List ℕ) (float s : Bool) (n : ℕ) → (0 < used → IsDigits 10 (take used os)) → BeginsWithNone 10 (drop used os) → (0 < used → GoesNotOn 10 (drop used os))
+pub one_cut : (used : ℕ) (os f rest : List ℕ) (float s : Bool) (n : ℕ) → (0 < used → IsDigits 10 (take used os)) → BeginsWithNone 10 (drop used os)
+    → (0 < used → GoesNotOn 10 (drop used os))
     → (f ≡ []) ⊎ IsDigits 10 f → IsEnd rest float s n → os ≡ f ++ rest → f ≡ take used os
 one_cut zero os f rest float s n h b g (inl none) e cut = none
-one_cut zero os f rest float s n h b g (inr digits) e cut = absurd (begins_front 10 f rest digits (let P : List ℕ → Type 0 = BeginsWithNone 10 in subst P cut b))
+one_cut zero os f rest float s n h b g (inr digits) e cut =
+    absurd (begins_front 10 f rest digits (let P : List ℕ → Type 0 = BeginsWithNone 10 in subst P cut b))
 one_cut (suc k) os f rest float s n h b g (inl none) e cut =
     let same : os ≡ rest = cut ∙ ap (λ (x : List ℕ). x ++ rest) none in
-    absurd (front 10 (suc k) os (h (omega arith)) (let P : List ℕ → Type 0 = BeginsWithNone 10 in subst P (sym same) (none_first 10 rest (end_stops rest float s n e))))
+    absurd (front 10 (suc k) os (h (omega arith)) (let P : List ℕ → Type 0 = BeginsWithNone 10 in
+    subst P (sym same) (none_first 10 rest (end_stops rest float s n e))))
 one_cut (suc k) os f rest float s n h b g (inr digits) e cut =
-    one_run 10 f (take (suc k) os) rest (drop (suc k) os) (omega arith) digits (h (omega arith)) (end_stops rest float s n e) (g (omega arith)) (sym cut ∙ sym (take-append-drop (suc k) os))
+    one_run 10 f (take (suc k) os) rest (drop (suc k) os) (omega arith) digits (h (omega arith)) (end_stops rest float s n e) (g (omega arith))
+    (sym cut ∙ sym (take-append-drop (suc k) os))
 
 pub one_rest : (used : ℕ) (os f rest : List ℕ) → f ≡ take used os → os ≡ f ++ rest → rest ≡ drop used os
-one_rest used os f rest e cut = append_cancel_left (take used os) rest (drop used os) (sym (ap (λ (x : List ℕ). x ++ rest) e) ∙ (sym cut ∙ sym (take-append-drop used os)))
+one_rest used os f rest e cut = append_cancel_left (take used os) rest (drop used os)
+    (sym (ap (λ (x : List ℕ). x ++ rest) e) ∙ (sym cut ∙ sym (take-append-drop used os)))
 
-pub fraction_is : (os : List ℕ) (used : ℕ) (float s : Bool) (n : ℕ) → (0 < used → IsDigits 10 (take used os)) → IsEnd (drop used os) float s n → IsFraction os (take used os) float s n
+pub fraction_is : (os : List ℕ) (used : ℕ) (float s : Bool) (n : ℕ) → (0 < used → IsDigits 10 (take used os)) → IsEnd (drop used os) float s n
+    → IsFraction os (take used os) float s n
 fraction_is os zero float s n h e = record { rest = os; cut = refl; digits = inl refl; exponent = e }
 fraction_is os (suc k) float s n h e = record { rest = drop (suc k) os; cut = sym (take-append-drop (suc k) os); digits = inr (h (omega arith)); exponent = e }
 
-pub no_fraction : (os : List ℕ) (used : ℕ) (f : List ℕ) (float s : Bool) (n : ℕ) → (0 < used → IsDigits 10 (take used os)) → BeginsWithNone 10 (drop used os) → (0 < used → GoesNotOn 10 (drop used os))
+pub no_fraction : (os : List ℕ) (used : ℕ) (f : List ℕ) (float s : Bool) (n : ℕ) → (0 < used → IsDigits 10 (take used os)) → BeginsWithNone 10 (drop used os)
+    → (0 < used → GoesNotOn 10 (drop used os))
     → ((float s : Bool) (n : ℕ) → IsEnd (drop used os) float s n → ⊥) → IsFraction os f float s n → ⊥
 no_fraction os used f float s n h b g ends p =
     let same = one_rest used os f p.rest (one_cut used os f p.rest float s n h b g p.digits p.exponent p.cut) p.cut in
     ends float s n (let P : List ℕ → Type 0 = λ x. IsEnd x float s n in subst P same p.exponent)
 
-pub no_tail_pointed : (tail f : List ℕ) (float s : Bool) (n : ℕ) → get_or tail 0 0 ≡ 46 → ((f : List ℕ) (float s : Bool) (n : ℕ) → IsFraction (drop 1 tail) f float s n → ⊥) → IsTail tail f float s n → ⊥
+pub no_tail_pointed : (tail f : List ℕ) (float s : Bool) (n : ℕ) → get_or tail 0 0 ≡ 46
+    → ((f : List ℕ) (float s : Bool) (n : ℕ) → IsFraction (drop 1 tail) f float s n → ⊥) → IsTail tail f float s n → ⊥
 no_tail_pointed [] f float s n dot none h = h
 no_tail_pointed (c ∷ os) f float s n dot none (inl p) = none f float s n p.1
 no_tail_pointed (c ∷ os) f float s n dot none (inr p) = absurd ((letter float c (p.1.0)).2 dot)
 
-pub no_tail : (tail f : List ℕ) (float s : Bool) (n : ℕ) → get_or tail 0 0 ≢ 46 → ((float s : Bool) (n : ℕ) → IsExponent tail float s n → ⊥) → IsTail tail f float s n → ⊥
+pub no_tail : (tail f : List ℕ) (float s : Bool) (n : ℕ) → get_or tail 0 0 ≢ 46 → ((float s : Bool) (n : ℕ) → IsExponent tail float s n → ⊥)
+    → IsTail tail f float s n → ⊥
 no_tail [] f float s n dot none h = h
 no_tail (c ∷ os) f float s n dot none (inl p) = dot p.0
 no_tail (c ∷ os) f float s n dot none (inr p) = none float s n p.1

@@ -13,16 +13,31 @@ use Rattle.ion_scalar.specs.text.Ints.{IsDigits, GoesNotOn, BeginsWithNone, digi
 pub digits_push : (base : ℕ) (os : List ℕ) (c : ℕ) → IsDigits base os → digit_value c < base → IsDigits base (os ++ c ∷ [])
 digits_push base [] c h d = d
 digits_push base (a ∷ []) c h d = (h, inl d)
-digits_push base (a ∷ b ∷ os) c h d = (h.0, elim (h.1) [ inl more ↦ inl (digits_push base (b ∷ os) c more d) | inr skip ↦ inr (skip.0, digits_push base os c skip.1 d) ])
+digits_push base (a ∷ b ∷ os) c h d = (
+  h.0,
+  elim (h.1) [
+    | inl more ↦ inl (digits_push base (b ∷ os) c more d)
+    | inr skip ↦ inr
+        (skip.0, digits_push base os c skip.1 d)
+  ],
+)
 
 pub digits_skip : (base : ℕ) (os : List ℕ) (c : ℕ) → IsDigits base os → digit_value c < base → IsDigits base (os ++ 95 ∷ c ∷ [])
 digits_skip base [] c h d = absurd h
 digits_skip base (a ∷ []) c h d = (h, inr (refl, d))
-digits_skip base (a ∷ b ∷ os) c h d = (h.0, elim (h.1) [ inl more ↦ inl (digits_skip base (b ∷ os) c more d) | inr skip ↦ inr (skip.0, digits_skip base os c skip.1 d) ])
+digits_skip base (a ∷ b ∷ os) c h d = (
+  h.0,
+  elim (h.1) [
+    | inl more ↦ inl (digits_skip base (b ∷ os) c more d)
+    | inr skip ↦ inr
+        (skip.0, digits_skip base os c skip.1 d)
+  ],
+)
 
 -- what stands for no digit is left out
 pub digits_in-append : (xs ys : List ℕ) → digits_in (xs ++ ys) ≡ digits_in xs ++ digits_in ys
-digits_in-append xs ys = ap (map digit_value) (filter-append (λ c. not (c == 95)) xs ys) ∙ map-append digit_value (filter (λ c. not (c == 95)) xs) (filter (λ c. not (c == 95)) ys)
+digits_in-append xs ys = ap (map digit_value) (filter-append (λ c. not (c == 95)) xs ys)
+    ∙ map-append digit_value (filter (λ c. not (c == 95)) xs) (filter (λ c. not (c == 95)) ys)
 
 -- a digit is no `_`
 pub not_mark : (base c : ℕ) → base ≤ 16 → digit_value c < base → c ≢ 95
@@ -37,7 +52,8 @@ digits_in_push base c os h d = digits_in-append os (c ∷ []) ∙ ap (λ (x : Li
 pub digits_in_skip : (base c : ℕ) (os : List ℕ) → base ≤ 16 → digit_value c < base → digits_in (os ++ 95 ∷ c ∷ []) ≡ digits_in os ++ digit_value c ∷ []
 digits_in_skip base c os h d = digits_in-append os (95 ∷ c ∷ []) ∙ ap (λ (x : List ℕ). digits_in os ++ x) (digits_in_one base c h d)
 
-pub continued_more : (base before d : ℕ) (os longer : List ℕ) → digits_in longer ≡ digits_in os ++ d ∷ [] → continued base before longer ≡ continued base before os * base + d
+pub continued_more : (base before d : ℕ) (os longer : List ℕ) → digits_in longer ≡ digits_in os ++ d ∷ [] → continued base before longer
+    ≡ continued base before os * base + d
 continued_more base before d os longer e =
     ap (λ (ds : List ℕ). positional base (before ∷ ds)) e ∙ positional_push base (before ∷ digits_in os) d
 
@@ -58,10 +74,12 @@ pub record Run (base before : ℕ) (os : List ℕ) (value count : ℕ) : Type 0 
   pub counts : value ≡ min (continued base before os) (2 ^ 127)
   pub many : count ≡ length (digits_in os)
 
-pub Run_more : (base before d value count : ℕ) (os longer : List ℕ) → 0 < base → digits_in longer ≡ digits_in os ++ d ∷ [] → Run base before os value count → Run base before longer (min (value * base + d) (2 ^ 127)) (count + 1)
+pub Run_more : (base before d value count : ℕ) (os longer : List ℕ) → 0 < base → digits_in longer ≡ digits_in os ++ d ∷ [] → Run base before os value count
+    → Run base before longer (min (value * base + d) (2 ^ 127)) (count + 1)
 Run_more base before d value count os longer h e r =
     record {
-      counts = rw r.counts (cap_more (continued base before os) (2 ^ 127) base d h ∙ ap (λ x. min x (2 ^ 127)) (sym (continued_more base before d os longer e)));
+      counts = rw r.counts (cap_more (continued base before os) (2 ^ 127) base d h
+          ∙ ap (λ x. min x (2 ^ 127)) (sym (continued_more base before d os longer e)));
       many = omega (arith, r.many, ap length e, length-append (digits_in os) (d ∷ []));
     }
 
@@ -76,7 +94,8 @@ digits_next base zero os c h d = d
 digits_next base (suc k) os c h d = digits_push base (take (suc k) os) c (h (omega arith)) d
 
 -- the octets with one digit more
-pub run_step : (base used at : ℕ) (os : List ℕ) → base ≤ 16 → Place os used at → (0 < used → IsDigits base (take used os)) → at < length os → digit_value (get_or os at 0) < base
+pub run_step : (base used at : ℕ) (os : List ℕ) → base ≤ 16 → Place os used at → (0 < used → IsDigits base (take used os)) → at < length os
+    → digit_value (get_or os at 0) < base
     → IsDigits base (take (at + 1) os) × (digits_in (take (at + 1) os) ≡ digits_in (take used os) ++ digit_value (get_or os at 0) ∷ [])
 run_step base used at os b (inl here) ds h d =
     let c = get_or os at 0 in
@@ -118,6 +137,7 @@ run_end base used at os b (inl here) h =
       ],
     )
 run_end base used at os b (inr marked) h =
-    let none : used + 1 < length os → base ≤ digit_value (get_or os (used + 1) 0) = subst (λ (n : ℕ). n < length os → base ≤ digit_value (get_or os n 0)) marked.0 h in
+    let none : used + 1 < length os → base ≤ digit_value (get_or os (used + 1) 0) =
+    subst (λ (n : ℕ). n < length os → base ≤ digit_value (get_or os n 0)) marked.0 h in
     let e : drop used os ≡ 95 ∷ drop (used + 1) os = drop_more os used 0 marked.2 ∙ ap (λ c. c ∷ drop (used + 1) os) marked.3 in
     (rw e (omega arith), λ some. rw e (stops_marked base (drop (used + 1) os) b (begins base (used + 1) os none)))

@@ -40,8 +40,16 @@ one_signed (c ∷ os) s t m n (inr (inr a)) (inr (inr b)) = (a.0 ∙ sym (b.0), 
 one_letter : (f g : Bool) (c : ℕ) → IsLetter f c → IsLetter g c → f ≡ g
 one_letter false false c a b = refl
 one_letter true true c a b = refl
-one_letter false true c a b = absurd (elim a [ inl x ↦ elim b [ inl y ↦ omega arith | inr y ↦ omega arith ] | inr x ↦ elim b [ inl y ↦ omega arith | inr y ↦ omega arith ] ])
-one_letter true false c a b = absurd (elim a [ inl x ↦ elim b [ inl y ↦ omega arith | inr y ↦ omega arith ] | inr x ↦ elim b [ inl y ↦ omega arith | inr y ↦ omega arith ] ])
+one_letter false true c a b = absurd (elim a [
+  | inl x ↦ elim b [ inl y ↦ omega arith | inr y ↦ omega arith ]
+  | inr x ↦ elim b
+      [ inl y ↦ omega arith | inr y ↦ omega arith ]
+])
+one_letter true false c a b = absurd (elim a [
+  | inl x ↦ elim b [ inl y ↦ omega arith | inr y ↦ omega arith ]
+  | inr x ↦ elim b
+      [ inl y ↦ omega arith | inr y ↦ omega arith ]
+])
 
 -- float, minus and magnitude of an exponent
 abbrev Agree : (f g s t : Bool) (m n : ℕ) → Type 0
@@ -62,7 +70,8 @@ one_end os f g s t m n (inr a) (inl b) = absurd (nothing os f s m (b.0) a)
 one_end os f g s t m n (inr a) (inr b) = one_exponent os f g s t m n a b
 
 -- digits in front of an end are cut in one way
-end_cut : (x y r q : List ℕ) (f g s t : Bool) (m n : ℕ) → (x ≡ []) ⊎ IsDigits 10 x → (y ≡ []) ⊎ IsDigits 10 y → IsEnd r f s m → IsEnd q g t n → x ++ r ≡ y ++ q → x ≡ y
+end_cut : (x y r q : List ℕ) (f g s t : Bool) (m n : ℕ) → (x ≡ []) ⊎ IsDigits 10 x → (y ≡ []) ⊎ IsDigits 10 y → IsEnd r f s m → IsEnd q g t n → x ++ r ≡ y ++ q
+    → x ≡ y
 end_cut x y r q f g s t m n (inl a) (inl b) c d e = a ∙ sym b
 end_cut x y r q f g s t m n (inl a) (inr b) c d e =
     let same : r ≡ y ++ q = cc in
@@ -145,7 +154,8 @@ begins_so false (c ∷ os) first = (λ f. absurd (false≢true f), λ is. absurd
 -- the sign of a number's token
 sign_of : (token : List ℕ) (x : Number) (i : IsNumeral token x) → BeginsWithMinus i.negative token
 sign_of token x i =
-    let first : (c : ℕ) (os : List ℕ) → i.body ≡ c ∷ os → c ≢ 45 = λ c os same. let P : List ℕ → Type 0 = λ z. IsBehind i.negative z x in behind_first i.negative c os x (subst P same i.is) in
+    let first : (c : ℕ) (os : List ℕ) → i.body ≡ c ∷ os → c ≢ 45 = λ c os same. let P : List ℕ → Type 0 = λ z. IsBehind i.negative z x in
+    behind_first i.negative c os x (subst P same i.is) in
     let P : List ℕ → Type 0 = BeginsWithMinus i.negative in
     subst P (sym i.octets) (begins_so i.negative i.body first)
 
@@ -167,10 +177,19 @@ front_stops e (f ∷ rest) (inr h) = (let P : ℕ → Type 0 = λ x. 10 ≤ digi
 
 front_no_tail : (e : ℕ) (rest f : List ℕ) (float s : Bool) (n : ℕ) → (e ≡ 45) ⊎ (e ≡ 84) → IsTail (e ∷ rest) f float s n → ⊥
 front_no_tail e rest f float s n is (inl p) = elim is [ inl a ↦ omega (arith, a, p.0) | inr a ↦ omega (arith, a, p.0) ]
-front_no_tail e rest f false s n is (inr p) = elim is [ inl a ↦ elim (p.1.0) [ inl b ↦ omega arith | inr b ↦ omega arith ] | inr a ↦ elim (p.1.0) [ inl b ↦ omega arith | inr b ↦ omega arith ] ]
-front_no_tail e rest f true s n is (inr p) = elim is [ inl a ↦ elim (p.1.0) [ inl b ↦ omega arith | inr b ↦ omega arith ] | inr a ↦ elim (p.1.0) [ inl b ↦ omega arith | inr b ↦ omega arith ] ]
+front_no_tail e rest f false s n is (inr p) = elim is [
+  | inl a ↦ elim (p.1.0) [ inl b ↦ omega arith | inr b ↦ omega arith ]
+  | inr a ↦ elim (p.1.0)
+      [ inl b ↦ omega arith | inr b ↦ omega arith ]
+]
+front_no_tail e rest f true s n is (inr p) = elim is [
+  | inl a ↦ elim (p.1.0) [ inl b ↦ omega arith | inr b ↦ omega arith ]
+  | inr a ↦ elim (p.1.0)
+      [ inl b ↦ omega arith | inr b ↦ omega arith ]
+]
 
-module _ (a b c d e : ℕ) (rest : List ℕ) (da : digit_value a < 10) (db : digit_value b < 10) (dc : digit_value c < 10) (dd : digit_value d < 10) (stop : (e ≡ 45) ⊎ (e ≡ 84)) where
+module _ (a b c d e : ℕ) (rest : List ℕ) (da : digit_value a < 10) (db : digit_value b < 10) (dc : digit_value c < 10) (dd : digit_value d < 10)
+    (stop : (e ≡ 45) ⊎ (e ≡ 84)) where
   four : IsDigits 10 (a ∷ b ∷ c ∷ d ∷ [])
   four = (da, inl (db, inl (dc, inl dd)))
 
@@ -214,7 +233,8 @@ module _ (a b c d e : ℕ) (rest : List ℕ) (da : digit_value a < 10) (db : dig
   front_numeral x i = front_behind false x (number_behind false _ (a ∷ b ∷ c ∷ d ∷ e ∷ rest) x front_sign refl i)
 
   front_float : IsFloat (a ∷ b ∷ c ∷ d ∷ e ∷ rest) → ⊥
-  front_float i = let f = float_behind false (a ∷ b ∷ c ∷ d ∷ e ∷ rest) (a ∷ b ∷ c ∷ d ∷ e ∷ rest) front_sign refl i in front_decimal true f.magnitude f.exponent f.is
+  front_float i = let f = float_behind false (a ∷ b ∷ c ∷ d ∷ e ∷ rest) (a ∷ b ∷ c ∷ d ∷ e ∷ rest) front_sign refl i in
+      front_decimal true f.magnitude f.exponent f.is
 
 no_front : (os : List ℕ) → AreFourAt os 0 × (IsAt os 4 45 ⊎ IsAt os 4 84) → ((x : Number) → IsNumeral os x → ⊥) × (IsFloat os → ⊥)
 no_front [] h = absurd (omega (arith, h.0.0.0.0))
@@ -251,7 +271,8 @@ number_no_float token (numbers.Timestamp t) i f = (timestamp_alone token t i).1 
 number_no_float token (numbers.Int z) i f = numeral_no_float token (numbers.Int z) i f
 number_no_float token (numbers.Decimal d) i f = numeral_no_float token (numbers.Decimal d) i f
 
-no_there : (token : List ℕ) → ((x : Number) → IsNumeral token x → ⊥) → ((t : TimestampParts) → IsTimestampToken token t → IsShort t.precision × (IsTimestamp t → ⊥)) → (x : Number) → IsNumber token x → Fits x × (IsThere x → ⊥)
+no_there : (token : List ℕ) → ((x : Number) → IsNumeral token x → ⊥)
+    → ((t : TimestampParts) → IsTimestampToken token t → IsShort t.precision × (IsTimestamp t → ⊥)) → (x : Number) → IsNumber token x → Fits x × (IsThere x → ⊥)
 no_there token none h (numbers.Timestamp t) is = h t is
 no_there token none h (numbers.Int z) is = absurd (none (numbers.Int z) is)
 no_there token none h (numbers.Decimal d) is = absurd (none (numbers.Decimal d) is)

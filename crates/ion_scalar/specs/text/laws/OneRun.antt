@@ -26,7 +26,8 @@ longer base c d (e ∷ os) rest b h n =
       | inr mark ↦ absurd (omega (arith, first_digit base e os mark.1, n.1 mark.0))
     ]
 
-pub one_run : (base : ℕ) (xs ys x y : List ℕ) → base ≤ 16 → IsDigits base xs → IsDigits base ys → GoesNotOn base x → GoesNotOn base y → xs ++ x ≡ ys ++ y → xs ≡ ys
+pub one_run : (base : ℕ) (xs ys x y : List ℕ) → base ≤ 16 → IsDigits base xs → IsDigits base ys → GoesNotOn base x → GoesNotOn base y → xs ++ x ≡ ys ++ y
+    → xs ≡ ys
 one_run base [] ys x y b hx hy nx ny e = absurd hx
 one_run base (c ∷ xs) [] x y b hx hy nx ny e = absurd hy
 one_run base (c ∷ []) (c' ∷ []) x y b hx hy nx ny e = cc
@@ -54,7 +55,8 @@ one_run base (c ∷ d ∷ xs) (c' ∷ d' ∷ ys) x y b hx hy nx ny e =
 pub whole_run : (base used : ℕ) (os : List ℕ) → base ≤ 16 → IsDigits base (take used os) → GoesNotOn base (drop used os) → IsDigits base os → take used os ≡ os
 whole_run base used os b h n all = one_run base (take used os) os (drop used os) [] b h all n tt (take-append-drop used os ∙ sym (append-nil os))
 
-pub all_used : (base used : ℕ) (os : List ℕ) → base ≤ 16 → used ≤ length os → IsDigits base (take used os) → GoesNotOn base (drop used os) → IsDigits base os → used ≡ length os
+pub all_used : (base used : ℕ) (os : List ℕ) → base ≤ 16 → used ≤ length os → IsDigits base (take used os) → GoesNotOn base (drop used os) → IsDigits base os
+    → used ≡ length os
 all_used base used os b within h n all =
     let whole = whole_run base used os b h n all in
     omega (arith, ap length whole, length-take-le used os within)

@@ -71,8 +71,15 @@ whole_text n h =
     ]
 
 pub int_text : (z : ℤ) → IsWhole z → IsNumber (signed_decimal z) (numbers.Int z)
-int_text (pos n) h = let s = spells n (omega arith) in record { negative = false; body = decimal n; octets = refl; is = (n, inl (whole_text n (omega arith), sym s.value), refl) }
-int_text (negsuc n) h = let s = spells (suc n) (omega arith) in record { negative = true; body = decimal (suc n); octets = refl; is = (suc n, inl (whole_text (suc n) (omega arith), sym s.value), refl) }
+int_text (pos n) h = let s = spells n (omega arith) in record {
+  negative = false;
+  body = decimal n;
+  octets = refl;
+  is =
+      (n, inl (whole_text n (omega arith), sym s.value), refl);
+}
+int_text (negsuc n) h = let s = spells (suc n) (omega arith) in
+    record { negative = true; body = decimal (suc n); octets = refl; is = (suc n, inl (whole_text (suc n) (omega arith), sym s.value), refl) }
 
 plain_signed : (os : List ℕ) (n : ℕ) → Spells n os → IsSigned os false n
 plain_signed [] n s = absurd (omega (arith, s.some))

@@ -53,7 +53,8 @@ no_second_digits os b colon none _ (minute h o) = no_offset_colon os 16 colon o
 no_second_digits os b colon none _ (second h o) = none h.2
 no_second_digits os b colon none _ (fraction h p digits rest e) = none h.2
 
-pub no_second : (os : List ℕ) → BeginsWithMinute os → IsAt os 16 58 → (IsAt os 19 46 → ⊥) → (IsOffsetToken (drop 19 os) → ⊥) → (t : TimestampParts) → IsTimestampToken os t → ⊥
+pub no_second : (os : List ℕ) → BeginsWithMinute os → IsAt os 16 58 → (IsAt os 19 46 → ⊥) → (IsOffsetToken (drop 19 os) → ⊥) → (t : TimestampParts)
+    → IsTimestampToken os t → ⊥
 no_second os b colon point offset _ (year h) = omega (arith, long os b, h.0)
 no_second os b colon point offset _ (month h) = omega (arith, long os b, h.0)
 no_second os b colon point offset _ (day h) = elim (h.1) [ inl e ↦ omega (arith, long os b) | inr e ↦ omega (arith, long os b, e.0) ]
@@ -61,7 +62,8 @@ no_second os b colon point offset _ (minute h o) = no_offset_colon os 16 colon o
 no_second os b colon point offset _ (second h o) = offset o
 no_second os b colon point offset _ (fraction h p digits rest e) = point p
 
-pub no_fraction_end : (os : List ℕ) → BeginsWithMinute os → IsAt os 16 58 → IsAt os 19 46 → ((digits rest : List ℕ) → IsFractionEnd (drop 20 os) digits rest → ⊥) → (t : TimestampParts) → IsTimestampToken os t → ⊥
+pub no_fraction_end : (os : List ℕ) → BeginsWithMinute os → IsAt os 16 58 → IsAt os 19 46
+    → ((digits rest : List ℕ) → IsFractionEnd (drop 20 os) digits rest → ⊥) → (t : TimestampParts) → IsTimestampToken os t → ⊥
 no_fraction_end os b colon point none _ (year h) = omega (arith, long os b, h.0)
 no_fraction_end os b colon point none _ (month h) = omega (arith, long os b, h.0)
 no_fraction_end os b colon point none _ (day h) = elim (h.1) [ inl e ↦ omega (arith, long os b) | inr e ↦ omega (arith, long os b, e.0) ]
@@ -76,20 +78,35 @@ Shown os s = (t : TimestampParts) × IsTimestampToken os t × (s ≡ stamp t)
 pub minute_some : (os : List ℕ) (l : Local) (r : Option Stamp) → BeginsWithMinute os → l ≡ minute_read os
     → SomeIff r (IsOffsetToken (drop 16 os)) (record { local = l; precision = precisions.Minute; offset = offset_read (drop 16 os) }) → IfSome r (Shown os)
 minute_some os l None b e h = tt
-minute_some os l (Some s) b e h =
-    (timed os precisions.Minute 0 0 (drop 16 os), minute b (h.0), h.1 ∙ (λ i. record { local = e i; precision = precisions.Minute; offset = offset_read (drop 16 os) }))
+minute_some os l (Some s) b e h = (
+  timed os precisions.Minute 0 0 (drop 16 os),
+  minute b (h.0),
+  h.1
+      ∙ (λ i. record { local = e i; precision = precisions.Minute; offset = offset_read (drop 16 os) }),
+)
 
-pub second_some : (os : List ℕ) (l : Local) (r : Option Stamp) → BeginsWithMinute os → IsAt os 16 58 → AreTwoAt os 17 → l ≡ record (minute_read os) { second = two os 17 }
+pub second_some : (os : List ℕ) (l : Local) (r : Option Stamp) → BeginsWithMinute os → IsAt os 16 58 → AreTwoAt os 17
+    → l ≡ record (minute_read os) { second = two os 17 }
     → SomeIff r (IsOffsetToken (drop 19 os)) (record { local = l; precision = precisions.Second; offset = offset_read (drop 19 os) }) → IfSome r (Shown os)
 second_some os l None b colon two_there e h = tt
-second_some os l (Some s) b colon two_there e h =
-    (timed os precisions.Second (two os 17) 0 (drop 19 os), second (b, colon, two_there) (h.0), h.1 ∙ (λ i. record { local = e i; precision = precisions.Second; offset = offset_read (drop 19 os) }))
+second_some os l (Some s) b colon two_there e h = (
+  timed os precisions.Second (two os 17) 0 (drop 19 os),
+  second (b, colon, two_there) (h.0),
+  h.1
+      ∙ (λ i. record { local = e i; precision = precisions.Second; offset = offset_read (drop 19 os) }),
+)
 
 abbrev pub ShownEnd : Local → List ℕ → Stamp → Type 0
 ShownEnd l os s = (digits rest : List ℕ) × IsFractionEnd os digits rest
-    × (s ≡ record { local = record l { fraction = min (number 10 digits) (2 ^ 127) }; precision = precisions.Fraction (min (length digits) 39); offset = offset_read rest })
+    × (s ≡ record {
+      local = record l { fraction = min (number 10 digits) (2 ^ 127) };
+      precision =
+          precisions.Fraction (min (length digits) 39);
+      offset = offset_read rest;
+    })
 
-pub fraction_some : (os : List ℕ) (l : Local) (r : Option Stamp) → BeginsWithMinute os → IsAt os 16 58 → AreTwoAt os 17 → IsAt os 19 46 → l ≡ record (minute_read os) { second = two os 17 }
+pub fraction_some : (os : List ℕ) (l : Local) (r : Option Stamp) → BeginsWithMinute os → IsAt os 16 58 → AreTwoAt os 17 → IsAt os 19 46
+    → l ≡ record (minute_read os) { second = two os 17 }
     → IfSome r (ShownEnd l (drop 20 os)) → IfSome r (Shown os)
 fraction_some os l None b colon two_there point e h = tt
 fraction_some os l (Some s) b colon two_there point e h =
@@ -97,7 +114,12 @@ fraction_some os l (Some s) b colon two_there point e h =
     let rest = h.1 in (
       timed os (precisions.Fraction (length digits)) (two os 17) (number 10 digits) rest,
       fraction (b, colon, two_there) point digits rest (h.2),
-      h.3 ∙ (λ i. record { local = record (e i) { fraction = min (number 10 digits) (2 ^ 127) }; precision = precisions.Fraction (min (length digits) 39); offset = offset_read rest }),
+      h.3 ∙ (λ i. record {
+        local = record (e i) { fraction = min (number 10 digits) (2 ^ 127) };
+        precision =
+            precisions.Fraction (min (length digits) 39);
+        offset = offset_read rest;
+      }),
     )
 
 pub none_some : (r : Option Stamp) (P : Type 0) (v : Stamp) (Q : Type 0) → SomeIff r P v → ((P → ⊥) → Q) → IfNone r Q
@@ -120,14 +142,17 @@ offset_stops (c ∷ []) h = (head_stops c (offset_head c [] h)).0
 offset_stops (c ∷ d ∷ os) h = let k = head_stops c (offset_head c (d ∷ os) h) in (k.0, λ m. absurd (k.1 m))
 
 -- digits in front of an offset are the longest run
-pub fraction_cut : (os digits rest : List ℕ) (used : ℕ) → (0 < used → IsDigits 10 (take used os)) → BeginsWithNone 10 (drop used os) → (0 < used → GoesNotOn 10 (drop used os)) → IsFractionEnd os digits rest
+pub fraction_cut : (os digits rest : List ℕ) (used : ℕ) → (0 < used → IsDigits 10 (take used os)) → BeginsWithNone 10 (drop used os)
+    → (0 < used → GoesNotOn 10 (drop used os)) → IsFractionEnd os digits rest
     → (0 < used) × (digits ≡ take used os) × (rest ≡ drop used os)
 fraction_cut os digits rest zero d b g e = let P : List ℕ → Type 0 = BeginsWithNone 10 in absurd (begins_front 10 digits rest (e.plain.0) (subst P e.cut b))
 fraction_cut os digits rest (suc k) d b g e =
-    let same = one_run 10 digits (take (suc k) os) rest (drop (suc k) os) (omega arith) (e.plain.0) (d (omega arith)) (offset_stops rest e.offset) (g (omega arith)) (sym e.cut ∙ sym (take-append-drop (suc k) os)) in
+    let same = one_run 10 digits (take (suc k) os) rest (drop (suc k) os) (omega arith) (e.plain.0) (d (omega arith)) (offset_stops rest e.offset)
+    (g (omega arith)) (sym e.cut ∙ sym (take-append-drop (suc k) os)) in
     (omega arith, same, one_rest (suc k) os digits rest same e.cut)
 
-pub no_end : (os digits rest : List ℕ) (used count : ℕ) → (0 < used → IsDigits 10 (take used os)) → BeginsWithNone 10 (drop used os) → (0 < used → GoesNotOn 10 (drop used os)) → used ≤ length os → count ≡ length (digits_in (take used os))
+pub no_end : (os digits rest : List ℕ) (used count : ℕ) → (0 < used → IsDigits 10 (take used os)) → BeginsWithNone 10 (drop used os)
+    → (0 < used → GoesNotOn 10 (drop used os)) → used ≤ length os → count ≡ length (digits_in (take used os))
     → (used ≡ 0) ⊎ ((count ≡ used → ⊥) ⊎ (IsOffsetToken (drop used os) → ⊥)) → IsFractionEnd os digits rest → ⊥
 no_end os digits rest used count d b g within many (inl z) e = let c = (fraction_cut os digits rest used d b g e).0 in omega arith
 no_end os digits rest used count d b g within many (inr (inl marks)) e =
@@ -137,8 +162,10 @@ no_end os digits rest used count d b g within many (inr (inr offset)) e =
     let c = fraction_cut os digits rest used d b g e in
     offset (subst IsOffsetToken (c.2) e.offset)
 
-pub end_some : (os : List ℕ) (l : Local) (used count value shown : ℕ) (r : Option Stamp) → IsDigits 10 (take used os) → used ≤ length os → count ≡ length (digits_in (take used os)) → count ≡ used → value ≡ min (continued 10 0 (take used os)) (2 ^ 127)
-    → shown ≡ min count 39 → SomeIff r (IsOffsetToken (drop used os)) (record { local = record l { fraction = value }; precision = precisions.Fraction shown; offset = offset_read (drop used os) }) → IfSome r (ShownEnd l os)
+pub end_some : (os : List ℕ) (l : Local) (used count value shown : ℕ) (r : Option Stamp) → IsDigits 10 (take used os) → used ≤ length os
+    → count ≡ length (digits_in (take used os)) → count ≡ used → value ≡ min (continued 10 0 (take used os)) (2 ^ 127)
+    → shown ≡ min count 39 → SomeIff r (IsOffsetToken (drop used os))
+    (record { local = record l { fraction = value }; precision = precisions.Fraction shown; offset = offset_read (drop used os) }) → IfSome r (ShownEnd l os)
 end_some os l used count value shown None d within many all v c h = tt
 end_some os l used count value shown (Some s) d within many all v c h =
     let digits = take used os in
@@ -186,7 +213,8 @@ day_only os a _ (minute h o) = absurd (let u = day_short os a in let v = long os
 day_only os a _ (second h o) = absurd (let u = day_short os a in let v = long os (h.0) in omega arith)
 day_only os a _ (fraction h p digits rest e) = absurd (let u = day_short os a in let v = long os (h.0) in omega arith)
 
-minute_only : (os : List ℕ) → BeginsWithMinute os → IsOffsetToken (drop 16 os) → (t : TimestampParts) → IsTimestampToken os t → t ≡ timed os precisions.Minute 0 0 (drop 16 os)
+minute_only : (os : List ℕ) → BeginsWithMinute os → IsOffsetToken (drop 16 os) → (t : TimestampParts) → IsTimestampToken os t
+    → t ≡ timed os precisions.Minute 0 0 (drop 16 os)
 minute_only os a b _ (year h) = absurd (let u = long os a in let v = h.0 in omega arith)
 minute_only os a b _ (month h) = absurd (let u = long os a in let v = h.0 in omega arith)
 minute_only os a b _ (day h) = absurd (let u = long os a in let v = day_short os h in omega arith)
@@ -194,7 +222,8 @@ minute_only os a b _ (minute h o) = refl
 minute_only os a b _ (second h o) = absurd (no_offset_colon os 16 h.1 b)
 minute_only os a b _ (fraction h p digits rest e) = absurd (no_offset_colon os 16 h.1 b)
 
-second_only : (os : List ℕ) → BeginsWithSecond os → IsOffsetToken (drop 19 os) → (t : TimestampParts) → IsTimestampToken os t → t ≡ timed os precisions.Second (two os 17) 0 (drop 19 os)
+second_only : (os : List ℕ) → BeginsWithSecond os → IsOffsetToken (drop 19 os) → (t : TimestampParts) → IsTimestampToken os t
+    → t ≡ timed os precisions.Second (two os 17) 0 (drop 19 os)
 second_only os a b _ (year h) = absurd (let u = long os (a.0) in let v = h.0 in omega arith)
 second_only os a b _ (month h) = absurd (let u = long os (a.0) in let v = h.0 in omega arith)
 second_only os a b _ (day h) = absurd (let u = long os (a.0) in let v = day_short os h in omega arith)
@@ -208,13 +237,15 @@ one_end os digits rest more other a b =
     let same = one_run 10 digits more rest other (omega arith) (a.plain.0) (b.plain.0) (offset_stops rest a.offset) (offset_stops other b.offset) cut in
     (same, append_cancel_left more rest other (sym (ap (λ (z : List ℕ). z ++ rest) same) ∙ cut))
 
-fraction_only : (os digits rest : List ℕ) → BeginsWithSecond os → IsAt os 19 46 → IsFractionEnd (drop 20 os) digits rest → (t : TimestampParts) → IsTimestampToken os t → t ≡ timed os (precisions.Fraction (length digits)) (two os 17) (number 10 digits) rest
+fraction_only : (os digits rest : List ℕ) → BeginsWithSecond os → IsAt os 19 46 → IsFractionEnd (drop 20 os) digits rest → (t : TimestampParts)
+    → IsTimestampToken os t → t ≡ timed os (precisions.Fraction (length digits)) (two os 17) (number 10 digits) rest
 fraction_only os digits rest a p b _ (year h) = absurd (let u = long os (a.0) in let v = h.0 in omega arith)
 fraction_only os digits rest a p b _ (month h) = absurd (let u = long os (a.0) in let v = h.0 in omega arith)
 fraction_only os digits rest a p b _ (day h) = absurd (let u = long os (a.0) in let v = day_short os h in omega arith)
 fraction_only os digits rest a p b _ (minute h o) = absurd (no_offset_colon os 16 a.1 o)
 fraction_only os digits rest a p b _ (second h o) = absurd (no_offset_point os 19 p o)
-fraction_only os digits rest a p b _ (fraction h q more other e) = let one = one_end (drop 20 os) more other digits rest e b in λ i. timed os (precisions.Fraction (length (one.0 i))) (two os 17) (number 10 (one.0 i)) (one.1 i)
+fraction_only os digits rest a p b _ (fraction h q more other e) = let one = one_end (drop 20 os) more other digits rest e b in
+    λ i. timed os (precisions.Fraction (length (one.0 i))) (two os 17) (number 10 (one.0 i)) (one.1 i)
 
 -- a token has one form of a timestamp
 pub one_timestamp : (os : List ℕ) (s t : TimestampParts) → IsTimestampToken os s → IsTimestampToken os t → s ≡ t
@@ -229,7 +260,8 @@ one_timestamp os _ t (fraction h p digits rest e) k = sym (fraction_only os digi
 small_step : (d p v : ℕ) → d < 10 → v < p → d * p + v < 10 * p
 small_step d p v h k = let m : (d + 1) * p ≤ 10 * p = mul-le-mul_right p (omega arith) in omega arith
 
-small_digit : (c : ℕ) (os ds : List ℕ) → digit_value c < 10 → digits_in os ≡ digit_value c ∷ ds → positional 10 ds < 10 ^ length ds → number 10 os < 10 ^ length (digits_in os)
+small_digit : (c : ℕ) (os ds : List ℕ) → digit_value c < 10 → digits_in os ≡ digit_value c ∷ ds → positional 10 ds < 10 ^ length ds
+    → number 10 os < 10 ^ length (digits_in os)
 small_digit c os ds h e small =
     let step = small_step (digit_value c) (10 ^ length ds) (positional 10 ds) h small in
     let size : length (digits_in os) ≡ suc (length ds) = ap length e in
@@ -255,7 +287,8 @@ pub power_small : (k : ℕ) → k ≤ 38 → 10 ^ k < 2 ^ 127
 power_small k h = let m : 10 ^ k ≤ 10 ^ 38 = pow-le-pow_right (omega arith) h in omega arith
 
 -- parts with at most 38 fraction digits are read as they are
-pub read_short : (os : List ℕ) (t : TimestampParts) → IsTimestampToken os t → IsShort (read_precision t.precision) → IsShort t.precision × (stamp t ≡ record { local = t.local; precision = t.precision; offset = t.offset })
+pub read_short : (os : List ℕ) (t : TimestampParts) → IsTimestampToken os t → IsShort (read_precision t.precision) → IsShort t.precision
+    × (stamp t ≡ record { local = t.local; precision = t.precision; offset = t.offset })
 read_short os _ (year h) s = (tt, refl)
 read_short os _ (month h) s = (tt, refl)
 read_short os _ (day h) s = (tt, refl)
@@ -267,8 +300,15 @@ read_short os _ (fraction h p digits rest e) s =
     let same : length (digits_in digits) ≡ length digits = e.plain.1 in
     let bound = power_small (length (digits_in digits)) (omega arith) in
     let value : min (number 10 digits) (2 ^ 127) ≡ number 10 digits = omega arith in
-    let count : min (length digits) 39 ≡ length digits = omega arith in
-    (few, λ i. record { local = record (minute_read os) { second = two os 17; fraction = value i }; precision = precisions.Fraction (count i); offset = offset_read rest })
+    let count : min (length digits) 39 ≡ length digits = omega arith in (
+      few,
+      λ i. record {
+        local = record (minute_read os) { second = two os 17; fraction = value i };
+        precision =
+            precisions.Fraction (count i);
+        offset = offset_read rest;
+      },
+    )
 
 pub short_read : (p : Precision) → IsShort p → IsShort (read_precision p)
 short_read precisions.Year h = tt
@@ -279,7 +319,8 @@ short_read precisions.Second h = tt
 short_read (precisions.Fraction digits) h = omega arith
 
 -- the parts of what is read of a token with at most 38 fraction digits
-pub short_parts : (os : List ℕ) (t : TimestampParts) (s : Stamp) → IsTimestampToken os t → s ≡ stamp t → IsShort s.precision → IsShort t.precision × (t ≡ record { local = s.local; precision = s.precision; offset = s.offset })
+pub short_parts : (os : List ℕ) (t : TimestampParts) (s : Stamp) → IsTimestampToken os t → s ≡ stamp t → IsShort s.precision → IsShort t.precision
+    × (t ≡ record { local = s.local; precision = s.precision; offset = s.offset })
 short_parts os t s is e short =
     let P : Stamp → Type 0 = λ x. IsShort x.precision in
     let k = read_short os t is (subst P e short) in
@@ -290,7 +331,8 @@ pub too_many : (t : TimestampParts) (s : Stamp) → s ≡ stamp t → (IsShort s
 too_many t s e long short = let P : Stamp → Type 0 = λ x. IsShort x.precision in long (subst P (sym e) (short_read t.precision short))
 
 -- there is no such day and time
-pub none_there : (os : List ℕ) (t : TimestampParts) (s : Stamp) → IsTimestampToken os t → s ≡ stamp t → IsShort s.precision → (IsTimestamp (record { local = s.local; precision = s.precision; offset = s.offset }) → ⊥)
+pub none_there : (os : List ℕ) (t : TimestampParts) (s : Stamp) → IsTimestampToken os t → s ≡ stamp t → IsShort s.precision
+    → (IsTimestamp (record { local = s.local; precision = s.precision; offset = s.offset }) → ⊥)
     → (x : TimestampParts) → IsTimestampToken os x → IsShort x.precision × (IsTimestamp x → ⊥)
 none_there os t s is e short none x other =
     let k = short_parts os t s is e short in

@@ -25,10 +25,12 @@ pub padded_step : (w n : ℕ) (tail more text : List ℕ) → padded (suc w) n +
 padded_step w n tail more text e m = ap (λ (x : List ℕ). padded w (n / 10) ++ x) m ∙ (sym (append_assoc (padded w (n / 10)) ((48 + n % 10) ∷ []) tail) ∙ e)
 
 -- fields of two and of four digits
-two_at : (os : List ℕ) (at n : ℕ) → n < 100 → at + 1 < length os → get_or os at 0 ≡ 48 + n / 10 → get_or os (at + 1) 0 ≡ 48 + n % 10 → AreTwoAt os at × (two os at ≡ n)
+two_at : (os : List ℕ) (at n : ℕ) → n < 100 → at + 1 < length os → get_or os at 0 ≡ 48 + n / 10 → get_or os (at + 1) 0 ≡ 48 + n % 10
+    → AreTwoAt os at × (two os at ≡ n)
 two_at os at n h within a b = (((omega arith, omega arith, omega arith), (omega arith, omega arith, omega arith)), omega arith)
 
-four_at : (os : List ℕ) (n : ℕ) → n < 10000 → 3 < length os → get_or os 0 0 ≡ 48 + n / 100 / 10 → get_or os 1 0 ≡ 48 + n / 100 % 10 → get_or os 2 0 ≡ 48 + n % 100 / 10 → get_or os 3 0 ≡ 48 + n % 100 % 10 → AreFourAt os 0 × (four os 0 ≡ n)
+four_at : (os : List ℕ) (n : ℕ) → n < 10000 → 3 < length os → get_or os 0 0 ≡ 48 + n / 100 / 10 → get_or os 1 0 ≡ 48 + n / 100 % 10
+    → get_or os 2 0 ≡ 48 + n % 100 / 10 → get_or os 3 0 ≡ 48 + n % 100 % 10 → AreFourAt os 0 × (four os 0 ≡ n)
 four_at os n h within a b c d =
     let front = two_at os 0 (n / 100) (omega arith) (omega arith) a b in
     let back = two_at os 2 (n % 100) (omega arith) (omega arith) c d in
@@ -41,10 +43,17 @@ if_le false x y k p q = q
 month_short : (y m : ℕ) → month_length y m ≤ 31
 month_short y m = if_le _ _ _ 31 (if_le (is_leap y) 29 28 31 (omega arith) (omega arith)) (if_le _ 30 31 31 (omega arith) (omega arith))
 
-pub small_fields : (t : TimestampParts) → IsTimestamp t → (t.local.year < 10000) × (t.local.month < 100) × (t.local.day < 100) × (t.local.hour < 100) × (t.local.minute < 100) × (t.local.second < 100)
+pub small_fields : (t : TimestampParts) → IsTimestamp t → (t.local.year < 10000) × (t.local.month < 100) × (t.local.day < 100) × (t.local.hour < 100)
+    × (t.local.minute < 100) × (t.local.second < 100)
 small_fields t h =
-    let short = month_short t.local.year t.local.month in
-    (omega (arith, h.date.year.1), omega (arith, h.date.month.1), omega (arith, h.date.day.1), omega (arith, h.time.0), omega (arith, h.time.1), omega (arith, h.time.2))
+    let short = month_short t.local.year t.local.month in (
+      omega (arith, h.date.year.1),
+      omega (arith, h.date.month.1),
+      omega (arith, h.date.day.1),
+      omega (arith, h.time.0),
+      omega (arith, h.time.1),
+      omega (arith, h.time.2),
+    )
 
 pub near_offset : (p : Precision) (o : Option ℤ) → HasOffset p o → IfSome o IsOffset
 near_offset p None h = tt
@@ -55,7 +64,8 @@ near_offset precisions.Minute (Some z) h = h
 near_offset precisions.Second (Some z) h = h
 near_offset (precisions.Fraction d) (Some z) h = h
 
-clock_is : (c n : ℕ) → n ≤ 1439 → let os = c ∷ clock_text n in AreTwoAt os 1 × IsAt os 3 58 × AreTwoAt os 4 × (two os 1 ≤ 23) × (two os 4 ≤ 59) × (offset_minutes os ≡ n)
+clock_is : (c n : ℕ) → n ≤ 1439 → let os = c ∷ clock_text n in AreTwoAt os 1 × IsAt os 3 58 × AreTwoAt os 4 × (two os 1 ≤ 23) × (two os 4 ≤ 59)
+    × (offset_minutes os ≡ n)
 clock_is c n h =
     let os = c ∷ clock_text n in
     let hours = two_at os 1 (n / 60) (omega arith) (omega arith) refl refl in
@@ -99,7 +109,8 @@ pads (suc w) n h =
     let ds = padded (suc w) (n / 10) in
     let v = digit_of (n % 10) (omega arith) in
     let is : digit_value (48 + n % 10) < 10 = omega (arith, v) in
-    let e : digits_in (ds ++ (48 + n % 10) ∷ []) ≡ digits_in ds ++ n % 10 ∷ [] = digits_in_push 10 (48 + n % 10) ds (omega arith) is ∙ ap (λ x. digits_in ds ++ x ∷ []) v in
+    let e : digits_in (ds ++ (48 + n % 10) ∷ []) ≡ digits_in ds ++ n % 10 ∷ [] = digits_in_push 10 (48 + n % 10) ds (omega arith) is
+    ∙ ap (λ x. digits_in ds ++ x ∷ []) v in
     record {
       digits = digits_push 10 ds (48 + n % 10) s.digits is;
       plain = ap length e ∙ omega (arith, length-append (digits_in ds) (n % 10 ∷ []), length-append ds ((48 + n % 10) ∷ []), s.plain);
@@ -110,7 +121,8 @@ pads (suc w) n h =
 abbrev Small : Local → Type 0
 Small l = (l.year < 10000) × (l.month < 100) × (l.day < 100) × (l.hour < 100) × (l.minute < 100) × (l.second < 100)
 
-month_front : (l : Local) (rest : List ℕ) → Small l → BeginsWithMonth (month_text l ++ rest) × (four (month_text l ++ rest) 0 ≡ l.year) × (two (month_text l ++ rest) 5 ≡ l.month)
+month_front : (l : Local) (rest : List ℕ) → Small l → BeginsWithMonth (month_text l ++ rest) × (four (month_text l ++ rest) 0 ≡ l.year)
+    × (two (month_text l ++ rest) 5 ≡ l.month)
 month_front l rest s =
     let os = month_text l ++ rest in
     let y = four_at os l.year s.0 (omega arith) refl refl refl refl in
@@ -124,7 +136,8 @@ day_front l rest s =
     let d = two_at os 8 l.day s.2 (omega arith) refl refl in
     ((m.0, (omega arith, refl), d.0), d.1)
 
-minute_front : (l : Local) (rest : List ℕ) → Small l → BeginsWithMinute (minute_text l ++ rest) × (two (minute_text l ++ rest) 11 ≡ l.hour) × (two (minute_text l ++ rest) 14 ≡ l.minute)
+minute_front : (l : Local) (rest : List ℕ) → Small l → BeginsWithMinute (minute_text l ++ rest) × (two (minute_text l ++ rest) 11 ≡ l.hour)
+    × (two (minute_text l ++ rest) 14 ≡ l.minute)
 minute_front l rest s =
     let os = minute_text l ++ rest in
     let d = day_front l (84 ∷ two_digits l.hour ++ (58 ∷ two_digits l.minute ++ rest)) s in
@@ -147,25 +160,65 @@ read_back l rest s =
     let minute = minute_front l rest s in
     λ i. record { year = month.1 i; month = month.2 i; day = day.1 i; hour = minute.1 i; minute = minute.2 i; second = 0; fraction = 0 }
 
-cut_again : (l : Local) (p : Precision) (o : Option ℤ) → Small l → IsCut p l → HasOffset p o → IsTimestampToken (cut_text p l o) (record { local = l; precision = p; offset = o })
+cut_again : (l : Local) (p : Precision) (o : Option ℤ) → Small l → IsCut p l → HasOffset p o
+    → IsTimestampToken (cut_text p l o) (record { local = l; precision = p; offset = o })
 cut_again l precisions.Year o s c h =
     let os = four_digits l.year ++ (84 ∷ []) in
     let y = four_at os l.year s.0 (omega arith) refl refl refl refl in
     let e : Path TimestampParts (dated precisions.Year (four os 0) 1 1) (record { local = l; precision = precisions.Year; offset = o }) =
-    λ i. record { local = record { year = y.1 i; month = sym (c.0) i; day = sym (c.1) i; hour = sym (c.2) i; minute = sym (c.3) i; second = sym (c.4) i; fraction = sym (c.5) i }; precision = precisions.Year; offset = sym h i } in
+    λ i. record {
+      local = record {
+        year = y.1 i;
+        month = sym (c.0) i;
+        day = sym (c.1) i;
+        hour = sym (c.2) i;
+        minute = sym (c.3) i;
+        second =
+            sym (c.4) i;
+        fraction = sym (c.5) i;
+      };
+      precision = precisions.Year;
+      offset = sym h i;
+    } in
     subst (IsTimestampToken os) e (year (refl, y.0, (omega arith, refl)))
 cut_again l precisions.Month o s c h =
     let os = month_text l ++ (84 ∷ []) in
     let m = month_front l (84 ∷ []) s in
     let e : Path TimestampParts (dated precisions.Month (four os 0) (two os 5) 1) (record { local = l; precision = precisions.Month; offset = o }) =
-    λ i. record { local = record { year = m.1 i; month = m.2 i; day = sym (c.0) i; hour = sym (c.1) i; minute = sym (c.2) i; second = sym (c.3) i; fraction = sym (c.4) i }; precision = precisions.Month; offset = sym h i } in
+    λ i. record {
+      local = record {
+        year = m.1 i;
+        month = m.2 i;
+        day = sym (c.0) i;
+        hour = sym (c.1) i;
+        minute = sym (c.2) i;
+        second = sym (c.3) i;
+        fraction =
+            sym (c.4) i;
+      };
+      precision = precisions.Month;
+      offset = sym h i;
+    } in
     subst (IsTimestampToken os) e (month (refl, m.0, (omega arith, refl)))
 cut_again l precisions.Day o s c h =
     let os = day_text l in
     let m = month_front l (45 ∷ two_digits l.day) s in
     let d = day_front l [] s in
     let e : Path TimestampParts (dated precisions.Day (four os 0) (two os 5) (two os 8)) (record { local = l; precision = precisions.Day; offset = o }) =
-    λ i. record { local = record { year = m.1 i; month = m.2 i; day = d.1 i; hour = sym (c.0) i; minute = sym (c.1) i; second = sym (c.2) i; fraction = sym (c.3) i }; precision = precisions.Day; offset = sym h i } in
+    λ i. record {
+      local = record {
+        year = m.1 i;
+        month = m.2 i;
+        day = d.1 i;
+        hour = sym (c.0) i;
+        minute = sym (c.1) i;
+        second = sym (c.2) i;
+        fraction =
+            sym (c.3) i;
+      };
+      precision = precisions.Day;
+      offset = sym h i;
+    } in
     subst (IsTimestampToken os) e (day (d.0, inl refl))
 cut_again l precisions.Minute o s c h =
     let os = minute_text l ++ offset_text o in
@@ -192,7 +245,8 @@ cut_again l (precisions.Fraction (suc d)) o s c h =
     let b = read_back l (58 ∷ two_digits l.second ++ (46 ∷ (digits ++ rest))) s in
     let k = offset_is o (near_offset (precisions.Fraction (suc d)) o h) in
     let q = pads d l.fraction (c.2) in
-    let e : Path TimestampParts (timed os (precisions.Fraction (length digits)) (two os 17) (number 10 digits) rest) (record { local = l; precision = precisions.Fraction (suc d); offset = o }) =
+    let e : Path TimestampParts (timed os (precisions.Fraction (length digits)) (two os 17) (number 10 digits) rest)
+    (record { local = l; precision = precisions.Fraction (suc d); offset = o }) =
     λ i. record { local = record (b i) { second = m.1 i; fraction = q.value i }; precision = precisions.Fraction (q.size i); offset = k.1 i } in
     subst (IsTimestampToken os) e (fraction m.0 (omega arith, refl) digits rest (record { cut = refl; plain = (q.digits, q.plain); offset = k.0 }))
 

@@ -16,19 +16,37 @@ use Rattle.ion_scalar.specs.text.laws.OneRun.{first_digit}
 use Rattle.ion_scalar.specs.text.laws.DecimalCuts.{whole_digits, tail_stops, body_is, no_body, coefficient}
 
 -- the letters of a base are none that a tail begins with
-no_letter : (float : Bool) (x : ℕ) → (x ≡ 46) ⊎ IsLetter float x → (base : ℕ) → ((base ≡ 16) × ((x ≡ 120) ⊎ (x ≡ 88))) ⊎ ((base ≡ 2) × ((x ≡ 98) ⊎ (x ≡ 66))) → ⊥
+no_letter : (float : Bool) (x : ℕ) → (x ≡ 46) ⊎ IsLetter float x → (base : ℕ) → ((base ≡ 16) × ((x ≡ 120) ⊎ (x ≡ 88))) ⊎ ((base ≡ 2) × ((x ≡ 98) ⊎ (x ≡ 66)))
+    → ⊥
 no_letter float x (inl dot) base (inl h) = elim (h.1) [ inl a ↦ omega arith | inr a ↦ omega arith ]
 no_letter float x (inl dot) base (inr h) = elim (h.1) [ inl a ↦ omega arith | inr a ↦ omega arith ]
-no_letter false x (inr l) base (inl h) = elim (h.1) [ inl a ↦ elim l [ inl b ↦ omega arith | inr b ↦ omega arith ] | inr a ↦ elim l [ inl b ↦ omega arith | inr b ↦ omega arith ] ]
-no_letter false x (inr l) base (inr h) = elim (h.1) [ inl a ↦ elim l [ inl b ↦ omega arith | inr b ↦ omega arith ] | inr a ↦ elim l [ inl b ↦ omega arith | inr b ↦ omega arith ] ]
-no_letter true x (inr l) base (inl h) = elim (h.1) [ inl a ↦ elim l [ inl b ↦ omega arith | inr b ↦ omega arith ] | inr a ↦ elim l [ inl b ↦ omega arith | inr b ↦ omega arith ] ]
-no_letter true x (inr l) base (inr h) = elim (h.1) [ inl a ↦ elim l [ inl b ↦ omega arith | inr b ↦ omega arith ] | inr a ↦ elim l [ inl b ↦ omega arith | inr b ↦ omega arith ] ]
+no_letter false x (inr l) base (inl h) = elim (h.1) [
+  | inl a ↦ elim l [ inl b ↦ omega arith | inr b ↦ omega arith ]
+  | inr a ↦ elim l
+      [ inl b ↦ omega arith | inr b ↦ omega arith ]
+]
+no_letter false x (inr l) base (inr h) = elim (h.1) [
+  | inl a ↦ elim l [ inl b ↦ omega arith | inr b ↦ omega arith ]
+  | inr a ↦ elim l
+      [ inl b ↦ omega arith | inr b ↦ omega arith ]
+]
+no_letter true x (inr l) base (inl h) = elim (h.1) [
+  | inl a ↦ elim l [ inl b ↦ omega arith | inr b ↦ omega arith ]
+  | inr a ↦ elim l
+      [ inl b ↦ omega arith | inr b ↦ omega arith ]
+]
+no_letter true x (inr l) base (inr h) = elim (h.1) [
+  | inl a ↦ elim l [ inl b ↦ omega arith | inr b ↦ omega arith ]
+  | inr a ↦ elim l
+      [ inl b ↦ omega arith | inr b ↦ omega arith ]
+]
 
 tail_first : (c : ℕ) (os f : List ℕ) (float s : Bool) (n : ℕ) → IsTail (c ∷ os) f float s n → (c ≡ 46) ⊎ IsLetter float c
 tail_first c os f float s n (inl p) = inl (p.0)
 tail_first c os f float s n (inr p) = inr (p.1.0)
 
-based_tail : (float : Bool) (base : ℕ) (body whole tail f : List ℕ) (s : Bool) (n : ℕ) → HasBase base body → body ≡ whole ++ tail → IsWholePart whole → IsTail tail f float s n → ⊥
+based_tail : (float : Bool) (base : ℕ) (body whole tail f : List ℕ) (s : Bool) (n : ℕ) → HasBase base body → body ≡ whole ++ tail → IsWholePart whole
+    → IsTail tail f float s n → ⊥
 based_tail float base [] whole tail f s n h cut w t = h
 based_tail float base (c ∷ []) whole tail f s n h cut w t = h
 based_tail float base (c ∷ x ∷ ds) [] tail f s n h cut (inl one) t = cc
@@ -43,13 +61,15 @@ pub based_decimal : (float : Bool) (base : ℕ) (body : List ℕ) (m : ℕ) (e :
 based_decimal float base body m e h d = based_tail float base body d.whole d.tail d.fraction d.below d.written h d.octets d.is_whole d.is_tail
 
 -- a base is announced by one letter
-pub radix_base : (body : List ℕ) (n : ℕ) → IsRadix 16 120 88 body n ⊎ IsRadix 2 98 66 body n → (base : ℕ) × HasBase base body × IsDigits base (drop 2 body) × (n ≡ number base (drop 2 body))
+pub radix_base : (body : List ℕ) (n : ℕ) → IsRadix 16 120 88 body n ⊎ IsRadix 2 98 66 body n → (base : ℕ) × HasBase base body × IsDigits base (drop 2 body)
+    × (n ≡ number base (drop 2 body))
 radix_base [] n r = absurd (elim r [ inl h ↦ h | inr h ↦ h ])
 radix_base (c ∷ []) n r = absurd (elim r [ inl h ↦ h | inr h ↦ h ])
 radix_base (c ∷ x ∷ ds) n (inl r) = (16, (r.0, inl (refl, r.1)), r.2, r.3)
 radix_base (c ∷ x ∷ ds) n (inr r) = (2, (r.0, inr (refl, r.1)), r.2, r.3)
 
-pub base_radix : (base : ℕ) (body : List ℕ) → HasBase base body → IsDigits base (drop 2 body) → IsRadix 16 120 88 body (number base (drop 2 body)) ⊎ IsRadix 2 98 66 body (number base (drop 2 body))
+pub base_radix : (base : ℕ) (body : List ℕ) → HasBase base body → IsDigits base (drop 2 body) → IsRadix 16 120 88 body (number base (drop 2 body))
+    ⊎ IsRadix 2 98 66 body (number base (drop 2 body))
 base_radix base [] h d = absurd h
 base_radix base (c ∷ []) h d = absurd h
 base_radix base (c ∷ x ∷ ds) h d = elim (h.1) [
@@ -61,8 +81,16 @@ one_base : (a b : ℕ) (body : List ℕ) → HasBase a body → HasBase b body �
 one_base a b [] h k = absurd h
 one_base a b (c ∷ []) h k = absurd h
 one_base a b (c ∷ x ∷ ds) h k = elim (h.1) [
-  | inl p ↦ elim (k.1) [ inl q ↦ omega (arith, p.0, q.0) | inr q ↦ absurd (elim (p.1) [ inl y ↦ elim (q.1) [ inl z ↦ omega arith | inr z ↦ omega arith ] | inr y ↦ elim (q.1) [ inl z ↦ omega arith | inr z ↦ omega arith ] ]) ]
-  | inr p ↦ elim (k.1) [ inr q ↦ omega (arith, p.0, q.0) | inl q ↦ absurd (elim (p.1) [ inl y ↦ elim (q.1) [ inl z ↦ omega arith | inr z ↦ omega arith ] | inr y ↦ elim (q.1) [ inl z ↦ omega arith | inr z ↦ omega arith ] ]) ]
+  | inl p ↦ elim (k.1) [
+    | inl q ↦ omega (arith, p.0, q.0)
+    | inr q ↦ absurd
+        (elim (p.1) [ inl y ↦ elim (q.1) [ inl z ↦ omega arith | inr z ↦ omega arith ] | inr y ↦ elim (q.1) [ inl z ↦ omega arith | inr z ↦ omega arith ] ])
+  ]
+  | inr p ↦ elim (k.1) [
+    | inr q ↦ omega (arith, p.0, q.0)
+    | inl q ↦ absurd
+        (elim (p.1) [ inl y ↦ elim (q.1) [ inl z ↦ omega arith | inr z ↦ omega arith ] | inr y ↦ elim (q.1) [ inl z ↦ omega arith | inr z ↦ omega arith ] ])
+  ]
 ]
 
 whole_no_base : (base : ℕ) (body : List ℕ) → HasBase base body → IsWholePart body → ⊥
@@ -72,7 +100,8 @@ whole_no_base base (c ∷ x ∷ ds) h (inl one) = cc
 whole_no_base base (c ∷ x ∷ ds) h (inr some) = some.1 h.0
 
 -- digits of the base that is announced
-pub based_magnitude : (base : ℕ) (body : List ℕ) (n : ℕ) → HasBase base body → IsMagnitude body n → IsDigits base (drop 2 body) × (n ≡ number base (drop 2 body))
+pub based_magnitude : (base : ℕ) (body : List ℕ) (n : ℕ) → HasBase base body → IsMagnitude body n → IsDigits base (drop 2 body)
+    × (n ≡ number base (drop 2 body))
 based_magnitude base body n h (inl m) = absurd (whole_no_base base body h (m.0))
 based_magnitude base body n h (inr r) =
     let b = radix_base body n r in
@@ -90,18 +119,21 @@ int_answer negative body n v (Err e) is cap ok err =
     let P : Reason → Type 0 = λ y. ReadsBehind negative body (Err y) in
     subst P (sym err.0) (numbers.Int (signed negative n), (n, is, refl), err.1 n cap)
 
-decimal_behind : (negative : Bool) (body : List ℕ) (used v : ℕ) (t : Tail) → IsWholePart (take used body) → (s : Shows (IsTail (drop used body)) v t) → t.float ≡ false
+decimal_behind : (negative : Bool) (body : List ℕ) (used v : ℕ) (t : Tail) → IsWholePart (take used body) → (s : Shows (IsTail (drop used body)) v t)
+    → t.float ≡ false
     → IsBehind negative body (decimal_read negative (number 10 (take used body ++ s.fraction)) t.below s.exponent t.count)
 decimal_behind negative body used v t w s decimal =
     let D : Bool → Type 0 = λ f. IsDecimalBody f body (number 10 (take used body ++ s.fraction)) (signed t.below s.exponent -ℤ pos t.count) in
     (refl, subst D decimal (body_is body used v t w s))
 
-no_based_number : (negative : Bool) (base : ℕ) (body : List ℕ) → HasBase base body → (IsDigits base (drop 2 body) → ⊥) → (x : Number) → IsBehind negative body x → ⊥
+no_based_number : (negative : Bool) (base : ℕ) (body : List ℕ) → HasBase base body → (IsDigits base (drop 2 body) → ⊥) → (x : Number) → IsBehind negative body x
+    → ⊥
 no_based_number negative base body h none (numbers.Int z) is = none (based_magnitude base body is.0 h is.1).0
 no_based_number negative base body h none (numbers.Timestamp t) is = is
 no_based_number negative base body h none (numbers.Decimal d) is = based_decimal false base body d.magnitude d.exponent h is.1
 
-no_whole_decimal : (float : Bool) (body : List ℕ) (m : ℕ) (e : ℤ) → ((w t : List ℕ) → body ≡ w ++ t → IsWholePart w → GoesNotOn 10 t → ⊥) → IsDecimalBody float body m e → ⊥
+no_whole_decimal : (float : Bool) (body : List ℕ) (m : ℕ) (e : ℤ) → ((w t : List ℕ) → body ≡ w ++ t → IsWholePart w → GoesNotOn 10 t → ⊥)
+    → IsDecimalBody float body m e → ⊥
 no_whole_decimal float body m e none d = none d.whole d.tail d.octets d.is_whole (tail_stops d.tail d.fraction float d.below d.written d.is_tail)
 
 -- without a base, an int is a whole part
@@ -109,12 +141,14 @@ plain_magnitude : (body : List ℕ) (n : ℕ) → ((base : ℕ) → HasBase base
 plain_magnitude body n no_base (inl m) = m
 plain_magnitude body n no_base (inr r) = let b = radix_base body n r in absurd (no_base b.0 b.1)
 
-no_plain_number : (negative : Bool) (body : List ℕ) → ((base : ℕ) → HasBase base body → ⊥) → ((w t : List ℕ) → body ≡ w ++ t → IsWholePart w → GoesNotOn 10 t → ⊥) → (x : Number) → IsBehind negative body x → ⊥
+no_plain_number : (negative : Bool) (body : List ℕ) → ((base : ℕ) → HasBase base body → ⊥)
+    → ((w t : List ℕ) → body ≡ w ++ t → IsWholePart w → GoesNotOn 10 t → ⊥) → (x : Number) → IsBehind negative body x → ⊥
 no_plain_number negative body no_base none (numbers.Int z) is = none body [] (sym (append-nil body)) (plain_magnitude body is.0 no_base is.1).0 tt
 no_plain_number negative body no_base none (numbers.Timestamp t) is = is
 no_plain_number negative body no_base none (numbers.Decimal d) is = no_whole_decimal false body d.magnitude d.exponent none is.1
 
-no_tail_number : (negative : Bool) (body : List ℕ) (used : ℕ) → ((base : ℕ) → HasBase base body → ⊥) → used < length body → ((w t : List ℕ) → body ≡ w ++ t → IsWholePart w → GoesNotOn 10 t → w ≡ take used body)
+no_tail_number : (negative : Bool) (body : List ℕ) (used : ℕ) → ((base : ℕ) → HasBase base body → ⊥) → used < length body
+    → ((w t : List ℕ) → body ≡ w ++ t → IsWholePart w → GoesNotOn 10 t → w ≡ take used body)
     → ((f : List ℕ) (float s : Bool) (n : ℕ) → IsTail (drop used body) f float s n → ⊥) → (x : Number) → IsBehind negative body x → ⊥
 no_tail_number negative body used no_base more only none (numbers.Int z) is =
     let e = only body [] (sym (append-nil body)) (plain_magnitude body is.0 no_base is.1).0 tt in
@@ -123,9 +157,11 @@ no_tail_number negative body used no_base more only none (numbers.Timestamp t) i
 no_tail_number negative body used no_base more only none (numbers.Decimal d) is = no_body false body used d.magnitude d.exponent only none is.1
 
 -- the answer on a decimal
-pub decimal_answer : (negative : Bool) (body : List ℕ) (used v : ℕ) (t : Tail) (r : Result Number Reason) → IsWholePart (take used body) → v ≡ min (number 10 (take used body)) (2 ^ 127) → Shows (IsTail (drop used body)) v t → t.float ≡ false
+pub decimal_answer : (negative : Bool) (body : List ℕ) (used v : ℕ) (t : Tail) (r : Result Number Reason) → IsWholePart (take used body)
+    → v ≡ min (number 10 (take used body)) (2 ^ 127) → Shows (IsTail (drop used body)) v t → t.float ≡ false
     → IfOk r (λ x. (m n : ℕ) → t.value ≡ min m (2 ^ 127) → t.written ≡ min n (2 ^ 127) → (x ≡ decimal_read negative m t.below n t.count) × Fits x)
-    → IfErr r (λ e. (e ≡ TooLarge) × ((m n : ℕ) → t.value ≡ min m (2 ^ 127) → t.written ≡ min n (2 ^ 127) → Fits (decimal_read negative m t.below n t.count) → ⊥)) → ReadsBehind negative body r
+    → IfErr r (λ e. (e ≡ TooLarge) × ((m n : ℕ) → t.value ≡ min m (2 ^ 127) → t.written ≡ min n (2 ^ 127) → Fits (decimal_read negative m t.below n t.count)
+    → ⊥)) → ReadsBehind negative body r
 decimal_answer negative body used v t (Ok x) w value s plain ok err =
     let m = number 10 (take used body ++ s.fraction) in
     let k = ok m s.exponent (s.coefficient ∙ coefficient (take used body) s.fraction v value) s.bounded in
@@ -134,29 +170,39 @@ decimal_answer negative body used v t (Ok x) w value s plain ok err =
 decimal_answer negative body used v t (Err e) w value s plain ok err =
     let m = number 10 (take used body ++ s.fraction) in
     let P : Reason → Type 0 = λ y. ReadsBehind negative body (Err y) in
-    subst P (sym err.0) (decimal_read negative m t.below s.exponent t.count, decimal_behind negative body used v t w s plain, err.1 m s.exponent (s.coefficient ∙ coefficient (take used body) s.fraction v value) s.bounded)
+    subst P (sym err.0) (
+      decimal_read negative m t.below s.exponent t.count,
+      decimal_behind negative body used v t w s plain,
+      err.1 m s.exponent (s.coefficient ∙ coefficient (take used body) s.fraction v value) s.bounded,
+    )
 
 -- a body of which no value is known
-pub no_based : (negative : Bool) (base : ℕ) (body : List ℕ) → HasBase base body → (IsDigits base (drop 2 body) → ⊥) → ((x : Number) → IsBehind negative body x → ⊥) × (IsFloatBody body → ⊥)
+pub no_based : (negative : Bool) (base : ℕ) (body : List ℕ) → HasBase base body → (IsDigits base (drop 2 body) → ⊥)
+    → ((x : Number) → IsBehind negative body x → ⊥) × (IsFloatBody body → ⊥)
 no_based negative base body h none = (no_based_number negative base body h none, λ f. based_decimal true base body f.magnitude f.exponent h f.is)
 
 -- no whole part
-pub no_plain : (negative : Bool) (body : List ℕ) → ((base : ℕ) → HasBase base body → ⊥) → ((w t : List ℕ) → body ≡ w ++ t → IsWholePart w → GoesNotOn 10 t → ⊥) → ((x : Number) → IsBehind negative body x → ⊥) × (IsFloatBody body → ⊥)
+pub no_plain : (negative : Bool) (body : List ℕ) → ((base : ℕ) → HasBase base body → ⊥) → ((w t : List ℕ) → body ≡ w ++ t → IsWholePart w → GoesNotOn 10 t → ⊥)
+    → ((x : Number) → IsBehind negative body x → ⊥) × (IsFloatBody body → ⊥)
 no_plain negative body no_base none = (no_plain_number negative body no_base none, λ f. no_whole_decimal true body f.magnitude f.exponent none f.is)
 
 -- no tail
-pub no_plain_tail : (negative : Bool) (body : List ℕ) (used : ℕ) → ((base : ℕ) → HasBase base body → ⊥) → used < length body → ((w t : List ℕ) → body ≡ w ++ t → IsWholePart w → GoesNotOn 10 t → w ≡ take used body)
+pub no_plain_tail : (negative : Bool) (body : List ℕ) (used : ℕ) → ((base : ℕ) → HasBase base body → ⊥) → used < length body
+    → ((w t : List ℕ) → body ≡ w ++ t → IsWholePart w → GoesNotOn 10 t → w ≡ take used body)
     → ((f : List ℕ) (float s : Bool) (n : ℕ) → IsTail (drop used body) f float s n → ⊥) → ((x : Number) → IsBehind negative body x → ⊥) × (IsFloatBody body → ⊥)
-no_plain_tail negative body used no_base more only none = (no_tail_number negative body used no_base more only none, λ f. no_body true body used f.magnitude f.exponent only none f.is)
+no_plain_tail negative body used no_base more only none =
+    (no_tail_number negative body used no_base more only none, λ f. no_body true body used f.magnitude f.exponent only none f.is)
 
-pub float_body : (body : List ℕ) (used v : ℕ) (t : Tail) → IsWholePart (take used body) → Shows (IsTail (drop used body)) v t → t.float ≡ true → IsFloatBody body
+pub float_body : (body : List ℕ) (used v : ℕ) (t : Tail) → IsWholePart (take used body) → Shows (IsTail (drop used body)) v t → t.float ≡ true
+    → IsFloatBody body
 float_body body used v t w s float =
     let m = number 10 (take used body ++ s.fraction) in
     let D : Bool → Type 0 = λ f. IsDecimalBody f body m (signed t.below s.exponent -ℤ pos t.count) in
     record { magnitude = m; exponent = signed t.below s.exponent -ℤ pos t.count; is = subst D float (body_is body used v t w s) }
 
 -- the whole part is all
-pub whole_magnitude : (body : List ℕ) (used v : ℕ) → used ≡ length body → IsWholePart (take used body) → v ≡ min (number 10 (take used body)) (2 ^ 127) → IsMagnitude body (number 10 body) × (v ≡ min (number 10 body) (2 ^ 127))
+pub whole_magnitude : (body : List ℕ) (used v : ℕ) → used ≡ length body → IsWholePart (take used body) → v ≡ min (number 10 (take used body)) (2 ^ 127)
+    → IsMagnitude body (number 10 body) × (v ≡ min (number 10 body) (2 ^ 127))
 whole_magnitude body used v all w value =
     let e : take used body ≡ body = take_all used body (omega arith) in
     let P : List ℕ → Type 0 = λ x. IsWholePart x × (v ≡ min (number 10 x) (2 ^ 127)) in
@@ -199,9 +245,11 @@ behind_first negative c os (numbers.Int z) is = no_sign c os is.0 is.1
 behind_first negative c os (numbers.Timestamp t) is = absurd is
 behind_first negative c os (numbers.Decimal d) is = decimal_first false c os d.magnitude d.exponent is.1
 
-pub number_behind : (negative : Bool) (token body : List ℕ) (x : Number) → BeginsWithMinus negative token → token ≡ minus negative ++ body → IsNumeral token x → IsBehind negative body x
+pub number_behind : (negative : Bool) (token body : List ℕ) (x : Number) → BeginsWithMinus negative token → token ≡ minus negative ++ body → IsNumeral token x
+    → IsBehind negative body x
 number_behind negative token body x b e i =
-    let first : (c : ℕ) (os : List ℕ) → i.body ≡ c ∷ os → c ≢ 45 = λ c os same. let P : List ℕ → Type 0 = λ y. IsBehind i.negative y x in behind_first i.negative c os x (subst P same i.is) in
+    let first : (c : ℕ) (os : List ℕ) → i.body ≡ c ∷ os → c ≢ 45 = λ c os same. let P : List ℕ → Type 0 = λ y. IsBehind i.negative y x in
+    behind_first i.negative c os x (subst P same i.is) in
     let one = one_sign negative i.negative token body i.body b e i.octets first in
     let P : Bool → Type 0 = λ s. IsBehind s i.body x in
     let Q : List ℕ → Type 0 = λ y. IsBehind negative y x in
@@ -209,12 +257,14 @@ number_behind negative token body x b e i =
 
 pub float_behind : (negative : Bool) (token body : List ℕ) → BeginsWithMinus negative token → token ≡ minus negative ++ body → IsFloat token → IsFloatBody body
 float_behind negative token body b e i =
-    let first : (c : ℕ) (os : List ℕ) → i.body ≡ c ∷ os → c ≢ 45 = λ c os same. let f = i.is in let P : List ℕ → Type 0 = λ y. IsDecimalBody true y f.magnitude f.exponent in decimal_first true c os f.magnitude f.exponent (subst P same f.is) in
+    let first : (c : ℕ) (os : List ℕ) → i.body ≡ c ∷ os → c ≢ 45 = λ c os same. let f = i.is in let P : List ℕ → Type 0 =
+    λ y. IsDecimalBody true y f.magnitude f.exponent in decimal_first true c os f.magnitude f.exponent (subst P same f.is) in
     let one = one_sign negative i.negative token body i.body b e i.octets first in
     subst IsFloatBody one.1 i.is
 
 -- from what stands behind the sign to the token
-pub token_answer : (negative : Bool) (token body : List ℕ) (r : Result Number Reason) → BeginsWithMinus negative token → token ≡ minus negative ++ body → ReadsBehind negative body r → ReadsNumeral token r
+pub token_answer : (negative : Bool) (token body : List ℕ) (r : Result Number Reason) → BeginsWithMinus negative token → token ≡ minus negative ++ body
+    → ReadsBehind negative body r → ReadsNumeral token r
 token_answer negative token body (Ok x) b e h = (record { negative = negative; body = body; octets = e; is = h.0 }, h.1)
 token_answer negative token body (Err TooLarge) b e h = (h.0, record { negative = negative; body = body; octets = e; is = h.1 }, h.2)
 token_answer negative token body (Err Float) b e h = record { negative = negative; body = body; octets = e; is = h }

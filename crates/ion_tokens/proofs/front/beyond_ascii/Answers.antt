@@ -15,5 +15,6 @@ pub returns-clause-kept : goal.returns-clause-kept
 returns-clause-kept c =
     let octets = c.args.octets.now in
     let ascii = c.args.ascii in
-    behind_kept c.args.style c.is_long.result c.quote_of.result octets _ ascii c.characters_between.result (rest_is octets ascii) (sym c.is_clob.ensures ∙ c.if-is_clob.false) c.is_long.ensures c.quote_of.ensures
+    behind_kept c.args.style c.is_long.result c.quote_of.result octets _ ascii c.characters_between.result (rest_is octets ascii)
+    (sym c.is_clob.ensures ∙ c.if-is_clob.false) c.is_long.ensures c.quote_of.ensures
     (front_each (is_plain c.args.style) octets ascii c.requires) c.characters_between.ensures.raw c.characters_between.ensures.text

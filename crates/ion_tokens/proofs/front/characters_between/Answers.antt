@@ -17,6 +17,7 @@ returns-in-Err-clause-raw c =
     let class = is_raw c.args.long c.args.quote in
     let octets = c.args.octets.now in
     let count = c.all_raw-count.result in
-    let fewer : c.valid_up_to.result ≤ count = let short = c.in-Err.ensures.cases.1.short in let l = length-take count octets in let is = c.valid_up_to.ensures in omega arith in
+    let fewer : c.valid_up_to.result ≤ count = let short = c.in-Err.ensures.cases.1.short in let l = length-take count octets in let is =
+    c.valid_up_to.ensures in omega arith in
     each_shorter class octets c.valid_up_to.result count fewer
     (subst (Each class) (sym (front_all class octets count c.all_raw-count.ensures)) (each_front class octets))

@@ -10,11 +10,13 @@ loop-at-init c = at_start is_word_octet c.args.octets.now
 
 pub loop-at-preserved : goal.loop-at-preserved
 loop-at-preserved c =
-    goes_through is_word_octet c.args.octets.now c.loop-at.at 16 c.word_ends-ends.result c.loop-at.invariant (omega arith) c.word_ends-ends.ensures (omega arith)
+    goes_through is_word_octet c.args.octets.now c.loop-at.at 16 c.word_ends-ends.result c.loop-at.invariant (omega arith) c.word_ends-ends.ensures
+    (omega arith)
 
 pub returns-then-ends-ne0 : goal.returns-then-ends-ne0
 returns-then-ends-ne0 c =
-    stops_at is_word_octet c.args.octets.now c.loop-at.at 16 c.word_ends-ends.result c.loop-at.invariant (omega arith) (omega arith) c.word_ends-ends.ensures (omega arith)
+    stops_at is_word_octet c.args.octets.now c.loop-at.at 16 c.word_ends-ends.result c.loop-at.invariant (omega arith) (omega arith) c.word_ends-ends.ensures
+    (omega arith)
 
 pub returns : goal.returns
 returns c =

@@ -31,7 +31,8 @@ returns c =
     let long = c.fits-octets.0 in
     let quote = c.args.quote in
     let line_end = c.line_end-line_end.result in
-    let all = subst (λ e. (b : Bool) → T (holds_below (λ x. same (top 7 (said e b x)) (ends c.args.long b x)) 256)) (sym c.line_end-line_end.ensures) (agree c.args.long) in
+    let all = subst (λ e. (b : Bool) → T (holds_below (λ x. same (top 7 (said e b x)) (ends c.args.long b x)) 256)) (sym c.line_end-line_end.ensures)
+    (agree c.args.long) in
     masked_by (λ x. eqb x quote) (said line_end) (ends c.args.long) all v _ (omega arith) c.fits-octets.1
     (zip2_of_maps bit_or _ _ v (zip2_of_maps bit_or _ _ v (zip2_of_maps bit_or _ _ v (zip2_of_maps bit_or _ _ v
     (zip2_splat below v 16 9 long)

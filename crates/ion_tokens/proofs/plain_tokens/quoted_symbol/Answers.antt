@@ -6,7 +6,8 @@ use Rattle.ion_tokens.proofs.plain_tokens.quoted_symbol.Goals as goal
 pub returns-clause-found : goal.returns-clause-found
 returns-clause-found c =
     let some : 0 < length c.args.octets.now = grind (arith, c.is_empty.ensures, c.if-is_empty.false) in
-    quoted_found c.args.octets.now c.characters-count.result some c.if-octets-ne39.false c.characters-count.ensures.kept c.if-count-eq0.false c.if-count-content.false c.if-content-count-ne39.false
+    quoted_found c.args.octets.now c.characters-count.result some c.if-octets-ne39.false c.characters-count.ensures.kept c.if-count-eq0.false
+    c.if-count-content.false c.if-content-count-ne39.false
 
 pub returns-clause-text : goal.returns-clause-text
 returns-clause-text c = quoted_text styles.QuotedSymbol c.args.octets.now c.characters-count.result c.characters-count.ensures.kept

@@ -6,7 +6,8 @@ use Rattle.ion_tokens.proofs.plain_tokens.short_string.Goals as goal
 pub returns-clause-found : goal.returns-clause-found
 returns-clause-found c =
     let some : 0 < length c.args.octets.now = grind (arith, c.is_empty.ensures, c.if-is_empty.false) in
-    short_found c.args.octets.now c.characters-count.result some c.if-octets-ne34.false c.characters-count.ensures.kept c.if-count-content.false c.if-content-count-ne34.false
+    short_found c.args.octets.now c.characters-count.result some c.if-octets-ne34.false c.characters-count.ensures.kept c.if-count-content.false
+    c.if-content-count-ne34.false
 
 pub returns-clause-text : goal.returns-clause-text
 returns-clause-text c = quoted_text styles.ShortString c.args.octets.now c.characters-count.result c.characters-count.ensures.kept

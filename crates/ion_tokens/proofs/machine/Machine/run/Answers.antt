@@ -18,7 +18,14 @@ loop-at-preserved-then-count-gt0 c =
     let k = c.front-count.result in
     let n = c.loop-at.self.looked in
     let m = c.go_on.new.self.looked in
-    let taken : TakesFront piece at k s s' n m = record { some = c.if-count-gt0.true; within = c.front-count.ensures.within; over = c.front-count.ensures.over; taken = c.in_ok-go_on.ensures.known; looked = c.in_ok-go_on.ensures.looked } in
+    let taken : TakesFront piece at k s s' n m = record {
+      some = c.if-count-gt0.true;
+      within = c.front-count.ensures.within;
+      over =
+          c.front-count.ensures.over;
+      taken = c.in_ok-go_on.ensures.known;
+      looked = c.in_ok-go_on.ensures.looked;
+    } in
     record {
       within = within_piece piece at k s s' n m taken c.loop-at.invariant.within;
       used = let more = counts piece at k s s' n m taken in omega arith;
@@ -32,13 +39,15 @@ pub loop-at-preserved : goal.loop-at-preserved
 loop-at-preserved c =
     let s = known c.loop-at.self in
     let s' = known c.take_up.new.self in
-    let went : feed c.args.place s (get_or c.args.piece.now c.loop-at.at 0) ≡ Next s' = sym c.in_ok-ended.ensures.does ∙ ap (λ t. outcome_in t c.take_up.new.self) c.in-Next.is in
+    let went : feed c.args.place s (get_or c.args.piece.now c.loop-at.at 0) ≡ Next s' =
+    sym c.in_ok-ended.ensures.does ∙ ap (λ t. outcome_in t c.take_up.new.self) c.in-Next.is in
     record {
       within = omega arith;
       used = let one = feed_used c.args.place s s' _ went in omega arith;
       same = run_more c.args.place c.args.piece.now c.loop-at.at s s' c.loop-at-test.true went ∙ c.loop-at.invariant.same;
       looked = let more = c.take_up.ensures.looked in let before = c.loop-at.invariant.looked in omega arith;
-      steady = λ h. subst (λ t. StaysSteady (outcome_in t c.take_up.new.self) c.take_up.new.self.looked) c.in-Next.is (c.in_ok-ended.ensures.steady (c.loop-at.invariant.steady h));
+      steady = λ h. subst (λ t. StaysSteady (outcome_in t c.take_up.new.self) c.take_up.new.self.looked) c.in-Next.is
+          (c.in_ok-ended.ensures.steady (c.loop-at.invariant.steady h));
     }
 
 -- the octet ended a token, or was refused
@@ -49,7 +58,9 @@ pub returns-in_default-clause-looked : goal.returns-in_default-clause-looked
 returns-in_default-clause-looked c =
     let s = known c.loop-at.self in
     let x = outcome_in c.in_ok-ended.ended c.take_up.new.self in
-    let between = subst (λ y. Between y s.used 1) (sym c.in_ok-ended.ensures.does) (acts_between c.args.place s (get_or c.args.piece.now c.loop-at.at 0) (next c.args.place s.colon s.mode (get_or c.args.piece.now c.loop-at.at 0))) in
+    let between = subst (λ y. Between y s.used 1) (sym c.in_ok-ended.ensures.does)
+    (acts_between c.args.place s (get_or c.args.piece.now c.loop-at.at 0)
+    (next c.args.place s.colon s.mode (get_or c.args.piece.now c.loop-at.at 0))) in
     let one = took_one x c.args.self.now.used c.loop-at.at s.used between c.loop-at.invariant.used in
     let more = c.take_up.ensures.looked in
     let before = c.loop-at.invariant.looked in

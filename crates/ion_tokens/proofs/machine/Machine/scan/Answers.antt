@@ -27,7 +27,8 @@ pub returns-in-Ok-Next-clause-answers : goal.returns-in-Ok-Next-clause-answers
 returns-in-Ok-Next-clause-answers c =
     let e = rw c.in-Ok-Next.field-0-is at c.in-Ok-Next.ensures.does in
     let used = next_used c.args.place c.args.piece.now (known c.args.self.now) (known c.run.new.self) e in
-    subst (λ (x : Outcome). Answers c.args.self.now.used x (Ok (record { used = length c.args.piece.now; token = None; left = false })) (known c.run.new.self)) e
+    subst (λ (x : Outcome). Answers c.args.self.now.used x (Ok (record { used = length c.args.piece.now; token = None; left = false })) (known c.run.new.self))
+    e
     (record { known = refl; counted = used }, refl, refl)
 
 pub returns-in-Ok-Refused-clause-memory : goal.returns-in-Ok-Refused-clause-memory
@@ -55,5 +56,6 @@ returns-in-Ok-Left-clause-looked_at c =
     let used = left_used c.args.place c.args.piece.now (known c.args.self.now) (known c.run.new.self) _ e in
     let more = rw c.in-Ok-Left.field-0-is at c.in-Ok-Left.ensures.looked in
     let same = c.given-in-Ok-Left.ensures.looked in
-    looked_at c.given-in-Ok-Left.result (lexeme_in c.in-Ok-Left.lexeme c.run.new.self) c.run.new.self.used c.args.self.now.used c.args.self.now.looked c.given-in-Ok-Left.new.self.looked
+    looked_at c.given-in-Ok-Left.result (lexeme_in c.in-Ok-Left.lexeme c.run.new.self) c.run.new.self.used c.args.self.now.used c.args.self.now.looked
+    c.given-in-Ok-Left.new.self.looked
     (omega arith) (omega arith) c.given-in-Ok-Left.ensures.err

@@ -25,7 +25,8 @@ returns-clause-whole c = λ none. by c.finish.result c.finish.ensures.ends where
 pub returns-clause-refuses : goal.returns-clause-refuses
 returns-clause-refuses c = λ none. by c.finish.result c.finish.ensures.ends where
   by : (r : Result (Option Token) Refusal) → Ends c.args.self.machine.used (at_end c.args.place (known c.args.self.machine)) r
-      → IfErr r (λ refusal. refusal.reason ≢ Memory → (u : List ℕ) (ts : List Placed) → Scanned c.args.place (known c.args.self.machine) u ts [] → NoEnd c.args.place u ts)
+      → IfErr r (λ refusal. refusal.reason ≢ Memory → (u : List ℕ) (ts : List Placed) → Scanned c.args.place (known c.args.self.machine) u ts []
+      → NoEnd c.args.place u ts)
   by (Ok token) a = tt
   by (Err r) a = λ other u ts h. end_refuses c.args.place (known c.args.self.machine) u ts h _ r other refl a
 
@@ -34,7 +35,8 @@ returns-clause-reasons c = λ none. by c.finish.result c.finish.ensures.ends whe
   by : (r : Result (Option Token) Refusal) → Ends c.args.self.machine.used (at_end c.args.place (known c.args.self.machine)) r
       → IfErr r (λ refusal. EndsFor c.args.place (known c.args.self.machine) refusal.reason)
   by (Ok token) a = tt
-  by (Err r) a = λ u ts h. end_reason (at_end c.args.place (known c.args.self.machine)) r c.args.self.machine.used (end_fair c.args.place (known c.args.self.machine) u ts h) a
+  by (Err r) a = λ u ts h. end_reason (at_end c.args.place (known c.args.self.machine)) r c.args.self.machine.used
+      (end_fair c.args.place (known c.args.self.machine) u ts h) a
 
 pub returns-clause-traced : goal.returns-clause-traced
 returns-clause-traced c = λ none. end_traced c.args.place (known c.args.self.machine) _ c.finish.result refl c.finish.ensures.ends
@@ -44,11 +46,13 @@ returns-clause-owns c = λ none. by c.finish.result c.finish.ensures.ends c.fini
   s : Known
   s = known c.args.self.machine
 
-  so : (token : Option Token) → ((u : List ℕ) (ts : List Placed) → Scanned c.args.place s u ts [] → EndsSo c.args.place u ts token) → IfSome token (λ t. BorrowsAt s.used t.start t.end [] t.body)
+  so : (token : Option Token) → ((u : List ℕ) (ts : List Placed) → Scanned c.args.place s u ts [] → EndsSo c.args.place u ts token)
+      → IfSome token (λ t. BorrowsAt s.used t.start t.end [] t.body)
       → IfSome token (λ t. OwnsLast c.args.place s t)
   so None h b = tt
   so (Some t) h b = λ u ts stood. end_owns c.args.place s u ts stood t (h u ts stood) b
 
-  by : (r : Result (Option Token) Refusal) → Ends s.used (at_end c.args.place s) r → IfOk r (λ token. IfSome token (λ t. BorrowsAt s.used t.start t.end [] t.body)) → IfOk r (λ token. IfSome token (λ t. OwnsLast c.args.place s t))
+  by : (r : Result (Option Token) Refusal) → Ends s.used (at_end c.args.place s) r
+      → IfOk r (λ token. IfSome token (λ t. BorrowsAt s.used t.start t.end [] t.body)) → IfOk r (λ token. IfSome token (λ t. OwnsLast c.args.place s t))
   by (Ok token) a b = so token (λ u ts h. end_goes c.args.place s u ts h _ token refl a) b
   by (Err r) a b = tt

@@ -24,13 +24,15 @@ use Rattle.ion_tokens.proofs.scanner.Scanner.step.Goals as goal
 pub returns-in_default-result-clause-used : goal.returns-in_default-result-clause-used
 returns-in_default-result-clause-used c =
     let s = known c.args.self.now.machine in
-    used_within (run c.args.place c.args.piece.now s) c.scan-result.result c.scan-result.new.self.left s.used (length c.args.piece.now) (known c.scan-result.new.self)
+    used_within (run c.args.place c.args.piece.now s) c.scan-result.result c.scan-result.new.self.left s.used (length c.args.piece.now)
+    (known c.scan-result.new.self)
     (run_between c.args.place c.args.piece.now s) c.scan-result.ensures.answers
 
 pub returns-in_default-result-clause-all : goal.returns-in_default-result-clause-all
 returns-in_default-result-clause-all c =
     let s = known c.args.self.now.machine in
-    used_whole (run c.args.place c.args.piece.now s) c.scan-result.result c.scan-result.new.self.left s.used (length c.args.piece.now) (known c.scan-result.new.self)
+    used_whole (run c.args.place c.args.piece.now s) c.scan-result.result c.scan-result.new.self.left s.used (length c.args.piece.now)
+    (known c.scan-result.new.self)
     (run_between c.args.place c.args.piece.now s) c.scan-result.ensures.answers
 
 pub returns-in_default-result-clause-reasons : goal.returns-in_default-result-clause-reasons
@@ -56,7 +58,8 @@ returns-in_default-result-clause-goes c = λ none. by c.scan-result.result c.sca
   now : Known
   now = known c.scan-result.new.self
 
-  by : (r : Result Scan Refusal) → Answers s.used (run c.args.place c.args.piece.now s) (answered r left) now → IfOk r (λ scan. Goes c.args.place s c.args.piece.now (stepped scan left) now)
+  by : (r : Result Scan Refusal) → Answers s.used (run c.args.place c.args.piece.now s) (answered r left) now
+      → IfOk r (λ scan. Goes c.args.place s c.args.piece.now (stepped scan left) now)
   by (Ok scan) a = λ u ts ahead h goes. step_goes c.args.place s u ts ahead h c.args.piece.now _ (stepped scan left) now goes refl a
   by (Err r) a = tt
 
@@ -76,7 +79,8 @@ returns-in-Err-clause-refuses c = λ none. by c.scan-result.result c.scan-result
 pub returns-in-Err-clause-within : goal.returns-in-Err-clause-within
 returns-in-Err-clause-within c =
     let s = known c.args.self.now.machine in
-    λ none. refused_within (run c.args.place c.args.piece.now s) c.scan-result.result c.scan-result.new.self.left s.used (length c.args.piece.now) (known c.scan-result.new.self)
+    λ none. refused_within (run c.args.place c.args.piece.now s) c.scan-result.result c.scan-result.new.self.left s.used (length c.args.piece.now)
+    (known c.scan-result.new.self)
     (run_between c.args.place c.args.piece.now s) c.scan-result.ensures.answers
 
 pub returns-in_default-result-clause-traced : goal.returns-in_default-result-clause-traced
@@ -90,7 +94,8 @@ returns-in_default-result-clause-traced c = λ none. by c.scan-result.result c.s
   now : Known
   now = known c.scan-result.new.self
 
-  by : (r : Result Scan Refusal) → Answers s.used (run c.args.place c.args.piece.now s) (answered r left) now → AnswersTrace c.args.place s c.args.piece.now (answered r left) now
+  by : (r : Result Scan Refusal) → Answers s.used (run c.args.place c.args.piece.now s) (answered r left) now
+      → AnswersTrace c.args.place s c.args.piece.now (answered r left) now
   by (Ok scan) a = step_traced c.args.place s c.args.piece.now _ (stepped scan left) now refl a
   by (Err r) a = step_stops c.args.place s c.args.piece.now _ r now refl a
 
@@ -105,7 +110,8 @@ returns-in-Err-clause-traced c = λ none. by c.scan-result.result c.scan-result.
   now : Known
   now = known c.scan-result.new.self
 
-  by : (r : Result Scan Refusal) → Answers s.used (run c.args.place c.args.piece.now s) (answered r left) now → AnswersTrace c.args.place s c.args.piece.now (answered r left) now
+  by : (r : Result Scan Refusal) → Answers s.used (run c.args.place c.args.piece.now s) (answered r left) now
+      → AnswersTrace c.args.place s c.args.piece.now (answered r left) now
   by (Ok scan) a = step_traced c.args.place s c.args.piece.now _ (stepped scan left) now refl a
   by (Err r) a = step_stops c.args.place s c.args.piece.now _ r now refl a
 
@@ -133,13 +139,17 @@ returns-in_default-result-clause-lends c = λ none. by c.scan-result.result c.sc
   now = known c.scan-result.new.self
 
   Goes' : Stepped → Option Token → Type 0
-  Goes' scan token = (u : List ℕ) (ts : List Placed) (ahead : List ℕ) → Scanned c.args.place s u ts ahead → Continues c.args.piece.now ahead → GoesWith c.args.place u c.args.piece.now ts scan now token
+  Goes' scan token = (u : List ℕ) (ts : List Placed) (ahead : List ℕ) → Scanned c.args.place s u ts ahead → Continues c.args.piece.now ahead
+      → GoesWith c.args.place u c.args.piece.now ts scan now token
 
-  so : (scan : Stepped) (token : Option Token) → Goes' scan token → IfSome token (λ t. BorrowsAt s.used t.start t.end c.args.piece.now t.body) → IfSome token (λ t. LendsWhole c.args.place s c.args.piece.now t)
+  so : (scan : Stepped) (token : Option Token) → Goes' scan token → IfSome token (λ t. BorrowsAt s.used t.start t.end c.args.piece.now t.body)
+      → IfSome token (λ t. LendsWhole c.args.place s c.args.piece.now t)
   so scan None h b = tt
   so scan (Some t) h b = λ u ts ahead stood goes. step_lends c.args.place s u ts ahead stood c.args.piece.now scan t now (h u ts ahead stood goes) b
 
   by : (r : Result Scan Refusal) → Answers s.used (run c.args.place c.args.piece.now s) (answered r left) now
-      → IfOk r (λ scan. IfSome scan.token (λ t. BorrowsAt s.used t.start t.end c.args.piece.now t.body)) → IfOk r (λ scan. IfSome scan.token (λ t. LendsWhole c.args.place s c.args.piece.now t))
-  by (Ok scan) a b = so (stepped scan left) scan.token (λ u ts ahead h goes. step_goes c.args.place s u ts ahead h c.args.piece.now _ (stepped scan left) now goes refl a) b
+      → IfOk r (λ scan. IfSome scan.token (λ t. BorrowsAt s.used t.start t.end c.args.piece.now t.body))
+      → IfOk r (λ scan. IfSome scan.token (λ t. LendsWhole c.args.place s c.args.piece.now t))
+  by (Ok scan) a b = so (stepped scan left) scan.token (λ u ts ahead h goes. step_goes c.args.place s u ts ahead h c.args.piece.now _ (stepped scan left) now
+      goes refl a) b
   by (Err r) a b = tt
