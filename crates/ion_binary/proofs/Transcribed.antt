@@ -12,14 +12,14 @@ use Rattle.ion_model.specs.declared.value.Payload.TheViews as views
 use Rattle.ion_model.specs.Kept as kepts
 use Rattle.ion_model.specs.Kept.{IsText, AreTexts, IsKept, KeptPayload, KeptItems, KeptFields}
 use Rattle.ion_model.specs.laws.Kept.{texts_last, items_last, fields_last}
-use Rattle.ion_model.specs.Measures.{bare, annotated, field_of}
-use Rattle.ion_scalar.specs.binary.Spellings.{var_uint_octets}
+use Rattle.ion_model.specs.Measures.{Layer, bare, annotated, field_of}
+use Rattle.ion_scalar.specs.binary.Spellings.{uint_octets, var_uint_octets}
 use Rattle.ion_binary.specs.declared.transcription.Transcription.{Transcription}
 use Rattle.ion_visiting.specs.Visits.{Visited, bare_visited, annotated_visited, VisitedPayload, in_one, in_list, in_sexp, in_struct, VisitedItems, no_items, one_item, VisitedFields, no_fields, one_field, VisitedAnnotations, no_annotations, one_annotation}
 use Rattle.ion_binary.specs.Output.{Names, id_of, with_name, with_names, names_after, symbols_of, value_octets, framed, with_count, ids_octets, null_octet, truth_octet}
 use Rattle.ion_binary.specs.visiting.Transcribing.{transcribing, AddsPart, AddsId, AddsPlace, Frames}
 use Rattle.ion_binary.specs.laws.writing.Output.{layer_octets, layer_symbols, field_octets, field_symbols}
-use Rattle.ion_binary.specs.machine.Transcribed.{Named, Transcribed}
+use Rattle.ion_binary.specs.machine.Transcribed.{Appends, HasId, Named, Transcribed}
 use Rattle.ion_binary.proofs.Encoded.{octets_bare, octets_wrapped, framed_at}
 use Rattle.ion_binary.proofs.Numbered.{of_bare, of_value}
 use Rattle.ion_binary.proofs.Transcriptions.{named_both, named_more, written_more, counted_behind}
@@ -164,9 +164,45 @@ transcribed c N level octets before a b (Some n) e o t =
     let f = value_written N t.value a b t.visited e in
     record { value = t.value; is = t.is; deep = t.deep; given = t.given; kept = f.kept; named = f.named; octets = f.wrote.octets ∙ ap (λ w. w ++ value_octets N t.value) o }
 
+-- the same, where whatever is so of it is kept
+pub visited : {S H : Type 0} (P : ℕ → Value → Type 0) (N : Names) (before : List ℕ) (a b : Transcription S H) (r : Option ℕ) → a.names.now ≡ N → a.out.items ≡ before → IfSome r (λ n. (v : Value) × P n v × Visited transcribing v a b)
+    → IfSome r (λ n. (v : Value) × P n v × Appends N v before b.out.items)
+visited P N before a b None e o t = t
+visited P N before a b (Some n) e o t =
+    let f = value_written N t.0 a b t.2 e in
+    (t.0, t.1, record { kept = f.kept; named = f.named; octets = f.wrote.octets ∙ ap (λ w. w ++ value_octets N t.0) o })
+
 -- payloads of one octet
 pub null_added : {S H : Type 0} (k : Kind) (a b : Transcription S H) → b.names.now ≡ a.names.now → b.out.items ≡ a.out.items ++ null_octet k ∷ [] → AddsPart a b (payloads.Null k)
 null_added k a b e o = record { names = e; kept = kepts.kept_null k; named = ap (λ d. with_names a.names.now (layer_symbols d)) (views.outs-Null k); octets = o ∙ ap (λ d. a.out.items ++ layer_octets a.names.now d) (sym (views.outs-Null k)) }
 
 pub truth_added : {S H : Type 0} (t : Bool) (a b : Transcription S H) → b.names.now ≡ a.names.now → b.out.items ≡ a.out.items ++ truth_octet t ∷ [] → AddsPart a b (payloads.Truth t)
 truth_added t a b e o = record { names = e; kept = kepts.kept_truth t; named = ap (λ d. with_names a.names.now (layer_symbols d)) (views.outs-Truth t); octets = o ∙ ap (λ d. a.out.items ++ layer_octets a.names.now d) (sym (views.outs-Truth t)) }
+
+-- payloads that have no symbols
+module _ {S H : Type 0} (a b : Transcription S H) (p : Payload) (d : Layer) (is : views.out-Payload p ≡ d) where
+  pub none_added : layer_symbols d ≡ [] → KeptPayload p → b.names.now ≡ a.names.now → b.out.items ≡ a.out.items ++ layer_octets a.names.now d → AddsPart a b p
+  none_added none kept names octets = record {
+    names = names;
+    kept = kept;
+    named = ap (λ x. with_names a.names.now (layer_symbols x)) is ∙ ap (λ ss. with_names a.names.now ss) none;
+    octets = octets ∙ ap (λ x. a.out.items ++ layer_octets a.names.now x) (sym is);
+  }
+
+-- a symbol
+pub symbol_added : {S H : Type 0} (s : Option (List ℕ)) (id : ℕ) (a b : Transcription S H) → IsText s → HasId a.names.now s id → b.names.now ≡ a.names.now → b.out.items ≡ a.out.items ++ framed 7 (uint_octets id) → AddsPart a b (payloads.Symbol s)
+symbol_added s id a b kept has names octets = record {
+  names = names;
+  kept = kepts.kept_symbol s kept;
+  named = ap (λ d. with_names a.names.now (layer_symbols d)) (views.outs-Symbol s) ∙ has.named;
+  octets = octets ∙ (ap (λ (k : ℕ). a.out.items ++ framed 7 (uint_octets k)) has.is ∙ ap (λ d. a.out.items ++ layer_octets a.names.now d) (sym (views.outs-Symbol s)));
+}
+
+-- an id
+pub id_appended : {S H : Type 0} (s : Option (List ℕ)) (id : ℕ) (a b : Transcription S H) → IsText s → HasId a.names.now s id → b.names.now ≡ a.names.now → b.out.items ≡ a.out.items ++ var_uint_octets id → AddsId a b s
+id_appended s id a b kept has names octets = record {
+  names = names;
+  kept = kept;
+  named = has.named;
+  octets = octets ∙ ap (λ (k : ℕ). a.out.items ++ var_uint_octets k) has.is;
+}

@@ -8,7 +8,7 @@ ghost use Rattle.std.specs.Prelude.{◌≡◌, ◌≤◌, ◌<◌, true, List, O
 ghost use Rattle.ion_atoms.specs.Octets.{AreOctets};
 ghost use Rattle.ion_symtab.specs.Slots.{Slot};
 ghost use Rattle.ion_binary.specs.visiting.Brackets.{code_in};
-ghost use Rattle.ion_binary.specs.visiting.Transcribing.{AddsId, AddsPlace, Frames};
+ghost use Rattle.ion_binary.specs.visiting.Transcribing.{AddsId, AddsPlace, CountsBehind, Frames};
 ghost use Rattle.ion_binary.specs.declared.form.Scalar.TheVariants as scalars;
 ghost use Rattle.ion_binary.specs.machine.Transcribed.{HasId, IsShortest, Transcribed, TranscribedScalar};
 
@@ -28,6 +28,8 @@ use ion_symtab::Context;
 use ion_visiting::Bracket;
 use std::hash::BuildHasher;
 use std::mem;
+
+pub(crate) mod texts;
 
 /// The id of a symbol among the names, where it has one; its id in the document that is read tells where it
 /// probably is.
@@ -89,6 +91,18 @@ impl<S: BuildHasher + Drop> Transcription<'_, S> {
             return false;
         }
         frame(code, place, &mut self.out).is_ok()
+    }
+
+    /// Puts the number of the octets behind a place before them.
+    #[inline(always)]
+    fn set_count(&mut self, place: usize) -> bool
+        ensures { result ≡ true → CountsBehind self.old self.new place }
+    {
+        if place >= self.out.len() {
+            return false;
+        }
+        let count = self.out.len() - place - 1;
+        insert_length(place + 1, count, &mut self.out).is_ok()
     }
 }
 
@@ -156,12 +170,7 @@ impl<S: BuildHasher + Drop> Visitor for Transcription<'_, S> {
 
     #[inline(always)]
     fn end_annotations(&mut self, mark: &usize) -> bool {
-        let place = *mark;
-        if place >= self.out.len() {
-            return false;
-        }
-        let count = self.out.len() - place - 1;
-        insert_length(place + 1, count, &mut self.out).is_ok()
+        self.set_count(*mark)
     }
 
     #[inline(always)]

@@ -1,5 +1,5 @@
 //! The writer of binary documents.
-ghost use Rattle.std.specs.Prelude.{◌≡◌, ◌≤◌, ◌++◌, suc, length, Some, None, Ok, Err, true, false, MatchResult, OnOk, OnErr, IfErr, IfSome, IsNone, IsOkUnless};
+ghost use Rattle.std.specs.Prelude.{◌≡◌, ◌+◌, ◌≤◌, ◌<◌, ◌^◌, ◌++◌, suc, length, Some, None, Ok, Err, true, false, MatchResult, OnOk, OnErr, IfErr, IfSome, IsNone, IsOkUnless};
 ghost use Rattle.ion_model.specs.Kept.{IsKept};
 ghost use Rattle.ion_model.specs.declared.value.Value.{Value as AnyValue};
 ghost use Rattle.ion_symtab.specs.declared.fault.Fault.{Fault as AnyFault};
@@ -11,12 +11,15 @@ ghost use Rattle.ion_binary.specs.Writing.{IsWritingFault};
 ghost use Rattle.ion_binary.specs.Carrying.{WritesValue};
 ghost use Rattle.ion_binary.specs.machine.Transcribed.{IsAdmitted};
 
+use crate::reader::Carried;
+use crate::transcription::texts::transcribe_visited;
 use crate::transcription::transcribe;
 use crossings::Crossings;
 use encoding::put_value;
 use guesses::Guesses;
 use ion_model::Value;
 use ion_symtab::{Context, Fault, Outlet, flushed, write_whole};
+use ion_visiting::{Visitable, is_tried};
 use names::Names;
 use std::alloc::Global;
 use std::fmt::{self, Debug, Formatter};
@@ -27,7 +30,7 @@ use table::put_table;
 pub(crate) mod crossings;
 mod encoding;
 pub(crate) mod framing;
-mod guesses;
+pub(crate) mod guesses;
 pub(crate) mod names;
 mod table;
 
@@ -46,6 +49,10 @@ pub struct BinaryWriter<S: BuildHasher = BuildHasherDefault<FoldHasher>> {
     names: Names<S>,
     guesses: Guesses,
     crossings: Crossings,
+    /// The same, by the places of texts.
+    places: Crossings,
+    /// How many values in a row weren't gone over.
+    misses: u32,
     /// The octets of the value that was written last; those of the next value take their memory.
     octets: Vec<u8>,
     /// What was written before them.
@@ -90,6 +97,8 @@ impl<S: BuildHasher + Drop> BinaryWriter<S> {
             names: Names::system(alloc, hasher)?,
             guesses: Guesses::new(alloc),
             crossings: Crossings::new(alloc),
+            places: Crossings::new(alloc),
+            misses: 0,
             octets: Vec::new(alloc),
             front: Vec::new(alloc),
             begun: false,
@@ -149,6 +158,39 @@ impl<S: BuildHasher + Drop> BinaryWriter<S> {
         let answer = put_opened(out, self.begun, &self.octets);
         self.begun = true;
         Some(self.note_fault(answer))
+    }
+
+    /// Writes the value at the front of a piece of what can be gone over, without building it: how many octets were
+    /// taken up, and the answer of `put`.
+    ///
+    /// `None`, with nothing taken up and nothing written, where no value is gone over there, where it has a symbol without
+    /// an id yet, where memory runs out, and where the writer has answered a fault. Where that was so of several in a
+    /// row, few are tried.
+    pub fn put_visited<V: Visitable, W: Outlet>(
+        &mut self,
+        out: &mut W,
+        items: &mut V,
+        piece: &[u8],
+    ) -> Option<Carried>
+        requires room { V.taken items.old + length piece.now < 2 ^ 63 }
+        ensures writes { IfSome result (λ carried. (v : AnyValue) × IsKept v
+            × V.took_up items.old items.new piece.now carried.used v
+            × WritesValue W.Outlet self.old self.new out.old out.new v carried.written) }
+        ensures stays { IsNone result →
+            (items.new ≡ items.old) × (self.new ≡ self.old) × (out.new ≡ out.old) }
+    {
+        self.misses = self.misses.wrapping_add(1);
+        if self.failed.is_some() || !is_tried(self.misses) {
+            return None;
+        }
+        self.octets.clear();
+        let (names, places) = (&self.names, &mut self.places);
+        let used = transcribe_visited(names, places, items, piece, &mut self.octets)?;
+        self.misses = 0;
+        let answer = put_opened(out, self.begun, &self.octets);
+        self.begun = true;
+        let written = self.note_fault(answer);
+        Some(Carried { used, written })
     }
 
     /// Writes the version marker where no value was put, and makes the device pass on all that it took.

@@ -123,6 +123,12 @@ module _ (old new : TextReader) (piece : List ℕ) (none : failed old ≡ None) 
   one_takes_up P None does counts nothing = tt
   one_takes_up P (Some n) does counts nothing = (does.0, does.1, takes_up n.0 does.0 does.2 counts nothing, does.3)
 
+  -- and a value that was gone over
+  pub visited_up : (P : Value → Type 0) (r : Option ℕ) → IfSome r (λ n. (v : Value) × P v × Moves n v) → IfSome r (λ n. octets_used new ≡ octets_used old + n) → IfSome r (λ n. (old.awaited ≡ None) × (new.awaited ≡ None))
+      → IfSome r (λ n. (v : Value) × P v × TakesUp old new piece n v)
+  visited_up P None does counts nothing = tt
+  visited_up P (Some n) does counts nothing = (does.0, does.1, takes_up n does.0 does.2 counts nothing)
+
 -- both do
 module _ (old new other later : TextReader) (piece beside : List ℕ) (none : failed old ≡ None) (fine : IsFine old → IsFine new) (steady : StaysSteady old new) (same : SameSettings old new)
     (none' : failed other ≡ None) (fine' : IsFine other → IsFine later) (steady' : StaysSteady other later) (same' : SameSettings other later) where

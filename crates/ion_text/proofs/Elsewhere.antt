@@ -36,7 +36,8 @@ use Rattle.ion_text.specs.declared.state.Now.TheVariants as nows
 use Rattle.ion_text.specs.declared.state.Frame.{Frame}
 use Rattle.ion_text.specs.declared.state.Frame.TheVariants as frames
 use Rattle.ion_text.specs.Grammar.{is_keyword}
-use Rattle.ion_text.specs.machine.EachToken.{under, spot_at, token_at, begun_at, Reading, Turn, goes, gives, refuses, late, Symbols, at, fresh, place, place_in, settle, turned, within, ended, released, paid, held_payload, number_payload, resolved, deeper, bare_close, list_closed, sexp_closed, struct_closed, on_ready, on_pending, noted, held_symbol, on_long, on_after, on_comma, on_name, on_long_name, on_keyed, named, keyed, turn}
+use Rattle.ion_text.specs.machine.EachToken.{under, spot_at, token_at, begun_at, Reading, Turn, goes, gives, refuses, late, Symbols, at, fresh, place, place_in, settle, turned, within, ended, released, paid, held_payload, resolved, deeper, bare_close, list_closed, sexp_closed, struct_closed, on_ready, on_pending, noted, held_symbol, on_long, on_after, on_comma, on_name, on_long_name, on_keyed, named, keyed, turn}
+use Rattle.ion_visiting.specs.Parts.{number_payload}
 use Rattle.ion_text.specs.machine.Run.{State, Effect, uses, tells, leaves, fails, is_top, in_segment, has_segment, waits_now, unsettled, shut, reaches, noticed, lesser, or_worse, with_scan, token_of, behind_given, behind_left, on_said, on_scan, on_settled, on_octet, takes, eats, Run, run_on, run}
 
 -- 1. The same, elsewhere.

@@ -21,10 +21,9 @@ use Rattle.ion_text.specs.Output.{known_text, symbol_text, notes_text, separated
 use Rattle.ion_text.specs.laws.writing.Output.{layer_text, field_text, text-out}
 use Rattle.ion_text.specs.declared.transcription.Transcription.{Transcription}
 use Rattle.ion_text.specs.declared.reader.walks.Tally.{Tally}
-use Rattle.ion_text.specs.machine.EachToken.{number_payload}
+use Rattle.ion_visiting.specs.Parts.{number_payload, payload_of}
 use Rattle.ion_text.specs.machine.Walked.{WalkedTop}
-use Rattle.ion_text.specs.declared.visitor.Part.{Part}
-use Rattle.ion_text.specs.visiting.Parts.{payload_of}
+use Rattle.ion_visiting.specs.declared.part.Part.{Part}
 use Rattle.ion_text.specs.visiting.Walks.{VisitedTop}
 use Rattle.ion_text.specs.visiting.Transcribing.{transcribing, front, open_octet, bracket_close, octet_between, AddsPart, Opens, Closes}
 
@@ -216,9 +215,6 @@ symbol_known w = refl
 
 -- a value of one token, which is this part
 module _ (s x : Part) (is : s ≡ x) where
-  pub part_kept : KeptPayload (payload_of x) → KeptPayload (payload_of s)
-  part_kept k = subst (λ s. KeptPayload (payload_of s)) (sym is) k
-
   pub part_text : (d : Layer) (r : Result (Unit {0}) Fault) (before after : List ℕ) → views.out-Payload (payload_of x) ≡ d → OnOk r (after ≡ before ++ layer_text d) → OnOk r (after ≡ before ++ layer_text (views.out-Payload (payload_of s)))
   part_text d r before after level h = subst (λ s. OnOk r (after ≡ before ++ layer_text (views.out-Payload (payload_of s)))) (sym is) (subst (λ d. OnOk r (after ≡ before ++ layer_text d)) (sym level) h)
 

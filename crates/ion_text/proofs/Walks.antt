@@ -15,7 +15,8 @@ use Rattle.ion_scalar.specs.declared.number.Number.{Number}
 use Rattle.ion_scalar.specs.declared.number.Number.TheVariants as numbers
 use Rattle.ion_text.specs.Grammar.{is_keyword, is_version, the_marker}
 use Rattle.ion_text.specs.declared.state.Held.TheVariants as helds
-use Rattle.ion_text.specs.machine.EachToken.{held_word, held_payload, number_payload}
+use Rattle.ion_text.specs.machine.EachToken.{held_word, held_payload}
+use Rattle.ion_visiting.specs.Parts.{number_payload}
 use Rattle.ion_text.specs.machine.Walked.{IsFlat}
 
 -- values without others in them

@@ -29,6 +29,7 @@ mod structs;
 mod symbols;
 pub(crate) mod tops;
 mod turns;
+mod visiting;
 mod waiting;
 pub(crate) mod walks;
 mod whole;

@@ -2,26 +2,23 @@
 //! judged as they are gone over, and not built.
 ghost use Rattle.std.specs.Prelude.{◌≡◌, ◌+◌, ◌≤◌, ◌<◌, ◌^◌, ◌++◌, true, None, length, OnOk, IfSome, IsOkUnless, option_to_list};
 ghost use Rattle.std.specs.Str.{IsUtf8};
-ghost use Rattle.ion_atoms.specs.Octets.{AreOctets};
 ghost use Rattle.ion_model.specs.Kept.{IsKept, KeptPayload};
 ghost use Rattle.ion_model.specs.declared.value.Payload.TheViews.{out-Payload};
 ghost use Rattle.ion_symtab.specs.declared.fault.Fault.TheVariants as faults;
 ghost use Rattle.ion_text.specs.Output.{known_text, value_text};
 ghost use Rattle.ion_text.specs.laws.writing.Output.{layer_text};
-ghost use Rattle.ion_text.specs.machine.EachToken.{number_payload};
+ghost use Rattle.ion_visiting.specs.Parts.{payload_of};
 ghost use Rattle.ion_text.specs.machine.Walked.{WalkedTop};
-ghost use Rattle.ion_text.specs.visiting.Parts.{payload_of};
 ghost use Rattle.ion_text.specs.visiting.Transcribing.{Adds, open_octet, bracket_close, octet_between};
 
 use crate::escape::{OF_STRING, put_quoted};
 use crate::reader::tops::walk_top;
 use crate::reader::walks::Tally;
 use crate::scalar::{put_blob, put_clob, put_known, put_null, put_numeral, put_truth};
-use crate::visitor::{Part, Visitor};
 use ion_scalar::Number;
 use ion_symtab::Fault;
 use ion_tokens::TokenReader;
-use ion_visiting::Bracket;
+use ion_visiting::{Bracket, Part, TextVisitor, number_kept, part_kept};
 use std::alloc::Global;
 use std::mem;
 
@@ -81,7 +78,7 @@ impl Transcription {
     }
 }
 
-impl Visitor for Transcription {
+impl TextVisitor for Transcription {
     type Mark = Option<u8>;
 
     ghost use Rattle.ion_text.specs.visiting.Transcribing.{transcribing};
@@ -210,56 +207,13 @@ fn put_part(alloc: Global, said: &Part<'_>, out: &mut Vec<u8>) -> Result<(), Fau
     ensures kept { KeptPayload (payload_of said.now) }
     ensures memory { IsOkUnless result faults.Memory }
 {
+    part_kept(said);
     match said {
         Part::Null(kind) => put_null(*kind, out),
         Part::Truth(truth) => put_truth(*truth, out),
-        Part::Symbol(text) => {
-            text_kept(text);
-            put_known(text, out)
-        }
-        Part::Str(text) => {
-            text_kept(text);
-            put_quoted(OF_STRING, text.as_bytes(), out)
-        }
-        Part::Clob(octets) => {
-            are_octets(octets);
-            put_clob(octets, out)
-        }
-        Part::Blob(octets) => {
-            are_octets(octets);
-            put_blob(alloc, octets, out)
-        }
-    }
-}
-
-/// A text is UTF-8. Does nothing.
-fn text_kept(_text: &str)
-    ensures { IsUtf8 _text.now }
-{}
-
-/// What the types keep about a number. Does nothing.
-fn number_kept(number: &Number)
-    ensures { KeptPayload (number_payload number.now) }
-{
-    match number {
-        Number::Int(whole) => {
-            let _value = whole.get();
-        }
-        Number::Decimal(decimal) => {
-            let _magnitude = decimal.magnitude();
-        }
-        Number::Timestamp(timestamp) => {
-            let _local = timestamp.local();
-        }
-    }
-}
-
-/// Octets are whole numbers below 256. Does nothing: a proof knows an octet to be one once it is read, and
-/// the compiled loop is empty.
-fn are_octets(octets: &[u8])
-    ensures { AreOctets octets.now }
-{
-    for octet in octets {
-        let _octet = *octet;
+        Part::Symbol(text) => put_known(text, out),
+        Part::Str(text) => put_quoted(OF_STRING, text.as_bytes(), out),
+        Part::Clob(octets) => put_clob(octets, out),
+        Part::Blob(octets) => put_blob(alloc, octets, out),
     }
 }

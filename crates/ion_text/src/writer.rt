@@ -15,6 +15,7 @@ use crate::transcription::transcribe;
 use ion_model::Value;
 use ion_symtab::{Fault, Outlet, flushed, write_whole};
 use ion_tokens::TokenReader;
+use ion_visiting::is_tried;
 use std::alloc::Global;
 use std::fmt::{self, Debug, Formatter};
 use std::marker::Model;
@@ -193,10 +194,4 @@ fn carry_line(
     let count = transcribe(alloc, tokens, octets, level, tally, line)?;
     line.push(b'\n').ok()?;
     Some(count)
-}
-
-// Whether a value is carried that would be the last of so many in a row that aren't: what was gone over in vain is
-// gone over again, so behind two of them one of 64 is tried.
-fn is_tried(misses: u32) -> bool {
-    misses <= 2 || misses % 64 == 0
 }

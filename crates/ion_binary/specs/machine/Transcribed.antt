@@ -41,6 +41,12 @@ pub record Transcribed (c : List Slot) (names : Names) (level : ℕ) (w before a
   pub named : names_after names value ≡ names
   pub octets : after ≡ before ++ value_octets names value
 
+-- the value has what the types keep, its symbols have ids among the names, and what is written of it by these ids is appended
+pub record Appends (names : Names) (v : Value) (before after : List ℕ) : Type 0 where
+  pub kept : IsKept v
+  pub named : names_after names v ≡ names
+  pub octets : after ≡ before ++ value_octets names v
+
 -- the octets are the shortest spelling of their number, which may be the magnitude of an int
 pub record IsShortest (body : List ℕ) : Type 0 where
   pub first : 0 < get_or body 0 0

@@ -27,8 +27,14 @@ impl Guesses {
     pub(crate) fn place_of(symbol: &Symbol) -> usize {
         match symbol.text() {
             None => 0,
-            Some(text) => place_of_text(text.as_bytes()),
+            Some(text) => Guesses::place_of_text(text),
         }
+    }
+
+    /// The place of the id of a text.
+    #[inline(always)]
+    pub(crate) fn place_of_text(text: &str) -> usize {
+        place_of_octets(text.as_bytes())
     }
 
     /// The id that was noted there last, or 0.
@@ -53,7 +59,7 @@ impl Guesses {
 
 // By the first and the last octets, eight or four of them, and the length.
 #[inline(always)]
-fn place_of_text(octets: &[u8]) -> usize {
+fn place_of_octets(octets: &[u8]) -> usize {
     let count = octets.len();
     let mixed = if count >= 8 {
         mix(eight_at(octets, 0), eight_at(octets, count - 8), count)

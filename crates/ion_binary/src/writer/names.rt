@@ -102,6 +102,18 @@ impl<S: BuildHasher + Drop> Names<S> {
         }
     }
 
+    /// Whether this is the id of the symbol of a text. Takes no look by the text.
+    pub(crate) fn is_text_at(&self, id: usize, text: &str) -> bool
+        ensures id { result ≡ true → id ≡ id_of self.now (Some text.now) }
+        ensures small { result ≡ true → id < 2 ^ 63 }
+        ensures named { result ≡ true → with_name self.now (Some text.now) ≡ self.now }
+    {
+        match self.symbols.as_slice().get(id) {
+            None => false,
+            Some(symbol) => is_of_text(symbol, text),
+        }
+    }
+
     // As `add`, with a look by the text.
     #[inline(never)]
     fn add_by_text(&mut self, symbol: &Symbol) -> Result<usize, Fault>
@@ -139,6 +151,15 @@ impl<S: BuildHasher + Drop> Names<S> {
         self.symbols.get_index_of(symbol)
     }
 
+    /// The id of the symbol of a text, if it has one. Without memory none is found.
+    #[inline(never)]
+    pub(crate) fn known_text(&self, alloc: Global, text: &str) -> Option<usize>
+        ensures { IfSome result (λ id. HasId self.now (Some text.now) id) }
+    {
+        let key = Symbol::known(alloc, text).ok()?;
+        self.known_id(&key)
+    }
+
     /// The id of a text, or how many symbols there are, where it has none. The only fault is `Memory`.
     #[inline(never)]
     pub(crate) fn id_of_text(&self, alloc: Global, text: &str) -> Result<u64, Fault>
@@ -156,6 +177,17 @@ impl<S: BuildHasher + Drop> Names<S> {
         ensures { result.now ≡ drop id self.now }
     {
         &self.symbols.as_slice()[id..]
+    }
+}
+
+// Whether a symbol has this text.
+#[inline(always)]
+fn is_of_text(symbol: &Symbol, text: &str) -> bool
+    ensures { result ≡ symbol_same (Some text.now) symbol.now }
+{
+    match symbol.text() {
+        None => false,
+        Some(other) => text == other,
     }
 }
 

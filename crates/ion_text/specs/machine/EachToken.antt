@@ -8,8 +8,6 @@ use Rattle.ion_atoms.specs.declared.refusal.Reason.{Reason}
 use Rattle.ion_atoms.specs.declared.refusal.Reason.TheVariants as reasons
 use Rattle.ion_model.specs.Measures.{annotated, field_of}
 use Rattle.ion_model.specs.Kinds.{is_table}
-use Rattle.ion_scalar.specs.declared.number.Number.{Number}
-use Rattle.ion_scalar.specs.declared.number.Number.TheVariants as numbers
 use Rattle.ion_symtab.specs.declared.limits.Limits.{Limits}
 use Rattle.ion_symtab.specs.declared.catalog.Catalog.{Catalog}
 use Rattle.ion_symtab.specs.Slots.{Slot, system_slots, resolve}
@@ -18,6 +16,7 @@ use Rattle.ion_tokens.specs.declared.mode.Place.{Place}
 use Rattle.ion_tokens.specs.declared.mode.Place.TheVariants as places
 use Rattle.ion_tokens.specs.declared.mode.Mark.TheVariants as marks
 use Rattle.ion_tokens.specs.Bodies.{Content, Word, Id, Quoted, Short, Long, Number', TypedNull, Operator, Clob, Blob, Mark'}
+use Rattle.ion_visiting.specs.Parts.{number_payload}
 use Rattle.ion_text.specs.declared.state.Held.{Held}
 use Rattle.ion_text.specs.declared.state.Held.TheVariants as helds
 use Rattle.ion_text.specs.declared.state.Now.{Now}
@@ -184,11 +183,6 @@ struct_closed setting spot _ = unexpected
 abbrev pub bare_close : Symbols → Turn → Turn
 bare_close [] t = t
 bare_close (s ∷ ss) t = unexpected
-
-abbrev pub number_payload : Number → Payload
-number_payload (numbers.Int z) = payloads.Int z
-number_payload (numbers.Decimal d) = payloads.Decimal d
-number_payload (numbers.Timestamp t) = payloads.Timestamp t
 
 -- a value or an annotation may come, of an item that begins where the spot says
 abbrev pub on_ready : Setting → Spot → List Frame → Symbols → Content → Turn

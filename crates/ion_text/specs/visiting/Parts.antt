@@ -1,23 +1,10 @@
--- A token that is a value, as a visitor takes it.
-use Rattle.std.specs.Prelude.{Some, ⊤}
-use Rattle.ion_model.specs.declared.value.Payload.{Payload}
-use Rattle.ion_model.specs.declared.value.Payload.TheVariants as payloads
+-- What a mark opens, as a visitor takes it, and the visitor that makes nothing of a value.
+use Rattle.std.specs.Prelude.{⊤}
 use Rattle.ion_tokens.specs.declared.mode.Mark.{Mark}
 use Rattle.ion_tokens.specs.declared.mode.Mark.TheVariants as marks
 use Rattle.ion_visiting.specs.declared.bracket.Bracket.{Bracket}
 use Rattle.ion_visiting.specs.declared.bracket.Bracket.TheVariants as brackets
 use Rattle.ion_visiting.specs.Visits.{Visits}
-use Rattle.ion_text.specs.declared.visitor.Part.{Part}
-use Rattle.ion_text.specs.declared.visitor.Part.TheVariants as parts
-
--- the value that it is, without annotations
-abbrev pub payload_of : Part → Payload
-payload_of (parts.Null k) = payloads.Null k
-payload_of (parts.Truth b) = payloads.Truth b
-payload_of (parts.Symbol w) = payloads.Symbol (Some w.now)
-payload_of (parts.Str w) = payloads.Str w.now
-payload_of (parts.Clob w) = payloads.Clob w.now
-payload_of (parts.Blob w) = payloads.Blob w.now
 
 -- what a mark opens
 abbrev pub bracket_of : Mark → Bracket

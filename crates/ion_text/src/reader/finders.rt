@@ -7,17 +7,17 @@ ghost use Rattle.ion_tokens.specs.declared.mode.Place.{Place};
 ghost use Rattle.ion_tokens.specs.declared.mode.Place.TheVariants as places;
 ghost use Rattle.ion_tokens.specs.declared.plain_tokens.Rest.{Rest};
 ghost use Rattle.ion_text.specs.machine.FrontTokens.{BeginsName};
-ghost use Rattle.ion_text.specs.machine.EachToken.{held_word, held_payload, number_payload};
+ghost use Rattle.ion_text.specs.machine.EachToken.{held_word, held_payload};
+ghost use Rattle.ion_visiting.specs.Parts.{number_payload, payload_of};
 ghost use Rattle.ion_text.specs.machine.Walked.{IsFlat, IsValue};
-ghost use Rattle.ion_text.specs.visiting.Parts.{payload_of};
 ghost use Rattle.ion_text.specs.visiting.Walks.{FoundPart, FoundNumber};
 
 use super::symbols::plain_text;
-use crate::visitor::Part;
 use crate::words::{is_keyword, may_be_keyword};
 use ion_model::Kind;
 use ion_scalar::{Number, number_of};
 use ion_tokens::{Body, FoundToken, TokenKind, number, quoted_symbol, short_string, word};
+use ion_visiting::Part;
 
 /// A token that is a value without others in it.
 #[derive(Clone, Copy)]

@@ -52,7 +52,7 @@ impl TextReader<'_> {
     /// What may be an item at the front of a piece: how many octets of a blank stand before it, its octets up to
     /// the limit on items, and what is noted of it yet. `None` if an item is open or an octet is awaited.
     #[inline(always)]
-    fn item_ahead<'p>(&self, piece: &'p [u8]) -> Option<(usize, &'p [u8], Tally)>
+    pub(super) fn item_ahead<'p>(&self, piece: &'p [u8]) -> Option<(usize, &'p [u8], Tally)>
         requires room { (scanned self.now.scanner).used + length piece.now < 2 ^ 63 }
         ensures { IfSome result (λ ahead. ItemAhead self.now piece.now ahead.0 ahead.1.now ahead.2) }
     {

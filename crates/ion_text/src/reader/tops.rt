@@ -11,9 +11,9 @@ use super::finders::string_at;
 use super::nested::open_mark;
 use super::symbols::behind_annotation;
 use super::walks::{Tally, walk_blank, walk_container};
-use crate::visitor::Visitor;
 use crate::words::is_keyword;
 use ion_tokens::{FoundToken, Mark, Place, TokenKind, TokenReader, quoted_symbol, word};
+use ion_visiting::TextVisitor;
 
 impl Tally {
     /// Notes an annotation, and rests behind its token, a blank and `::`: how many octets they have.
@@ -111,7 +111,7 @@ fn note_at(octets: &[u8]) -> Option<Note<'_>>
 
 // Goes over this annotation, `::` and a blank.
 #[inline(always)]
-fn walk_note<T: Visitor>(
+fn walk_note<T: TextVisitor>(
     octets: &[u8],
     note: Note<'_>,
     tally: &mut Tally,
@@ -133,7 +133,7 @@ fn walk_note<T: Visitor>(
 }
 
 // Goes over the annotations there: how many octets they have.
-fn walk_notes<T: Visitor>(octets: &[u8], tally: &mut Tally, visitor: &mut T) -> Option<usize>
+fn walk_notes<T: TextVisitor>(octets: &[u8], tally: &mut Tally, visitor: &mut T) -> Option<usize>
     requires room { tally.old.rest.used + length octets.now < 2 ^ 63 }
     ensures { IfSome result (λ count. VisitedNotes T.visits octets.now count
         tally.old tally.new visitor.old visitor.new) }
@@ -150,7 +150,7 @@ fn walk_notes<T: Visitor>(octets: &[u8], tally: &mut Tally, visitor: &mut T) -> 
 }
 
 // Goes over the short string there.
-fn walk_string<T: Visitor>(
+fn walk_string<T: TextVisitor>(
     octets: &[u8],
     level: u32,
     tally: &mut Tally,
@@ -169,7 +169,7 @@ fn walk_string<T: Visitor>(
 }
 
 // Goes over the value there, whose annotations stand before it.
-fn walk_bare<T: Visitor>(
+fn walk_bare<T: TextVisitor>(
     beside: &mut TokenReader,
     octets: &[u8],
     level: u32,
@@ -191,7 +191,7 @@ fn walk_bare<T: Visitor>(
 }
 
 // Goes over the item there, which has annotations.
-fn walk_annotated<T: Visitor>(
+fn walk_annotated<T: TextVisitor>(
     beside: &mut TokenReader,
     octets: &[u8],
     level: u32,
@@ -217,7 +217,7 @@ fn walk_annotated<T: Visitor>(
 
 /// Goes over the item of the top level at the front of octets, whose value has at most so many levels: how
 /// many octets it has.
-pub(crate) fn walk_top<T: Visitor>(
+pub(crate) fn walk_top<T: TextVisitor>(
     beside: &mut TokenReader,
     octets: &[u8],
     level: u32,

@@ -2,7 +2,8 @@
 ghost use Rattle.std.specs.Prelude.{◌≡◌, [], ◌∷◌, ◌++◌, Some, MatchResult};
 ghost use Rattle.ion_atoms.specs.declared.refusal.Reason.TheVariants as reasons;
 ghost use Rattle.ion_text.specs.declared.state.Now.TheVariants as nows;
-ghost use Rattle.ion_text.specs.machine.EachToken.{at, goes, keyed, turn, on_ready, on_pending, on_long, on_name, on_long_name, on_after, on_keyed, number_payload};
+ghost use Rattle.ion_text.specs.machine.EachToken.{at, goes, keyed, turn, on_ready, on_pending, on_long, on_name, on_long_name, on_after, on_keyed};
+ghost use Rattle.ion_visiting.specs.Parts.{number_payload};
 ghost use Rattle.ion_tokens.specs.Bodies.{content, Word, Mark'};
 ghost use Rattle.ion_text.specs.machine.Views.{setting_of, spot_of, open_frames, reading_of, token_in, Does, SameSetting};
 

@@ -12,7 +12,8 @@ ghost use Rattle.ion_tokens.specs.machine.Rests.{past_blank, past_token, IsPasse
 ghost use Rattle.ion_text.specs.machine.FrontTokens.{BeginsName};
 ghost use Rattle.ion_text.specs.machine.Nested.{OpensAt};
 ghost use Rattle.ion_text.specs.machine.Walked.{close_of, kind_of_open, behind_key};
-ghost use Rattle.ion_text.specs.visiting.Parts.{bracket_of, payload_of};
+ghost use Rattle.ion_text.specs.visiting.Parts.{bracket_of};
+ghost use Rattle.ion_visiting.specs.Parts.{payload_of};
 ghost use Rattle.ion_text.specs.visiting.Walks.{FoundPart, FoundNumber, VisitedValue, VisitedContainer, VisitedInside, VisitedName};
 
 use super::beside::may_be_rare;
@@ -21,11 +22,10 @@ use super::finders::{
 };
 use super::nested::open_mark;
 use super::symbols::{behind_name, behind_symbol};
-use crate::visitor::{Part, Visitor};
 use ion_model::{Kind, Outline};
 use ion_scalar::Number;
 use ion_tokens::{Body, FoundToken, Mark, Place, Rest, TokenKind, TokenReader, blanks};
-use ion_visiting::Bracket;
+use ion_visiting::{Bracket, Part, TextVisitor};
 
 /// What a walk noted of the values that it went over, and where it rests.
 #[derive(Clone, Copy, Drop)]
@@ -199,7 +199,7 @@ fn bracket_of(mark: Mark) -> Bracket
 
 // Goes over a token there that isn't plain and is a value.
 #[inline(never)]
-fn walk_rare<T: Visitor>(
+fn walk_rare<T: TextVisitor>(
     beside: &mut TokenReader,
     here: Place,
     octets: &[u8],
@@ -227,7 +227,7 @@ fn walk_rare<T: Visitor>(
 // Goes over this token, which is a value, and over the blank behind it that shows that it is no
 // annotation.
 #[inline(always)]
-fn walk_part<T: Visitor>(
+fn walk_part<T: TextVisitor>(
     here: Place,
     octets: &[u8],
     scalar: Scalar,
@@ -254,7 +254,7 @@ fn walk_part<T: Visitor>(
 
 // Goes over this token, which is a number.
 #[inline(always)]
-fn walk_number<T: Visitor>(
+fn walk_number<T: TextVisitor>(
     here: Place,
     octets: &[u8],
     token: FoundToken,
@@ -281,7 +281,7 @@ fn walk_number<T: Visitor>(
 }
 
 // Goes over a token there that is a value.
-fn walk_scalar<T: Visitor>(
+fn walk_scalar<T: TextVisitor>(
     beside: &mut TokenReader,
     here: Place,
     octets: &[u8],
@@ -311,7 +311,7 @@ fn walk_scalar<T: Visitor>(
 
 // Goes over a text in quotes there that isn't plain, and is a field's name, as `walk_name` does.
 #[inline(never)]
-fn walk_rare_name<T: Visitor>(
+fn walk_rare_name<T: TextVisitor>(
     beside: &mut TokenReader,
     octets: &[u8],
     tally: &mut Tally,
@@ -334,7 +334,7 @@ fn walk_rare_name<T: Visitor>(
 
 // Goes over this token, which is a field's name, the colon behind it, and a blank.
 #[inline(always)]
-fn walk_key<T: Visitor>(
+fn walk_key<T: TextVisitor>(
     octets: &[u8],
     token: FoundToken,
     text: &str,
@@ -356,7 +356,7 @@ fn walk_key<T: Visitor>(
 }
 
 // Goes over a field's name there, the colon behind it, and a blank.
-fn walk_name<T: Visitor>(
+fn walk_name<T: TextVisitor>(
     beside: &mut TokenReader,
     octets: &[u8],
     tally: &mut Tally,
@@ -428,7 +428,7 @@ fn walk_comma(here: Place, octets: &[u8], tally: &mut Tally) -> Option<usize>
 /// Goes over the value at the front of octets, of at most so many levels: how many octets it has, with the
 /// blank behind it where that has to be seen.
 #[cycle(walk)]
-fn walk_value<T: Visitor>(
+fn walk_value<T: TextVisitor>(
     beside: &mut TokenReader,
     here: Place,
     octets: &[u8],
@@ -453,7 +453,7 @@ fn walk_value<T: Visitor>(
 
 /// Goes over the list, the s-expression or the struct there, with its close.
 #[cycle(walk)]
-pub(super) fn walk_container<T: Visitor>(
+pub(super) fn walk_container<T: TextVisitor>(
     beside: &mut TokenReader,
     here: Place,
     mark: Mark,
@@ -485,7 +485,7 @@ pub(super) fn walk_container<T: Visitor>(
 
 /// Goes over what stands behind an open, up to the close that belongs to it.
 #[cycle(walk)]
-fn walk_inside<T: Visitor>(
+fn walk_inside<T: TextVisitor>(
     beside: &mut TokenReader,
     mark: Mark,
     octets: &[u8],
@@ -509,7 +509,7 @@ fn walk_inside<T: Visitor>(
 // The elements of a list.
 #[cycle(walk)]
 #[inline(never)]
-fn walk_list<T: Visitor>(
+fn walk_list<T: TextVisitor>(
     beside: &mut TokenReader,
     octets: &[u8],
     level: u32,
@@ -544,7 +544,7 @@ fn walk_list<T: Visitor>(
 // The values in an s-expression.
 #[cycle(walk)]
 #[inline(never)]
-fn walk_sexp<T: Visitor>(
+fn walk_sexp<T: TextVisitor>(
     beside: &mut TokenReader,
     octets: &[u8],
     level: u32,
@@ -571,7 +571,7 @@ fn walk_sexp<T: Visitor>(
 // The fields of a struct.
 #[cycle(walk)]
 #[inline(never)]
-fn walk_struct<T: Visitor>(
+fn walk_struct<T: TextVisitor>(
     beside: &mut TokenReader,
     octets: &[u8],
     level: u32,

@@ -1,29 +1,19 @@
 use Rattle.std.proofs.Common.{rules, ◌≡◌, ◌++◌, Some, OnOk, sym, subst}
 use Rattle.ion_model.specs.declared.value.Payload.TheViews as views
-use Rattle.ion_model.specs.Kept.{kept_null, kept_truth, kept_symbol, kept_string, kept_clob, kept_blob}
 use Rattle.ion_text.specs.Output.{of_string, quoted}
-use Rattle.ion_text.proofs.Transcribed.{part_kept, part_text, symbol_known}
+use Rattle.ion_text.proofs.Transcribed.{part_text, symbol_known}
 use Rattle.ion_text.proofs.transcription.put_part.Goals as goal
 
 pub returns-in-Null-clause-ok : goal.returns-in-Null-clause-ok
 returns-in-Null-clause-ok c = part_text _ _ c.in-Null.is _ c.put_null.result _ _ (views.outs-Null c.in-Null.kind) c.put_null.ensures.ok
 
-pub returns-in-Null-clause-kept : goal.returns-in-Null-clause-kept
-returns-in-Null-clause-kept c = part_kept _ _ c.in-Null.is (kept_null c.in-Null.kind)
-
 pub returns-in-Truth-clause-ok : goal.returns-in-Truth-clause-ok
 returns-in-Truth-clause-ok c = part_text _ _ c.in-Truth.is _ c.put_truth.result _ _ (views.outs-Truth c.in-Truth.truth) c.put_truth.ensures.ok
-
-pub returns-in-Truth-clause-kept : goal.returns-in-Truth-clause-kept
-returns-in-Truth-clause-kept c = part_kept _ _ c.in-Truth.is (kept_truth c.in-Truth.truth)
 
 pub returns-in-Symbol-clause-ok : goal.returns-in-Symbol-clause-ok
 returns-in-Symbol-clause-ok c =
     let w = c.in-Symbol.text.now in
     part_text _ _ c.in-Symbol.is _ c.put_known.result _ _ (views.outs-Symbol (Some w)) (subst (λ x. OnOk c.put_known.result (c.put_known.new.out.items ≡ c.args.out.now.items ++ x)) (sym (symbol_known w)) c.put_known.ensures.ok)
-
-pub returns-in-Symbol-clause-kept : goal.returns-in-Symbol-clause-kept
-returns-in-Symbol-clause-kept c = part_kept _ _ c.in-Symbol.is (kept_symbol (Some c.in-Symbol.text.now) c.text_kept.ensures)
 
 pub returns-in-Str-clause-ok : goal.returns-in-Str-clause-ok
 returns-in-Str-clause-ok c =
@@ -31,17 +21,8 @@ returns-in-Str-clause-ok c =
     let put : OnOk c.put_quoted.result (c.put_quoted.new.out.items ≡ c.args.out.now.items ++ quoted of_string w) = search rules in
     part_text _ _ c.in-Str.is _ c.put_quoted.result _ _ (views.outs-Str w) put
 
-pub returns-in-Str-clause-kept : goal.returns-in-Str-clause-kept
-returns-in-Str-clause-kept c = part_kept _ _ c.in-Str.is (kept_string c.in-Str.text.now c.text_kept-in-Str.ensures)
-
 pub returns-in-Clob-clause-ok : goal.returns-in-Clob-clause-ok
 returns-in-Clob-clause-ok c = part_text _ _ c.in-Clob.is _ c.put_clob.result _ _ (views.outs-Clob c.in-Clob.octets.now) c.put_clob.ensures.ok
 
-pub returns-in-Clob-clause-kept : goal.returns-in-Clob-clause-kept
-returns-in-Clob-clause-kept c = part_kept _ _ c.in-Clob.is (kept_clob c.in-Clob.octets.now c.are_octets.ensures)
-
 pub returns-in-Blob-clause-ok : goal.returns-in-Blob-clause-ok
 returns-in-Blob-clause-ok c = part_text _ _ c.in-Blob.is _ c.put_blob.result _ _ (views.outs-Blob c.in-Blob.octets.now) c.put_blob.ensures.ok
-
-pub returns-in-Blob-clause-kept : goal.returns-in-Blob-clause-kept
-returns-in-Blob-clause-kept c = part_kept _ _ c.in-Blob.is (kept_blob c.in-Blob.octets.now c.are_octets-in-Blob.ensures)

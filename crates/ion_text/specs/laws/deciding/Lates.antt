@@ -35,7 +35,8 @@ use Rattle.ion_text.specs.declared.state.Frame.{Frame}
 use Rattle.ion_text.specs.declared.state.Frame.TheVariants as frames
 use Rattle.ion_text.specs.Grammar.{is_keyword}
 use Rattle.ion_text.specs.Deciding.{HasRow}
-use Rattle.ion_text.specs.machine.EachToken.{Setting, Spot, under, spot_at, Reading, Turn, goes, gives, refuses, late, Token, Symbols, at, fresh, place, settle, turn, turn_now, ended, within, turned, held_symbol, on_ready, on_pending, on_long, on_after, on_name, on_long_name, on_keyed, on_comma, resolved, noted, keyed, named, list_closed, sexp_closed, struct_closed, number_payload, bare_close, begun_at, spot_in}
+use Rattle.ion_text.specs.machine.EachToken.{Setting, Spot, under, spot_at, Reading, Turn, goes, gives, refuses, late, Token, Symbols, at, fresh, place, settle, turn, turn_now, ended, within, turned, held_symbol, on_ready, on_pending, on_long, on_after, on_name, on_long_name, on_keyed, on_comma, resolved, noted, keyed, named, list_closed, sexp_closed, struct_closed, bare_close, begun_at, spot_in}
+use Rattle.ion_visiting.specs.Parts.{number_payload}
 use Rattle.ion_text.specs.machine.Run.{State, Effect, uses, fails, takes, unsettled, noticed, shut, reaches, on_scan, on_settled, on_said, behind_given, behind_left, with_scan, token_of}
 use Rattle.ion_text.specs.machine.Passed.{said_body}
 use Rattle.ion_text.specs.laws.reading.complete.Accepts.{mark_said}

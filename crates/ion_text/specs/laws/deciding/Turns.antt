@@ -32,7 +32,8 @@ use Rattle.ion_text.specs.declared.state.Frame.{Frame}
 use Rattle.ion_text.specs.declared.state.Frame.TheVariants as frames
 use Rattle.ion_text.specs.Grammar.{Says, Means, means, one_token, Pieces, close_place, ends_long, begins_as_long, is_keyword, is_version, the_marker}
 use Rattle.ion_text.specs.Deciding.{Ends, IsKeyword, InStruct, Sight, Gives, HasRow, no_symbol, keyword_as_name, keyword_as_annotation, other_version, null_table, too_deep, struct_too_deep, bad_table}
-use Rattle.ion_text.specs.machine.EachToken.{under, spot_at, token_at, Turn, goes, gives, refuses, late, Symbols, at, fresh, place_in, settle, turn_now, ended, within, turned, held_word, held_symbol, released, begun_at, on_ready, on_pending, on_after, on_name, on_comma, on_long, on_long_name, on_keyed, resolved, noted, keyed, named, list_closed, sexp_closed, number_payload}
+use Rattle.ion_text.specs.machine.EachToken.{under, spot_at, token_at, Turn, goes, gives, refuses, late, Symbols, at, fresh, place_in, settle, turn_now, ended, within, turned, held_word, held_symbol, released, begun_at, on_ready, on_pending, on_after, on_name, on_comma, on_long, on_long_name, on_keyed, resolved, noted, keyed, named, list_closed, sexp_closed}
+use Rattle.ion_visiting.specs.Parts.{number_payload}
 use Rattle.ion_text.specs.laws.reading.sound.Depths.{Deep, flat_null}
 use Rattle.ion_text.specs.laws.reading.sound.Held.{none_noted}
 use Rattle.ion_text.specs.machine.Places.{pending_at}

@@ -6,7 +6,8 @@ use Rattle.ion_tokens.specs.Bodies.{Number'}
 use Rattle.ion_tokens.specs.Places.{is_name}
 use Rattle.ion_tokens.specs.machine.Rests.{past_token}
 use Rattle.ion_text.specs.declared.state.Effect.{Effect}
-use Rattle.ion_text.specs.machine.EachToken.{ended, goes, number_payload, place}
+use Rattle.ion_text.specs.machine.EachToken.{ended, goes, place}
+use Rattle.ion_visiting.specs.Parts.{number_payload}
 use Rattle.ion_text.specs.machine.Views.{setting_of, spot_of, open_frames, reading_of, Does}
 use Rattle.ion_text.proofs.Arms.{value_strides, number_says, Moved}
 use Rattle.ion_text.proofs.reader.TextReader.take_number.Goals as goal

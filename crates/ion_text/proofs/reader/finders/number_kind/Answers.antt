@@ -1,7 +1,7 @@
 use Rattle.std.proofs.Common.{sym, subst}
 use Rattle.ion_atoms.specs.declared.kind.Kind.TheVariants as kinds
 use Rattle.ion_scalar.specs.declared.number.Number.TheVariants as numbers
-use Rattle.ion_text.specs.machine.EachToken.{number_payload}
+use Rattle.ion_visiting.specs.Parts.{number_payload}
 use Rattle.ion_text.specs.machine.Walked.{IsFlat}
 use Rattle.ion_text.proofs.Walks.{flat_number}
 use Rattle.ion_text.proofs.reader.finders.number_kind.Goals as goal

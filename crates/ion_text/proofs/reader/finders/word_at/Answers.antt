@@ -1,7 +1,7 @@
 use Rattle.std.proofs.Common.{◌≡◌, ◌≢◌, ◌∙◌, Ok, ap, sym, arith, take, get_or, refl}
 use Rattle.ion_tokens.specs.Bodies.{Word}
 use Rattle.ion_text.specs.machine.EachToken.{held_payload, held_word}
-use Rattle.ion_text.specs.visiting.Parts.{payload_of}
+use Rattle.ion_visiting.specs.Parts.{payload_of}
 use Rattle.ion_text.proofs.Symbols.{word_said}
 use Rattle.ion_text.proofs.reader.finders.word_at.Goals as goal
 

@@ -13,15 +13,15 @@ use Rattle.ion_text.proofs.reader.walks.+walk.Goals as goal
 pub walk_value-returns-in-Some : goal.walk_value-returns-in-Some
 walk_value-returns-in-Some g t c =
     let more : 1 < length c.args.octets.now = omega (arith, c.if-octets-lt2.false) in
-    containers_visited g.T.Visitor.visits c.args.here c.in-Some.mark c.args.level c.args.octets.now c.args.tally.now c.walk_container.new.tally _ _ c.walk_container.result c.walk_container.ensures more c.in-Some.ensures c.requires.value c.requires.low
+    containers_visited g.T.TextVisitor.visits c.args.here c.in-Some.mark c.args.level c.args.octets.now c.args.tally.now c.walk_container.new.tally _ _ c.walk_container.result c.walk_container.ensures more c.in-Some.ensures c.requires.value c.requires.low
 
 pub walk_container-returns : goal.walk_container-returns
 walk_container-returns g t c =
     let octets = c.args.octets.now in
-    container_visited g.T.Visitor.visits c.args.here c.args.mark c.args.level octets (take (length octets - 1) (drop 1 octets)) c.in_ok-count.count c.args.tally.now c.pass_token.new.self c.walk_inside.new.tally _ c.in_ok-kept.kept _ _ _ _ (omega (arith, c.if-level-eq0.false)) (take_rest octets 1) c.in_ok-count.ensures
+    container_visited g.T.TextVisitor.visits c.args.here c.args.mark c.args.level octets (take (length octets - 1) (drop 1 octets)) c.in_ok-count.count c.args.tally.now c.pass_token.new.self c.walk_inside.new.tally _ c.in_ok-kept.kept _ _ _ _ (omega (arith, c.if-level-eq0.false)) (take_rest octets 1) c.in_ok-count.ensures
     (search rules) (search rules)
-    (subst (λ x. g.T.Visitor.visits.opens c.args.visitor.now x c.in_ok-kept.kept c.open.new.self) c.bracket_of.ensures c.in_ok-kept.ensures)
-    (subst (λ x. g.T.Visitor.visits.closes c.walk_inside.new.visitor x c.in_ok-kept.kept c.close.new.self) c.bracket_of-2.ensures (c.close.ensures c.if-not-close.false))
+    (subst (λ x. g.T.TextVisitor.visits.opens c.args.visitor.now x c.in_ok-kept.kept c.open.new.self) c.bracket_of.ensures c.in_ok-kept.ensures)
+    (subst (λ x. g.T.TextVisitor.visits.closes c.walk_inside.new.visitor x c.in_ok-kept.kept c.close.new.self) c.bracket_of-2.ensures (c.close.ensures c.if-not-close.false))
 
 pub walk_list-returns-then-begins_with : goal.walk_list-returns-then-begins_with
 walk_list-returns-then-begins_with g t c =
@@ -30,7 +30,7 @@ walk_list-returns-then-begins_with g t c =
     let j = c.walk_blank-at.result in
     let vs = c.loop.invariant.values in
     let close = c.begins_with.ensures c.if-begins_with.true in
-    list_visited g.T.Visitor.visits c.args.level octets (take (length octets - (at + j)) (drop (at + j) octets)) (at + j) c.args.tally.now c.walk_blank-at.new.tally (take_rest octets (at + j)) close.0 _ _ vs c.loop.behind
+    list_visited g.T.TextVisitor.visits c.args.level octets (take (length octets - (at + j)) (drop (at + j) octets)) (at + j) c.args.tally.now c.walk_blank-at.new.tally (take_rest octets (at + j)) close.0 _ _ vs c.loop.behind
     (gone_blank marks.ListOpen c.args.level octets (take (length octets - at) (drop at octets)) at c.args.tally.now c.loop.tally (λ ss. frames.List ss vs) (element_now c.loop.behind) (depths vs) (sum (map nodes vs)) c.loop.invariant.gone (take_rest octets at)
     c.walk_blank-at.new.tally j c.walk_blank-at.ensures.passed c.walk_blank-at.ensures.within (element_still c.loop.behind) c.walk_blank-at.ensures.noted) close.1 c.loop.invariant.visited
 
@@ -75,7 +75,7 @@ walk_sexp-returns-then-begins_with g t c =
     let j = c.walk_blank-at.result in
     let vs = c.loop.invariant.values in
     let close = c.begins_with.ensures c.if-begins_with.true in
-    sexp_visited g.T.Visitor.visits c.args.level octets (take (length octets - (at + j)) (drop (at + j) octets)) (at + j) c.args.tally.now c.walk_blank-at.new.tally (take_rest octets (at + j)) close.0 _ _ vs
+    sexp_visited g.T.TextVisitor.visits c.args.level octets (take (length octets - (at + j)) (drop (at + j) octets)) (at + j) c.args.tally.now c.walk_blank-at.new.tally (take_rest octets (at + j)) close.0 _ _ vs
     (gone_blank marks.SexpOpen c.args.level octets (take (length octets - at) (drop at octets)) at c.args.tally.now c.loop.tally (λ ss. frames.Sexp ss vs) nows.Ready (depths vs) (sum (map nodes vs)) c.loop.invariant.gone (take_rest octets at)
     c.walk_blank-at.new.tally j c.walk_blank-at.ensures.passed c.walk_blank-at.ensures.within tt c.walk_blank-at.ensures.noted) close.1 c.loop.invariant.visited
 
@@ -103,7 +103,7 @@ walk_struct-returns-then-begins_with g t c =
     let j = c.walk_blank-at.result in
     let ms = c.loop.invariant.fields in
     let close = c.begins_with.ensures c.if-begins_with.true in
-    fields_visited g.T.Visitor.visits c.args.level octets (take (length octets - (at + j)) (drop (at + j) octets)) (at + j) c.args.tally.now c.walk_blank-at.new.tally (take_rest octets (at + j)) close.0 _ _ ms c.loop.behind
+    fields_visited g.T.TextVisitor.visits c.args.level octets (take (length octets - (at + j)) (drop (at + j) octets)) (at + j) c.args.tally.now c.walk_blank-at.new.tally (take_rest octets (at + j)) close.0 _ _ ms c.loop.behind
     (gone_blank marks.FieldsOpen c.args.level octets (take (length octets - at) (drop at octets)) at c.args.tally.now c.loop.tally (λ ss. frames.Fields ss ms) (field_now c.loop.behind) (field_depths ms) (sum (map field_nodes ms)) c.loop.invariant.gone (take_rest octets at)
     c.walk_blank-at.new.tally j c.walk_blank-at.ensures.passed c.walk_blank-at.ensures.within (field_still c.loop.behind) c.walk_blank-at.ensures.noted) close.1 c.loop.invariant.visited
 

@@ -28,14 +28,14 @@ abbrev pub invariant-walk_list-loop : goal.invariant-walk_list-loop
 invariant-walk_list-loop g l = record {
   values : List Value;
   gone : ListGone l.level l.octets l.at l.fn.tally l.tally values l.behind;
-  visited : VisitedItems g.T.Visitor.visits values l.fn.visitor l.visitor;
+  visited : VisitedItems g.T.TextVisitor.visits values l.fn.visitor l.visitor;
 }
 
 abbrev pub invariant-walk_sexp-loop : goal.invariant-walk_sexp-loop
 invariant-walk_sexp-loop g l = record {
   values : List Value;
   gone : SexpGone l.level l.octets l.at l.fn.tally l.tally values;
-  visited : VisitedItems g.T.Visitor.visits values l.fn.visitor l.visitor;
+  visited : VisitedItems g.T.TextVisitor.visits values l.fn.visitor l.visitor;
 }
 
 -- the octets before `at` are some fields, what is noted is theirs, and they were visited
@@ -43,5 +43,5 @@ abbrev pub invariant-walk_struct-loop : goal.invariant-walk_struct-loop
 invariant-walk_struct-loop g l = record {
   fields : List Field;
   gone : FieldsGone l.level l.octets l.at l.fn.tally l.tally fields l.behind;
-  visited : VisitedFields g.T.Visitor.visits fields l.fn.visitor l.visitor;
+  visited : VisitedFields g.T.TextVisitor.visits fields l.fn.visitor l.visitor;
 }

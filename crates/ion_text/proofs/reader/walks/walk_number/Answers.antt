@@ -2,7 +2,7 @@ use Rattle.std.proofs.Common.{◌≡◌, ◌+◌, ◌≤◌, false, length, refl
 use Rattle.ion_tokens.specs.Bodies.{Number'}
 use Rattle.ion_tokens.specs.machine.Rests.{past_token}
 use Rattle.ion_text.specs.declared.reader.finders.Scalar.{Scalar}
-use Rattle.ion_text.specs.machine.EachToken.{number_payload}
+use Rattle.ion_visiting.specs.Parts.{number_payload}
 use Rattle.ion_text.specs.machine.Walked.{FoundScalar, LeadsBehind}
 use Rattle.ion_text.proofs.Walking.{found_within, scalar_leads, walked_scalar}
 use Rattle.ion_text.proofs.Visited.{scalar_visited}
@@ -28,6 +28,6 @@ returns g c =
     let inside = found_within c.args.here rest octets token.kind f.kept token.count token.left f.found in
     let within : token.count + 0 ≤ length octets = omega arith in
     let none : token.count ≡ token.count + 0 = omega arith in
-    scalar_visited g.T.Visitor.visits c.args.here rest octets s (number_payload number) (record { token = found; is = refl }) c.args.level (token.count + 0) c.pass_scalar.result c.args.tally.now c.pass_scalar.new.self _ _ c.pass_scalar.ensures.total
+    scalar_visited g.T.TextVisitor.visits c.args.here rest octets s (number_payload number) (record { token = found; is = refl }) c.args.level (token.count + 0) c.pass_scalar.result c.args.tally.now c.pass_scalar.new.self _ _ c.pass_scalar.ensures.total
     (walked_scalar c.args.here c.args.level rest octets s found c.args.tally.now c.pass_scalar.new.self 0 c.requires.low refl within
     (subst (λ k. LeadsBehind c.args.here c.args.level rest octets k (past_token c.args.here rest token.kind token.count) (number_payload number)) none (scalar_leads c.args.here c.args.level rest octets s found refl)) c.pass_scalar.ensures.noted) (c.number.ensures c.if-not-number.false)

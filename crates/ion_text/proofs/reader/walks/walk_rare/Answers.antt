@@ -1,7 +1,7 @@
 use Rattle.std.proofs.Common.{refl}
 use Rattle.ion_tokens.specs.Bodies.{content}
 use Rattle.ion_tokens.specs.machine.Views.{octets_in}
-use Rattle.ion_text.specs.visiting.Parts.{payload_of}
+use Rattle.ion_visiting.specs.Parts.{payload_of}
 use Rattle.ion_text.proofs.reader.walks.walk_rare.Goals as goal
 
 pub walk_part-requires-clause-found : goal.walk_part-requires-clause-found

@@ -25,7 +25,8 @@ use Rattle.ion_text.specs.declared.state.Now.TheVariants as nows
 use Rattle.ion_text.specs.declared.state.Frame.{Frame}
 use Rattle.ion_text.specs.declared.state.Frame.TheVariants as frames
 use Rattle.ion_text.specs.Grammar.{is_keyword}
-use Rattle.ion_text.specs.machine.EachToken.{Setting, Spot, under, spot_at, token_at, Reading, Turn, goes, gives, refuses, late, Token, Symbols, at, fresh, settle, turn, turn_now, ended, within, turned, held_symbol, held_payload, released, begun_at, on_ready, on_after, on_name, on_pending, on_long, on_long_name, on_keyed, on_comma, struct_closed, list_closed, sexp_closed, bare_close, number_payload, paid, noted, resolved, keyed, named}
+use Rattle.ion_text.specs.machine.EachToken.{Setting, Spot, under, spot_at, token_at, Reading, Turn, goes, gives, refuses, late, Token, Symbols, at, fresh, settle, turn, turn_now, ended, within, turned, held_symbol, held_payload, released, begun_at, on_ready, on_after, on_name, on_pending, on_long, on_long_name, on_keyed, on_comma, struct_closed, list_closed, sexp_closed, bare_close, paid, noted, resolved, keyed, named}
+use Rattle.ion_visiting.specs.Parts.{number_payload}
 use Rattle.ion_text.specs.laws.reading.complete.Complete.{depths, field_depths, field_deepest-more, depth-list, depth-sexp, depth-struct}
 
 -- what has come of the open containers stays within so many levels

@@ -40,7 +40,8 @@ use Rattle.ion_text.specs.declared.state.Now.{Now}
 use Rattle.ion_text.specs.declared.state.Now.TheVariants as nows
 use Rattle.ion_text.specs.declared.state.Frame.{Frame}
 use Rattle.ion_text.specs.declared.state.Frame.TheVariants as frames
-use Rattle.ion_text.specs.machine.EachToken.{Reading, Setting, Spot, Turn, goes, gives, refuses, late, Token, Symbols, at, fresh, under, spot_at, begun_at, place, settle, turn, within, turned, ended, paid, held_payload, held_symbol, number_payload, released, resolved, deeper, noted, on_ready, on_pending, on_long}
+use Rattle.ion_text.specs.machine.EachToken.{Reading, Setting, Spot, Turn, goes, gives, refuses, late, Token, Symbols, at, fresh, under, spot_at, begun_at, place, settle, turn, within, turned, ended, paid, held_payload, held_symbol, released, resolved, deeper, noted, on_ready, on_pending, on_long}
+use Rattle.ion_visiting.specs.Parts.{number_payload}
 use Rattle.ion_text.specs.machine.Passed.{said_body}
 use Rattle.ion_text.specs.machine.Run.{State, Effect, uses, tells, leaves, fails, is_top, is_fresh, shut, noticed, or_worse, token_of, with_scan, behind_given, behind_left, on_said, on_scan, on_settled, on_octet, unsettled, takes, end_settled, end_turned, end_said, end_waiting, end_ready, ends, cut_short, reaches}
 use Rattle.ion_text.specs.laws.reading.sound.Sound.{NowStands, start_now}

@@ -3,7 +3,7 @@ use Rattle.std.specs.Prelude.{codes}
 use Rattle.ion_text.specs.Output.{known_text}
 use Rattle.ion_text.specs.visiting.Transcribing.{Adds}
 use Rattle.ion_text.proofs.Transcribed.{symbol_known}
-use Rattle.ion_text.proofs.transcription.TranscriptionVisitor.name.Goals as goal
+use Rattle.ion_text.proofs.transcription.TranscriptionTextVisitor.name.Goals as goal
 
 pub returns : goal.returns
 returns c = λ e.

@@ -1,8 +1,8 @@
 use Rattle.std.proofs.Common.{sym, subst}
 use Rattle.ion_atoms.specs.Ranges.{IsWhole}
 use Rattle.ion_model.specs.Kept.{KeptPayload, kept_int, kept_decimal, kept_timestamp}
-use Rattle.ion_text.specs.machine.EachToken.{number_payload}
-use Rattle.ion_text.proofs.transcription.number_kept.Goals as goal
+use Rattle.ion_visiting.specs.Parts.{number_payload}
+use Rattle.ion_visiting.proofs.part.number_kept.Goals as goal
 
 pub returns-in-Int : goal.returns-in-Int
 returns-in-Int c =

@@ -2,7 +2,7 @@ use Rattle.std.proofs.Common.{rules, ◌≡◌, ◌++◌}
 use Rattle.ion_scalar.specs.text.Texts.{number_text}
 use Rattle.ion_text.specs.visiting.Transcribing.{front}
 use Rattle.ion_text.proofs.Transcribed.{number_added}
-use Rattle.ion_text.proofs.transcription.TranscriptionVisitor.number.Goals as goal
+use Rattle.ion_text.proofs.transcription.TranscriptionTextVisitor.number.Goals as goal
 
 pub returns : goal.returns
 returns c = λ e.
