@@ -8,7 +8,7 @@ ghost use Rattle.ion_binary.specs.machine.Alike.{Alike, AlikeScalar};
 
 use crate::comparison::Comparison;
 use crate::form::Scalar;
-use crate::slots::small_uint;
+use crate::build_scalars::small_uint;
 use crate::walk::{is_scalar, walk_value};
 use ion_model::Symbol;
 use ion_symtab::Context;

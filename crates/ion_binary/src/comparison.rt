@@ -11,7 +11,7 @@ ghost use Rattle.ion_binary.specs.visiting.Comparing.{Enters, IsThere, IsOne, Is
 use crate::alike::alike_scalars;
 use crate::form::{Form, Listing, Opening, Scalar, opening_of};
 use crate::visitor::Visitor;
-use crate::whole::{lengths, number};
+use crate::build::{lengths, number};
 use ion_model::{Kind, Symbol};
 use ion_scalar::Size;
 use ion_symtab::Context;

@@ -8,12 +8,12 @@ pub mod laws;
 mod measure;
 mod reader;
 mod scalar;
-mod slots;
+mod build_scalars;
 mod state;
 mod transcription;
 mod visitor;
 mod walk;
-mod whole;
+mod build;
 mod writer;
 
 pub use reader::{BinaryReader, Carried};

@@ -14,12 +14,12 @@ use std::fmt::{self, Debug, Formatter};
 
 mod bodies;
 mod frames;
-mod inside;
+mod advance;
 mod items;
 mod numbers;
 mod passing;
-mod room;
-mod whole;
+mod bounds;
+mod built;
 
 /// A reader of a binary document that comes in pieces (Ion 1.0, "Ion Binary Encoding").
 ///

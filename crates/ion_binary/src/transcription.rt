@@ -13,7 +13,7 @@ ghost use Rattle.ion_binary.specs.declared.form.Scalar.TheVariants as scalars;
 ghost use Rattle.ion_binary.specs.machine.Transcribed.{HasId, IsShortest, Transcribed, TranscribedScalar};
 
 use crate::form::Scalar;
-use crate::slots::{put_scalar, small_uint};
+use crate::build_scalars::{put_scalar, small_uint};
 use crate::visitor::Visitor;
 use crate::walk::walk_value;
 use crate::writer::crossings::Crossings;

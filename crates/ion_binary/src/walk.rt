@@ -10,9 +10,9 @@ ghost use Rattle.ion_binary.specs.machine.Walked.{WalkedScalar};
 ghost use Rattle.ion_binary.specs.machine.Walked.{Walked, WalkedPlain, WalkedBody, WalkedWrapper, WalkedListing, WalkedStruct, WalkedItems, WalkedFields, WalkedIds};
 
 use crate::form::{Form, Listing, Opening, Scalar, bracket_of, opening_of};
-use crate::slots::{magnitude_of, small_uint};
+use crate::build_scalars::{magnitude_of, small_uint};
 use crate::visitor::Visitor;
-use crate::whole::{lengths, number, pad_of};
+use crate::build::{lengths, number, pad_of};
 use ion_scalar::{Size, is_decimal_body, is_timestamp_body, is_uint};
 use ion_symtab::Context;
 use ion_visiting::Bracket;

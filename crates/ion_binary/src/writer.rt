@@ -16,7 +16,7 @@ use crate::transcription::texts::transcribe_visited;
 use crate::transcription::transcribe;
 use crossings::Crossings;
 use encoding::put_value;
-use guesses::Guesses;
+use recent_ids::Guesses;
 use ion_model::Value;
 use ion_symtab::{Context, Fault, Outlet, flushed, write_whole};
 use ion_visiting::{Visitable, is_tried};
@@ -30,7 +30,7 @@ use table::put_table;
 pub(crate) mod crossings;
 mod encoding;
 pub(crate) mod framing;
-pub(crate) mod guesses;
+pub(crate) mod recent_ids;
 pub(crate) mod names;
 mod table;
 

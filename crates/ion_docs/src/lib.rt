@@ -11,7 +11,7 @@ mod documents;
 pub mod laws;
 mod memory;
 mod paths;
-mod whole;
+mod all_values;
 mod writers;
 
 pub use catalogs::load_catalog;
@@ -24,5 +24,5 @@ pub use ion_streams::{
 pub use ion_symtab::Target;
 pub use memory::in_memory;
 pub use paths::{PathText, path_text, spelling_of_path};
-pub use whole::{read_all, read_document};
+pub use all_values::{read_all, read_document};
 pub use writers::Encoder;

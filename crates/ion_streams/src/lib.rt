@@ -8,7 +8,7 @@ mod checking;
 mod comparison;
 mod listing;
 mod source;
-mod whole;
+mod all_values;
 
 pub use alike::{Alike, Unseen};
 pub use catalogs::load_items;
@@ -16,4 +16,4 @@ pub use checking::check_items;
 pub use comparison::{Side, Verdict, compare_by, compare_items};
 pub use listing::show_items;
 pub use source::{Reached, Source, Standing, counted, last, value_of};
-pub use whole::{read_items, read_octets};
+pub use all_values::{read_items, read_octets};

@@ -14,25 +14,25 @@ use std::fmt::{self, Debug, Formatter};
 use std::mem;
 
 mod alike;
-mod beside;
-mod closes;
-mod ends;
+mod escaped_tokens;
+mod containers;
+mod end_of_input;
 mod finders;
 mod items;
-mod lulls;
-mod nested;
+mod blanks_while_waiting;
+mod nested_containers;
 mod octets;
 mod passing;
-mod steps;
-mod stretches;
+mod advance;
+mod to_next_token;
 mod structs;
 mod symbols;
-pub(crate) mod tops;
-mod turns;
+pub(crate) mod top_values;
+mod on_token;
 mod visiting;
-mod waiting;
+mod annotation_or_value;
 pub(crate) mod walks;
-mod whole;
+mod tokens_at_once;
 
 /// A reader of a text document that comes in pieces (Ion 1.0, "Ion Text Encoding").
 ///

@@ -12,7 +12,7 @@ ghost use Rattle.ion_text.specs.machine.Walked.{WalkedTop};
 ghost use Rattle.ion_text.specs.visiting.Transcribing.{Adds, open_octet, bracket_close, octet_between};
 
 use crate::escape::{OF_STRING, put_quoted};
-use crate::reader::tops::walk_top;
+use crate::reader::top_values::walk_top;
 use crate::reader::walks::Tally;
 use crate::scalar::{put_blob, put_clob, put_known, put_null, put_numeral, put_truth};
 use ion_scalar::Number;

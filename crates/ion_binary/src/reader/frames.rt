@@ -6,9 +6,9 @@ ghost use Rattle.ion_binary.specs.machine.Views.{setting_of, spot_of, open_frame
 
 use super::BinaryReader;
 use crate::form::Listing;
-use crate::slots::put;
+use crate::build_scalars::put;
 use crate::state::{Effect, Frame, Phase, Purpose};
-use crate::whole::listed;
+use crate::build::listed;
 use ion_model::{Field, Payload, Reason, Sequence, Symbol, Value};
 
 impl BinaryReader<'_> {

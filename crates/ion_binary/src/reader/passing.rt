@@ -13,7 +13,7 @@ use super::BinaryReader;
 use crate::alike::alike_value;
 use crate::measure::Measure;
 use crate::walk::walk_value;
-use crate::whole::extent;
+use crate::build::extent;
 use crate::writer::BinaryWriter;
 use ion_model::Outline;
 use ion_symtab::{Fault, Items, Outlet};

@@ -12,7 +12,7 @@ use crate::writer::framing::{
     put_decimal_value, put_framed, put_id, put_null, put_symbol, put_timestamp_value, put_truth,
     put_whole,
 };
-use crate::writer::guesses::Guesses;
+use crate::writer::recent_ids::Guesses;
 use crate::writer::names::Names;
 use ion_scalar::Number;
 use ion_visiting::{Bracket, Part, TextVisitor, Visitable, number_kept, part_kept, text_kept};

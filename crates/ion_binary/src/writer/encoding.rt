@@ -18,7 +18,7 @@ use super::framing::{
     frame, insert_length, put_decimal_value, put_framed, put_id, put_null, put_symbol,
     put_timestamp_value, put_truth, put_whole,
 };
-use super::guesses::Guesses;
+use super::recent_ids::Guesses;
 use super::names::Names;
 use ion_model::{Field, Payload, Symbol, Value};
 use ion_symtab::Fault;

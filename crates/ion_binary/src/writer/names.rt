@@ -8,7 +8,7 @@ ghost use Rattle.ion_binary.specs.Writing.{IsNumberingFault};
 ghost use Rattle.ion_binary.specs.writer.Later.{IsLater};
 ghost use Rattle.ion_binary.specs.machine.Transcribed.{HasId};
 
-use super::guesses::Guesses;
+use super::recent_ids::Guesses;
 use indexmap::IndexSet;
 use ion_model::Symbol;
 use ion_symtab::{Fault, GREATEST_ID, SYSTEM_TEXTS};

@@ -11,7 +11,7 @@ use Rattle.ion_tokens.specs.machine.Rests.{past_blank, IsFound, IsPassed}
 use Rattle.ion_tokens.specs.machine.Said.{said}
 use Rattle.ion_visiting.specs.Visits.{Visits, name, Visited, VisitedPayload, VisitedAnnotations}
 use Rattle.ion_text.specs.declared.reader.TextReader.{TextReader}
-use Rattle.ion_text.specs.declared.reader.tops.Note.{Note}
+use Rattle.ion_text.specs.declared.reader.top_values.Note.{Note}
 use Rattle.ion_text.specs.declared.reader.finders.Scalar.{Scalar}
 use Rattle.ion_text.specs.declared.reader.walks.Tally.{Tally}
 use Rattle.ion_text.specs.machine.Walked.{IsFresh, FoundScalar, FoundNote, Walked, WalkedContainer, WalkedInside, WalkedName, WalkedNotes, WalkedBare, WalkedTop}

@@ -13,7 +13,7 @@ ghost use Rattle.ion_text.specs.machine.Views.{state_of, IsFine};
 
 use super::TextReader;
 use super::passing::up_to;
-use super::tops::walk_top;
+use super::top_values::walk_top;
 use super::walks::Tally;
 use crate::visitor::Unheeding;
 use ion_symtab::Items;

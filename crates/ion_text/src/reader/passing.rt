@@ -14,7 +14,7 @@ ghost use Rattle.ion_text.specs.machine.Walked.{IsFresh};
 ghost use Rattle.ion_text.specs.visiting.Walks.{ItemAhead};
 
 use super::TextReader;
-use super::tops::walk_top;
+use super::top_values::walk_top;
 use super::walks::Tally;
 use crate::state::Now;
 use crate::visitor::Unheeding;

@@ -8,7 +8,7 @@ ghost use Rattle.ion_text.specs.machine.Progress.{Advances, SameSettings, StaysS
 ghost use Rattle.ion_text.specs.machine.Views.{state_of, IsFine};
 
 use super::TextReader;
-use super::tops::walk_top;
+use super::top_values::walk_top;
 use ion_symtab::Items;
 use ion_tokens::TokenReader;
 use ion_visiting::{TextVisitor, Visitable};

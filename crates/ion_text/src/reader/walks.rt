@@ -16,11 +16,11 @@ ghost use Rattle.ion_text.specs.visiting.Parts.{bracket_of};
 ghost use Rattle.ion_visiting.specs.Parts.{payload_of};
 ghost use Rattle.ion_text.specs.visiting.Walks.{FoundPart, FoundNumber, VisitedValue, VisitedContainer, VisitedInside, VisitedName};
 
-use super::beside::may_be_rare;
+use super::escaped_tokens::may_be_rare;
 use super::finders::{
     Scalar, begins_number, number_at, number_kind, plain_at, rare_part, text_name, word_name,
 };
-use super::nested::open_mark;
+use super::nested_containers::open_mark;
 use super::symbols::{behind_name, behind_symbol};
 use ion_model::{Kind, Outline};
 use ion_scalar::Number;

@@ -1,0 +1,258 @@
+//! Tokens that lie whole in a piece, where a container is open. What is cut, refused or unusual is left to
+//! the octets. Where a container is open a value only goes on; another answer couldn't come, and is told as
+//! memory that ran out, which says nothing of the octets.
+ghost use Rattle.std.specs.Prelude.{◌≡◌, ◌+◌, ◌<◌, ◌≤◌, ◌^◌, [], length, true, false, not, IfOk, IfErr};
+ghost use Rattle.ion_atoms.specs.declared.refusal.Reason.TheVariants.{Memory};
+ghost use Rattle.ion_tokens.specs.machine.Views.{scanned};
+ghost use Rattle.ion_tokens.specs.Places.{is_name};
+ghost use Rattle.ion_tokens.specs.machine.Rests.{resting, IsPassed};
+ghost use Rattle.ion_text.specs.declared.state.Now.TheVariants as nows;
+ghost use Rattle.ion_text.specs.machine.EachToken.{place};
+ghost use Rattle.ion_text.specs.machine.Run.{is_top};
+ghost use Rattle.ion_text.specs.machine.Views.{open_frames, reading_of, state_of, IsFine, SameReader};
+ghost use Rattle.ion_text.specs.machine.Progress.{Took, StaysSteady};
+ghost use Rattle.ion_text.specs.machine.AtOnce.{IsResting, Inside, Strides};
+
+use super::TextReader;
+use super::on_token::number_payload;
+use crate::state::{Effect, Now, Taken};
+use ion_model::{Payload, Reason, Refusal, Text};
+use ion_scalar::number_of;
+use ion_tokens::{Mark, Place, Rest, TokenKind, blanks, number, short_string};
+
+// Whether a value may stand there, and no field's name.
+fn may_be_value(place: Place) -> bool
+    ensures { result ≡ not (is_name place) }
+{
+    !matches!(place, Place::Name)
+}
+
+impl TextReader<'_> {
+    /// How many of so many octets may be looked at where a container is open: no more than the limit on
+    /// items leaves.
+    pub(super) fn span(&self, length: usize) -> usize
+        ensures within { result ≤ length }
+        ensures inner { 0 < result → is_top (open_frames self.now) ≡ false }
+        ensures fits { 0 < result →
+            (scanned self.now.scanner).used + result ≤ self.now.limits.item + self.now.start }
+    {
+        if self.frames.is_empty() {
+            return 0;
+        }
+        let last = self.start.saturating_add(self.limits.item);
+        let room = last.saturating_sub(self.scanner.used());
+        if (length as u64) < room {
+            length
+        } else {
+            room as usize
+        }
+    }
+
+    /// Whether no token has begun, and nothing waits.
+    pub(super) fn is_resting(&self) -> bool
+        ensures { result ≡ true → IsResting self.now }
+    {
+        match &self.stage {
+            Now::Ready | Now::Name | Now::After => self.scanner.rest().is_some(),
+            _ => false,
+        }
+    }
+
+    /// Takes up the tokens at the front of a piece that lie whole in it: how many octets they have.
+    pub(super) fn take_tokens(&mut self, piece: &[u8]) -> Result<usize, Reason>
+        requires inside { Inside self.old piece.now }
+        ensures strides { IfOk result (λ count. Strides self.old self.new piece.now count) }
+        ensures memory { IfErr result (λ reason. reason ≡ Memory) }
+        ensures same { SameReader self.old self.new }
+    {
+        let mut at = 0;
+        for _ in 0..piece.len() {
+            let count = self.take_token(&piece[at..])?;
+            if count == 0 {
+                break;
+            }
+            at += count;
+        }
+        Ok(at)
+    }
+
+    /// Takes up the token at the front of octets, or the blank there but for their last octet: how many
+    /// octets those are, or none.
+    fn take_token(&mut self, octets: &[u8]) -> Result<usize, Reason>
+        requires inside { Inside self.old octets.now }
+        ensures strides { IfOk result (λ count. Strides self.old self.new octets.now count) }
+        ensures memory { IfErr result (λ reason. reason ≡ Memory) }
+        ensures same { SameReader self.old self.new }
+    {
+        let Some(rest) = self.scanner.rest() else {
+            return Ok(0);
+        };
+        if octets.len() < 2 {
+            return Ok(0);
+        }
+        let count = blanks(&octets[..octets.len() - 1]);
+        if count > 0 {
+            return Ok(self.take_blank(rest, count, octets));
+        }
+        match (&self.stage, octets[0]) {
+            (Now::Name, b'}') | (Now::After, b']' | b'}') => self.take_close(rest, octets),
+            (Now::Ready, _) => self.take_value(rest, octets),
+            (Now::Name, _) => self.take_name(rest, octets),
+            (Now::After, _) => self.take_comma(rest, octets),
+            _ => Ok(0),
+        }
+    }
+
+    /// Takes up a blank of so many octets.
+    fn take_blank(&mut self, rest: Rest, count: usize, octets: &[u8]) -> usize
+        requires inside { Inside self.old octets.now }
+        requires rests { scanned self.old.scanner ≡ resting rest }
+        requires passed { IsPassed octets.now count }
+        ensures strides { Strides self.old self.new octets.now result }
+    {
+        if count >= octets.len() || !self.is_resting() {
+            return 0;
+        }
+        self.scanner.move_to(rest.past_blank(count));
+        count
+    }
+
+    /// Takes up a value.
+    fn take_value(&mut self, rest: Rest, octets: &[u8]) -> Result<usize, Reason>
+        requires inside { Inside self.old octets.now }
+        requires rests { scanned self.old.scanner ≡ resting rest }
+        requires stage { self.old.stage ≡ nows.Ready }
+        ensures strides { IfOk result (λ count. Strides self.old self.new octets.now count) }
+        ensures memory { IfErr result (λ reason. reason ≡ Memory) }
+        ensures same { SameReader self.old self.new }
+    {
+        let here = self.place();
+        if !may_be_value(here) {
+            return Ok(0);
+        }
+        match octets[0] {
+            b'"' => self.take_string(here, rest, octets),
+            b'-' | b'0'..=b'9' => self.take_number(here, rest, octets),
+            b'[' | b'(' | b'{' => self.take_open(here, rest, octets),
+            b']' | b')' => self.take_close(rest, octets),
+            b'\'' => self.take_quoted(here, rest, octets),
+            _ => self.take_word(here, rest, octets),
+        }
+    }
+
+    /// Takes up a number.
+    #[inline(never)]
+    fn take_number(&mut self, here: Place, rest: Rest, octets: &[u8]) -> Result<usize, Reason>
+        requires inside { Inside self.old octets.now }
+        requires rests { scanned self.old.scanner ≡ resting rest }
+        requires stage { self.old.stage ≡ nows.Ready }
+        requires here { here ≡ place (reading_of self.old) }
+        requires value { is_name here ≡ false }
+        ensures strides { IfOk result (λ count. Strides self.old self.new octets.now count) }
+        ensures memory { IfErr result (λ reason. reason ≡ Memory) }
+        ensures same { SameReader self.old self.new }
+    {
+        let Some(count) = number(octets) else {
+            return self.take_rare(here, rest, octets);
+        };
+        if count >= octets.len() {
+            return Ok(0);
+        }
+        let Ok(read) = number_of(&octets[..count]) else {
+            return Ok(0);
+        };
+        let end = rest.used + count as u64;
+        self.scanner
+            .move_to(rest.past_token(here, TokenKind::Number, count));
+        match self.whole(number_payload(read), end) {
+            Ok(Effect::Goes) => Ok(count),
+            _ => Err(Reason::Memory),
+        }
+    }
+
+    /// Takes up a short string.
+    #[inline(never)]
+    fn take_string(&mut self, here: Place, rest: Rest, octets: &[u8]) -> Result<usize, Reason>
+        requires inside { Inside self.old octets.now }
+        requires rests { scanned self.old.scanner ≡ resting rest }
+        requires stage { self.old.stage ≡ nows.Ready }
+        requires here { here ≡ place (reading_of self.old) }
+        ensures strides { IfOk result (λ count. Strides self.old self.new octets.now count) }
+        ensures memory { IfErr result (λ reason. reason ≡ Memory) }
+        ensures same { SameReader self.old self.new }
+    {
+        let Some(count) = short_string(octets) else {
+            return self.take_rare(here, rest, octets);
+        };
+        if count >= octets.len() || count < 2 {
+            return Ok(0);
+        }
+        let content = &octets[1..][..count - 2];
+        let text = String::from_str(self.alloc, unsafe { str::from_utf8_unchecked(content) })?;
+        let end = rest.used + count as u64;
+        self.scanner
+            .move_to(rest.past_token(here, TokenKind::ShortString, count));
+        match self.whole(Payload::Str(Text::from_string(text)), end) {
+            Ok(Effect::Goes) => Ok(count),
+            _ => Err(Reason::Memory),
+        }
+    }
+
+    /// Takes up a comma.
+    fn take_comma(&mut self, rest: Rest, octets: &[u8]) -> Result<usize, Reason>
+        requires inside { Inside self.old octets.now }
+        requires rests { scanned self.old.scanner ≡ resting rest }
+        requires stage { self.old.stage ≡ nows.After }
+        ensures strides { IfOk result (λ count. Strides self.old self.new octets.now count) }
+        ensures memory { IfErr result (λ reason. reason ≡ Memory) }
+        ensures same { SameReader self.old self.new }
+    {
+        if octets[0] != b',' || octets.len() < 2 || self.has_notes() {
+            return Ok(0);
+        }
+        let here = self.place();
+        self.scanner
+            .move_to(rest.past_token(here, TokenKind::Mark(Mark::Comma), 1));
+        match self.on_comma() {
+            Ok(Effect::Goes) => Ok(1),
+            _ => Err(Reason::Memory),
+        }
+    }
+
+    /// Whether annotations were read.
+    pub(super) fn has_notes(&self) -> bool
+        ensures { result ≡ false → self.now.notes ≡ [] }
+    {
+        match self.notes.as_slice().first() {
+            None => false,
+            Some(_) => true,
+        }
+    }
+
+    /// Takes up the octet of a piece behind those that were taken up at once.
+    pub(super) fn take_behind(
+        &mut self,
+        piece: &[u8],
+        count: usize,
+    ) -> Result<(usize, Taken), Refusal>
+        requires fine { IsFine self.old }
+        requires within { count < length piece.now }
+        requires room { (scanned self.old.scanner).used + 1 < 2 ^ 63 }
+        ensures took { (first : TextReader) → Strides first self.old piece.now count →
+            IsResting first → Took first.catalog.now first.limits (scanned first.scanner).used
+            (state_of first) piece.now result self.new }
+        ensures used { IfOk result (λ took.
+            (scanned self.new.scanner).used + count ≡ (scanned self.old.scanner).used + took.0) }
+        ensures fine { IfOk result (λ _. IsFine self.new) }
+        ensures steady { IfOk result (λ _. StaysSteady self.old self.new) }
+        ensures same { SameReader self.old self.new }
+    {
+        let offset = self.scanner.used() + 1;
+        match self.take_octet(3, piece[count]) {
+            Err(reason) => Err(Refusal { offset, reason }),
+            Ok(Taken::Uses) => Ok((count + 1, Taken::Uses)),
+            Ok(Taken::Tells) => Ok((count + 1, Taken::Tells)),
+            Ok(Taken::Leaves) => Ok((count, Taken::Leaves)),
+        }
+    }
+}
